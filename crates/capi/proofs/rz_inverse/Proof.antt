@@ -1,0 +1,34 @@
+-- `capi::rz_inverse` meets its contract: a list of another length is left as it was. Assumes nothing.
+use mathlib.Core.Path.{ap, _∙_}
+use native.Mathlib.Omega.{arith}
+use borrow.Author.Needs.{needs}
+use Rattle.field.specs.Answers.{invertedOf}
+use Rattle.capi.specs.Answers.{answerOfInverted, numbersOf}
+use Rattle.capi.proofs.Five.{answered-five, answered-other}
+use Rattle.capi.proofs.rz_inverse.Statement.{statement}
+use Rattle.capi.proofs.rz_inverse.Tie as tie
+
+returns : tie.Need-returns
+returns c = answered-other (answerOfInverted (invertedOf (c .before .before .args .a))) (c .before .before .args .answer .now) (c .if1 .taken)
+
+inverse-requires : tie.Need-inverse-requires
+inverse-requires c κs = search needs
+
+of-inverted-requires : tie.Need-of-inverted-requires
+of-inverted-requires c κs = search needs
+
+write-requires : tie.Need-write-requires
+write-requires c κs = search needs
+
+same-length : tie.Need-same-length
+same-length c = search needs
+
+returns-2 : tie.Need-returns-2
+returns-2 c =
+    c .before .before .write .ensures ∙ ap numbersOf (c .before .before .before .before .of-inverted .ensures ∙ ap answerOfInverted (c .before .before .before .before .before .inverse .ensures))
+    ∙ answered-five (answerOfInverted (invertedOf (c .before .before .before .before .before .before .before .before .args .a))) (c .before .before .before .before .before .before .before .before .args .answer .now) (omega arith)
+
+pub rz-inverse-spec : {M : Type 1} → statement M
+rz-inverse-spec =
+    tie.close
+    (tie.spec returns inverse-requires of-inverted-requires write-requires same-length returns-2)

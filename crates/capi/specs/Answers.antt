@@ -1,0 +1,52 @@
+-- The convention of the C interface: an answer is five numbers, in a lent list of length 5.
+use mathlib.Core.Bool.{Bool, true, false}
+use mathlib.Core.List.{List, [], _∷_}
+use Prim.Native.Nat.{ℕ, _-_, _^_}
+use lib.Dec.{eqb}
+use lib.ListN.{length}
+use Rattle.refusal.specs.declared.Cause.{Cause}
+use Rattle.refusal.specs.declared.Position.{Position}
+use Rattle.refusal.specs.declared.Position.the-variants.{At, Nowhere}
+use Rattle.refusal.specs.Numbers.{numberOf, placeOf, roundOf}
+use Rattle.field.specs.declared.Inverted.{Inverted}
+use Rattle.field.specs.declared.Inverted.the-variants.{Value, Refused}
+use Rattle.capi.specs.declared.Answer.{Answer}
+
+-- stands for a place, a round or a value that there is none of
+abbrev pub none : ℕ
+none = 2 ^ 64 - 1
+
+abbrev pub orNone : Position → ℕ
+orNone (At n) = n
+orNone Nowhere = none
+
+-- it went well
+abbrev pub answerOfValue : ℕ → ℕ → Answer
+answerOfValue reads value = record { number = 0; place = none; round = none; reads = reads; value = value }
+
+-- it was refused
+abbrev pub answerOfCause : Cause → ℕ → Answer
+answerOfCause cause reads =
+    record {
+      number = numberOf cause;
+      place = orNone (placeOf cause);
+      round = orNone (roundOf cause);
+      reads = reads;
+      value = none;
+    }
+
+abbrev pub answerOfInverted : Inverted → Answer
+answerOfInverted (Value x) = answerOfValue 0 (x .0)
+answerOfInverted (Refused cause) = answerOfCause cause 0
+
+-- number, place, round, reads, value
+abbrev pub numbersOf : Answer → List ℕ
+numbersOf a = a .number ∷ a .place ∷ a .round ∷ a .reads ∷ a .value ∷ []
+
+abbrev pub pickList : Bool → List ℕ → List ℕ → List ℕ
+pickList true a b = a
+pickList false a b = b
+
+-- what the lent list holds afterwards: the five numbers, or what it held where its length is not 5
+abbrev pub answered : Answer → List ℕ → List ℕ
+answered a lent = pickList (eqb (length lent) 5) (numbersOf a) lent

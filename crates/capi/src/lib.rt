@@ -1,0 +1,101 @@
+// The C interface. include/razgwilh.h says the same to C.
+use field::Element;
+use field::Inverted;
+use refusal::Cause;
+use refusal::Position;
+ghost use mathlib.Core.Path.{_≡_};
+ghost use lib.ListN.{length};
+ghost use Rattle.gf64.specs.Field.{sum, product};
+ghost use Rattle.field.specs.Answers.{invertedOf};
+ghost use Rattle.capi.specs.Answers.{orNone, answerOfValue, answerOfCause, answerOfInverted, numbersOf, answered};
+
+// The five numbers of an answer.
+pub struct Answer {
+    pub number: u64,
+    pub place: u64,
+    pub round: u64,
+    pub reads: u64,
+    pub value: u64,
+}
+
+// Stands for a place, a round or a value that there is none of.
+const NONE: u64 = 18446744073709551615;
+
+fn or_none(p: Position) -> u64
+    ensures { λ r. ⌜ r ≡ orNone p ⌝ }
+{
+    match p {
+        Position::At(n) => n as u64,
+        Position::Nowhere => NONE,
+    }
+}
+
+impl Answer {
+    fn of_value(reads: u64, value: u64) -> Answer
+        ensures { λ r. ⌜ r ≡ answerOfValue reads value ⌝ }
+    {
+        Answer {
+            number: 0,
+            place: NONE,
+            round: NONE,
+            reads,
+            value,
+        }
+    }
+
+    fn of_cause(cause: Cause, reads: u64) -> Answer
+        ensures { λ r. ⌜ r ≡ answerOfCause cause reads ⌝ }
+    {
+        Answer {
+            number: cause.number(),
+            place: or_none(cause.place()),
+            round: or_none(cause.round()),
+            reads,
+            value: NONE,
+        }
+    }
+
+    fn of_inverted(inverted: Inverted) -> Answer
+        ensures { λ r. ⌜ r ≡ answerOfInverted inverted ⌝ }
+    {
+        match inverted {
+            Inverted::Value(x) => Answer::of_value(0, x.0),
+            Inverted::Refused(cause) => Answer::of_cause(cause, 0),
+        }
+    }
+
+    fn write(self, lent: &mut [u64])
+        requires { ⌜ length (now lent) ≡ 5 ⌝ }
+        ensures { λ _. ⌜ now (lent .exit) ≡ numbersOf self ⌝ }
+    {
+        lent[0] = self.number;
+        lent[1] = self.place;
+        lent[2] = self.round;
+        lent[3] = self.reads;
+        lent[4] = self.value;
+    }
+}
+
+#[no_mangle]
+pub extern "C" fn rz_sum(a: u64, b: u64) -> u64
+    ensures { λ r. ⌜ r ≡ sum a b ⌝ }
+{
+    Element(a).sum(Element(b)).0
+}
+
+#[no_mangle]
+pub extern "C" fn rz_product(a: u64, b: u64) -> u64
+    ensures { λ r. ⌜ r ≡ product a b ⌝ }
+{
+    Element(a).product(Element(b)).0
+}
+
+#[no_mangle]
+pub extern "C" fn rz_inverse(a: u64, answer: &mut [u64])
+    ensures { λ _. ⌜ now (answer .exit) ≡ answered (answerOfInverted (invertedOf a)) (now (answer .entry)) ⌝ }
+{
+    if answer.len() != 5 {
+        return;
+    }
+    Answer::of_inverted(Element(a).inverse()).write(answer);
+}

@@ -1,0 +1,61 @@
+-- `field::Element::reciprocal` meets its contract: each line joins two exponents that are all ones. Assumes nothing.
+use native.Mathlib.Omega.{arith}
+use borrow.Author.Needs.{needs}
+use Rattle.field.proofs.Ones.{ones-first, ones-join, ones-last}
+use Rattle.field.proofs.Element.reciprocal.Statement.{statement}
+use Rattle.field.proofs.Element.reciprocal.Tie as tie
+
+raised-requires : tie.Need-raised-requires
+raised-requires c κs = search needs
+
+raised-requires-2 : tie.Need-raised-requires-2
+raised-requires-2 c κs = search needs
+
+raised-requires-3 : tie.Need-raised-requires-3
+raised-requires-3 c κs = search needs
+
+raised-requires-4 : tie.Need-raised-requires-4
+raised-requires-4 c κs = search needs
+
+raised-requires-5 : tie.Need-raised-requires-5
+raised-requires-5 c κs = search needs
+
+raised-requires-6 : tie.Need-raised-requires-6
+raised-requires-6 c κs = search needs
+
+raised-requires-7 : tie.Need-raised-requires-7
+raised-requires-7 c κs = search needs
+
+raised-requires-8 : tie.Need-raised-requires-8
+raised-requires-8 c κs = search needs
+
+squared-requires : tie.Need-squared-requires
+squared-requires c κs = search needs
+
+returns : tie.Need-returns
+returns c =
+    let a = c .before .before .before .before .before .before .before .before .before .args .self .0 in
+    let one = ones-first a (omega (arith, c .before .before .before .before .before .before .before .before .before .good)) in
+    let two = ones-join a 1 1 _ _ _ one one (c .before .before .before .before .before .before .before .before .raised .ensures) in
+    let three = ones-join a 2 1 _ _ _ two one (c .before .before .before .before .before .before .before .raised2 .ensures) in
+    let six = ones-join a 3 3 _ _ _ three three (c .before .before .before .before .before .before .raised3 .ensures) in
+    let twelve = ones-join a 6 6 _ _ _ six six (c .before .before .before .before .before .raised4 .ensures) in
+    let fifteen = ones-join a 12 3 _ _ _ twelve three (c .before .before .before .before .raised5 .ensures) in
+    let thirty = ones-join a 15 15 _ _ _ fifteen fifteen (c .before .before .before .raised6 .ensures) in
+    let sixty = ones-join a 30 30 _ _ _ thirty thirty (c .before .before .raised7 .ensures) in
+    ones-last a _ _ (ones-join a 60 3 _ _ _ sixty three (c .before .raised8 .ensures)) (c .squared .ensures)
+
+pub reciprocal-spec : {M : Type 1} → statement M
+reciprocal-spec =
+    tie.close
+    (tie.spec
+    raised-requires
+    raised-requires-2
+    raised-requires-3
+    raised-requires-4
+    raised-requires-5
+    raised-requires-6
+    raised-requires-7
+    raised-requires-8
+    squared-requires
+    returns)

@@ -1,0 +1,3 @@
+mod Halves
+mod Multiples
+mod Ones

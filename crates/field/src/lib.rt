@@ -1,0 +1,82 @@
+// The field of 2^64 elements: a polynomial over GF(2) of degree below 64, bit i the coefficient of t^i,
+// modulo t^64 + t^4 + t^3 + t + 1.
+mod carryless;
+
+use refusal::Cause;
+ghost use mathlib.Core.Path.{_≡_};
+ghost use Prim.Native.Nat.{_^_};
+ghost use Rattle.gf64.specs.Field.{sum, product, power, inverse};
+ghost use Rattle.field.specs.Answers.{invertedOf};
+
+pub struct Element(pub u64);
+
+// What `inverse` answers.
+pub enum Inverted {
+    Value(Element),
+    Refused(Cause),
+}
+
+impl Element {
+    pub const ZERO: Element = Element(0);
+
+    pub const ONE: Element = Element(1);
+    // t^64, reduced: R_64 of NIST SP 800-38B
+    pub const REDUCTION: Element = Element(0x1b);
+
+    pub fn sum(self, other: Element) -> Element
+        ensures { λ r. ⌜ r .0 ≡ sum (self .0) (other .0) ⌝ }
+    {
+        Element(self.0 ^ other.0)
+    }
+
+    pub fn product(self, other: Element) -> Element
+        ensures { λ r. ⌜ r .0 ≡ product (self .0) (other .0) ⌝ }
+    {
+        Element(carryless::product(self.0, other.0))
+    }
+
+    // Number 15 where self is zero.
+    pub fn inverse(self) -> Inverted
+        ensures { λ r. ⌜ r ≡ invertedOf (self .0) ⌝ }
+    {
+        if self.0 == 0 {
+            return Inverted::Refused(Cause::InverseOfZero);
+        }
+        Inverted::Value(self.reciprocal())
+    }
+
+    // self^(2^64 - 2): the inverse, or zero where self is zero. Here ones_n is self^(2^n - 1), whose exponent has n bits, all set.
+    pub fn reciprocal(self) -> Element
+        ensures { λ r. ⌜ r .0 ≡ inverse (self .0) ⌝ }
+    {
+        let ones_2 = self.raised(1, self);
+        let ones_3 = ones_2.raised(1, self);
+        let ones_6 = ones_3.raised(3, ones_3);
+        let ones_12 = ones_6.raised(6, ones_6);
+        let ones_15 = ones_12.raised(3, ones_3);
+        let ones_30 = ones_15.raised(15, ones_15);
+        let ones_60 = ones_30.raised(30, ones_30);
+        let ones_63 = ones_60.raised(3, ones_3);
+        ones_63.squared(1)
+    }
+
+    // self^(2^n) · other.
+    fn raised(self, n: usize, other: Element) -> Element
+        ensures { λ r. ⌜ r .0 ≡ product (power (self .0) (2 ^ n)) (other .0) ⌝ }
+    {
+        self.squared(n).product(other)
+    }
+
+    // self^(2^n).
+    fn squared(self, n: usize) -> Element
+        ensures { λ r. ⌜ r .0 ≡ power (self .0) (2 ^ n) ⌝ }
+    {
+        let mut x = self.0;
+        let mut i: usize = 0;
+        while i < n {
+            x = carryless::product(x, x);
+            i += 1;
+        }
+        Element(x)
+    }
+}

@@ -1,0 +1,11 @@
+pub mod Xor
+pub mod Carryless
+pub mod Coefficients
+pub mod Remainder
+pub mod Ring
+pub mod Additive
+pub mod Power
+pub mod Certificate
+pub mod Inverse
+pub mod Theorems
+pub mod Cases

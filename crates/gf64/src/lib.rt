@@ -1,0 +1,1 @@
+// The field of 2^64 elements as definitions (specs/) and theorems about them (proofs/). No code.

@@ -1,0 +1,116 @@
+// The causes of a refusal, each with its number and its place. A number, once given, keeps its cause for good.
+ghost use mathlib.Core.Path.{_≡_};
+ghost use Rattle.refusal.specs.Numbers.{numberOf, placeOf, roundOf};
+
+// Why something was refused: one case for each number, in the order of the numbers.
+pub enum Cause {
+    // 1: the bytes end in a count or its entries
+    BytesEnd { section: usize },
+    // 2: a count differs from the one due
+    CountDiffers { section: usize },
+    // 3: bytes after the last section
+    BytesLeft,
+    // 4: k out of range
+    DimensionOutOfRange,
+    // 5: R out of range
+    RateOutOfRange,
+    // 6: η out of range
+    StepOutOfRange,
+    // 7: k < R + η, or k < η in a lone fold
+    DimensionTooSmall,
+    // 8: a basis element lies in the span of earlier ones; the first such place, from 0
+    BasisDependent { place: usize },
+    // 9: no query, or over 256
+    QueryCount,
+    // 10: a query index is 2^k or more; the first such query
+    QueryOutOfRange { query: usize },
+    // 11: a round check fails
+    CheckFails { query: usize, round: usize },
+    // 12: layer r has degree d or more; that degree
+    DegreeTooLarge { degree: usize },
+    // 13: a lent list has the wrong length
+    WrongLength { list: usize },
+    // 14: the program's input has over 65,536 bytes
+    InputTooLong,
+    // 15: the inverse of zero
+    InverseOfZero,
+    // 16: a later layer's basis is dependent
+    LaterBasisDependent { round: usize },
+}
+
+// A place or a round, where there is one.
+pub enum Position {
+    At(usize),
+    Nowhere,
+}
+
+impl Cause {
+    pub fn number(self) -> u64
+        ensures { λ r. ⌜ r ≡ numberOf self ⌝ }
+    {
+        match self {
+            Cause::BytesEnd { section: _ } => 1,
+            Cause::CountDiffers { section: _ } => 2,
+            Cause::BytesLeft => 3,
+            Cause::DimensionOutOfRange => 4,
+            Cause::RateOutOfRange => 5,
+            Cause::StepOutOfRange => 6,
+            Cause::DimensionTooSmall => 7,
+            Cause::BasisDependent { place: _ } => 8,
+            Cause::QueryCount => 9,
+            Cause::QueryOutOfRange { query: _ } => 10,
+            Cause::CheckFails { query: _, round: _ } => 11,
+            Cause::DegreeTooLarge { degree: _ } => 12,
+            Cause::WrongLength { list: _ } => 13,
+            Cause::InputTooLong => 14,
+            Cause::InverseOfZero => 15,
+            Cause::LaterBasisDependent { round: _ } => 16,
+        }
+    }
+
+    pub fn place(self) -> Position
+        ensures { λ r. ⌜ r ≡ placeOf self ⌝ }
+    {
+        match self {
+            Cause::BytesEnd { section } => Position::At(section),
+            Cause::CountDiffers { section } => Position::At(section),
+            Cause::BytesLeft => Position::Nowhere,
+            Cause::DimensionOutOfRange => Position::Nowhere,
+            Cause::RateOutOfRange => Position::Nowhere,
+            Cause::StepOutOfRange => Position::Nowhere,
+            Cause::DimensionTooSmall => Position::Nowhere,
+            Cause::BasisDependent { place } => Position::At(place),
+            Cause::QueryCount => Position::Nowhere,
+            Cause::QueryOutOfRange { query } => Position::At(query),
+            Cause::CheckFails { query, round: _ } => Position::At(query),
+            Cause::DegreeTooLarge { degree } => Position::At(degree),
+            Cause::WrongLength { list } => Position::At(list),
+            Cause::InputTooLong => Position::Nowhere,
+            Cause::InverseOfZero => Position::Nowhere,
+            Cause::LaterBasisDependent { round: _ } => Position::Nowhere,
+        }
+    }
+
+    pub fn round(self) -> Position
+        ensures { λ r. ⌜ r ≡ roundOf self ⌝ }
+    {
+        match self {
+            Cause::BytesEnd { section: _ } => Position::Nowhere,
+            Cause::CountDiffers { section: _ } => Position::Nowhere,
+            Cause::BytesLeft => Position::Nowhere,
+            Cause::DimensionOutOfRange => Position::Nowhere,
+            Cause::RateOutOfRange => Position::Nowhere,
+            Cause::StepOutOfRange => Position::Nowhere,
+            Cause::DimensionTooSmall => Position::Nowhere,
+            Cause::BasisDependent { place: _ } => Position::Nowhere,
+            Cause::QueryCount => Position::Nowhere,
+            Cause::QueryOutOfRange { query: _ } => Position::Nowhere,
+            Cause::CheckFails { query: _, round } => Position::At(round),
+            Cause::DegreeTooLarge { degree: _ } => Position::Nowhere,
+            Cause::WrongLength { list: _ } => Position::Nowhere,
+            Cause::InputTooLong => Position::Nowhere,
+            Cause::InverseOfZero => Position::Nowhere,
+            Cause::LaterBasisDependent { round } => Position::At(round),
+        }
+    }
+}

@@ -1,0 +1,66 @@
+//! Safe calls of the proved library. The declarations below are the only ones: nothing checks them
+//! against the library, so they stand in one place, beside `include/razgwilh.h`.
+
+extern "C" {
+    fn rz_sum(a: u64, b: u64) -> u64;
+    fn rz_product(a: u64, b: u64) -> u64;
+    fn rz_inverse(a: u64, answer: *mut u64, length: usize);
+}
+
+/// How many numbers an answer has.
+pub const ANSWER_LENGTH: usize = 5;
+
+/// Stands for a place, a round or a value that there is none of.
+pub const NONE: u64 = u64::MAX;
+
+/// What an operation answers: `number` is 0 when it went well, else that of the cause.
+#[derive(Clone, Copy, Debug, PartialEq, Eq)]
+pub struct Answer {
+    pub number: u64,
+    pub place: Option<u64>,
+    pub round: Option<u64>,
+    pub reads: u64,
+    pub value: Option<u64>,
+}
+
+impl Answer {
+    /// Reads the five numbers of an operation that gives a value whenever it goes well. Such a value
+    /// may be any element, 2^64 - 1 among them, so that `number` decides and not the value itself.
+    fn with_value(numbers: [u64; ANSWER_LENGTH]) -> Answer {
+        let [number, place, round, reads, value] = numbers;
+        Answer {
+            number,
+            place: given(place),
+            round: given(round),
+            reads,
+            value: (number == 0).then_some(value),
+        }
+    }
+}
+
+fn given(n: u64) -> Option<u64> {
+    (n != NONE).then_some(n)
+}
+
+pub fn sum(a: u64, b: u64) -> u64 {
+    // SAFETY: numbers in, a number out.
+    unsafe { rz_sum(a, b) }
+}
+
+pub fn product(a: u64, b: u64) -> u64 {
+    // SAFETY: numbers in, a number out.
+    unsafe { rz_product(a, b) }
+}
+
+/// The inverse of `a`, or number 15 where `a` is zero.
+pub fn inverse(a: u64) -> Answer {
+    let mut numbers = [0; ANSWER_LENGTH];
+    inverse_into(a, &mut numbers);
+    Answer::with_value(numbers)
+}
+
+/// The same by the C convention: five numbers where `answer` has length 5, and otherwise nothing.
+pub fn inverse_into(a: u64, answer: &mut [u64]) {
+    // SAFETY: the pointer and the length are those of one exclusive slice.
+    unsafe { rz_inverse(a, answer.as_mut_ptr(), answer.len()) }
+}

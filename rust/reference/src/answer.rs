@@ -1,0 +1,61 @@
+//! What an operation answers, as the reference expects it.
+
+use razgwilh::Answer;
+
+/// What the C interface writes for a place, round or value there is none of.
+pub const NONE: u64 = u64::MAX;
+
+/// The number for the inverse of zero.
+pub const INVERSE_OF_ZERO: u64 = 15;
+
+/// The answer of an operation that went well and gives one value.
+pub fn went_well(value: u64) -> Answer {
+    Answer {
+        number: 0,
+        place: None,
+        round: None,
+        reads: 0,
+        value: Some(value),
+    }
+}
+
+/// The answer that carries nothing but the number of its cause.
+pub fn refused(number: u64) -> Answer {
+    Answer {
+        number,
+        place: None,
+        round: None,
+        reads: 0,
+        value: None,
+    }
+}
+
+/// The five numbers that the C interface writes for an answer.
+pub fn raw(answer: &Answer) -> [u64; 5] {
+    [
+        answer.number,
+        answer.place.unwrap_or(NONE),
+        answer.round.unwrap_or(NONE),
+        answer.reads,
+        answer.value.unwrap_or(NONE),
+    ]
+}
+
+#[cfg(test)]
+mod tests {
+    use super::*;
+
+    #[test]
+    fn the_raw_numbers_are_in_order() {
+        let answer = Answer {
+            number: 11,
+            place: Some(1),
+            round: Some(0),
+            reads: 4,
+            value: None,
+        };
+        assert_eq!(raw(&answer), [11, 1, 0, 4, NONE]);
+        assert_eq!(raw(&went_well(7)), [0, NONE, NONE, 0, 7]);
+        assert_eq!(raw(&refused(15)), [15, NONE, NONE, 0, NONE]);
+    }
+}

@@ -1,0 +1,330 @@
+//! What all comparisons share: running one, making the input of a difference
+//! smaller, and the report.
+//!
+//! A part of the library adds a file here with its own inputs and comparisons.
+
+pub mod field;
+
+use razgwilh::Answer;
+
+/// Something that a report can show; numbers are shown in hexadecimal.
+pub trait Show {
+    fn show(&self) -> String;
+}
+
+/// An input of a comparison. The smaller it is the easier a difference is to
+/// understand.
+pub trait Input: Clone + Show {
+    type Size: Ord;
+
+    fn size(&self) -> Self::Size;
+
+    /// Inputs to try in place of this one. Those that are not of a smaller size
+    /// are passed over.
+    fn simpler(&self) -> Vec<Self>;
+}
+
+/// What the two sides of a comparison are called in the report.
+pub type Sides = [&'static str; 2];
+
+pub const REFERENCE_AND_LIBRARY: Sides = ["reference", "library"];
+pub const PAPER_AND_LIBRARY: Sides = ["paper", "library"];
+pub const LEFT_AND_RIGHT: Sides = ["left side", "right side"];
+
+/// A comparison that was run.
+#[derive(Clone, Debug)]
+pub struct Comparison {
+    pub name: &'static str,
+    /// How many inputs were compared.
+    pub inputs: usize,
+    pub difference: Option<Difference>,
+}
+
+/// The smallest input found on which the two sides differ, as it is shown.
+#[derive(Clone, Debug)]
+pub struct Difference {
+    /// How many of the inputs differ.
+    pub inputs: usize,
+    pub smallest: String,
+    pub sides: Sides,
+    pub answers: [String; 2],
+}
+
+impl Comparison {
+    /// A comparison without inputs says nothing, so it does not agree.
+    pub fn agrees(&self) -> bool {
+        self.inputs > 0 && self.difference.is_none()
+    }
+}
+
+/// Compares the two sides on all inputs. Both sides must be right for every
+/// input that `simpler` can reach, since a difference is made smaller.
+pub fn compare<I: Input, A: PartialEq + Show>(
+    name: &'static str,
+    inputs: impl IntoIterator<Item = I>,
+    sides: Sides,
+    first: impl Fn(&I) -> A,
+    second: impl Fn(&I) -> A,
+) -> Comparison {
+    let differs = |input: &I| first(input) != second(input);
+    let mut compared = 0;
+    let mut differing = 0;
+    let mut smallest: Option<I> = None;
+    for input in inputs {
+        compared += 1;
+        if differs(&input) {
+            differing += 1;
+            smallest = Some(match smallest {
+                Some(other) if other.size() <= input.size() => other,
+                _ => input,
+            });
+        }
+    }
+    let difference = smallest.map(|input| {
+        let input = shrink(input, differs);
+        Difference {
+            inputs: differing,
+            smallest: input.show(),
+            sides,
+            answers: [first(&input).show(), second(&input).show()],
+        }
+    });
+    Comparison {
+        name,
+        inputs: compared,
+        difference,
+    }
+}
+
+/// Goes to a simpler input for as long as one differs as well. It ends because
+/// the size falls in each step.
+fn shrink<I: Input>(input: I, differs: impl Fn(&I) -> bool) -> I {
+    let mut smallest = input;
+    loop {
+        let next = smallest
+            .simpler()
+            .into_iter()
+            .filter(|simpler| simpler.size() < smallest.size() && differs(simpler))
+            .min_by_key(I::size);
+        match next {
+            Some(input) => smallest = input,
+            None => return smallest,
+        }
+    }
+}
+
+/// The text to print, and whether all comparisons agree.
+pub struct Report {
+    pub text: String,
+    pub agrees: bool,
+}
+
+pub fn report(comparisons: &[Comparison]) -> Report {
+    let mut text: String = comparisons.iter().map(lines).collect();
+    let all = comparisons.len();
+    let agreeing = comparisons.iter().filter(|one| one.agrees()).count();
+    let agrees = all > 0 && agreeing == all;
+    if agrees {
+        text += &format!("reference: {all} comparisons agree\n");
+    } else {
+        text += &format!(
+            "reference: {} of {all} comparisons do not agree\n",
+            all - agreeing
+        );
+    }
+    Report { text, agrees }
+}
+
+/// The line of a comparison, and below it what a difference looks like.
+fn lines(comparison: &Comparison) -> String {
+    let Comparison { name, inputs, .. } = comparison;
+    let Some(difference) = &comparison.difference else {
+        return format!("{name}: {inputs} inputs\n");
+    };
+    let Difference {
+        inputs: differing,
+        smallest,
+        sides: [first, second],
+        answers: [one, other],
+    } = difference;
+    format!(
+        "{name}: {inputs} inputs, {differing} of them DIFFER\n  \
+         smallest input: {smallest}\n  {first}: {one}\n  {second}: {other}\n"
+    )
+}
+
+/// An input that the paper fixes; nothing else stands for it.
+#[derive(Clone)]
+pub struct Fixed<I>(pub I);
+
+impl<I: Show> Show for Fixed<I> {
+    fn show(&self) -> String {
+        self.0.show()
+    }
+}
+
+impl<I: Input> Input for Fixed<I> {
+    type Size = I::Size;
+
+    fn size(&self) -> I::Size {
+        self.0.size()
+    }
+
+    fn simpler(&self) -> Vec<Self> {
+        Vec::new()
+    }
+}
+
+impl Show for u64 {
+    fn show(&self) -> String {
+        format!("{self:x}")
+    }
+}
+
+/// Numbers with few bits are small, and among them the lesser ones.
+impl Input for u64 {
+    type Size = (u32, u64);
+
+    fn size(&self) -> (u32, u64) {
+        (self.count_ones(), *self)
+    }
+
+    fn simpler(&self) -> Vec<u64> {
+        let cleared = (0..64).map(|place| self & !(1 << place));
+        let shifted = (1..64).map(|places| self >> places);
+        cleared.chain(shifted).collect()
+    }
+}
+
+impl<const N: usize> Show for [u64; N] {
+    fn show(&self) -> String {
+        show_numbers(self)
+    }
+}
+
+impl<const N: usize> Input for [u64; N] {
+    type Size = (u32, [u64; N]);
+
+    fn size(&self) -> (u32, [u64; N]) {
+        (self.iter().map(|number| number.count_ones()).sum(), *self)
+    }
+
+    fn simpler(&self) -> Vec<[u64; N]> {
+        let mut all = Vec::new();
+        for place in 0..N {
+            for number in self[place].simpler() {
+                let mut simpler = *self;
+                simpler[place] = number;
+                all.push(simpler);
+            }
+        }
+        all
+    }
+}
+
+impl Show for Vec<u64> {
+    fn show(&self) -> String {
+        show_numbers(self)
+    }
+}
+
+fn show_numbers(numbers: &[u64]) -> String {
+    let shown: Vec<String> = numbers.iter().map(Show::show).collect();
+    shown.join(", ")
+}
+
+impl Show for Option<u64> {
+    fn show(&self) -> String {
+        self.map_or_else(|| "none".to_string(), |number| number.show())
+    }
+}
+
+impl Show for Answer {
+    fn show(&self) -> String {
+        format!(
+            "number {:x}, place {}, round {}, reads {:x}, value {}",
+            self.number,
+            self.place.show(),
+            self.round.show(),
+            self.reads,
+            self.value.show()
+        )
+    }
+}
+
+#[cfg(test)]
+mod tests {
+    use super::*;
+
+    fn compare_numbers(inputs: Vec<u64>, second: fn(&u64) -> u64) -> Comparison {
+        compare("test", inputs, REFERENCE_AND_LIBRARY, |a| *a, second)
+    }
+
+    #[test]
+    fn equal_sides_agree() {
+        let comparison = compare_numbers(vec![1, 2, 3], |a| *a);
+        assert!(comparison.agrees());
+        let report = report(&[comparison]);
+        assert!(report.agrees);
+        assert_eq!(
+            report.text,
+            "test: 3 inputs\nreference: 1 comparisons agree\n"
+        );
+    }
+
+    #[test]
+    fn a_difference_is_reported_in_hexadecimal() {
+        let comparison = compare_numbers(vec![0, 0xf7, 0x1f], |a| a & !0x10);
+        assert!(!comparison.agrees());
+        let report = report(&[comparison]);
+        assert!(!report.agrees);
+        assert_eq!(
+            report.text,
+            "test: 3 inputs, 2 of them DIFFER\n  smallest input: 10\n  \
+             reference: 10\n  library: 0\n\
+             reference: 1 of 1 comparisons do not agree\n"
+        );
+    }
+
+    #[test]
+    fn one_difference_among_many_is_enough() {
+        let right = compare_numbers(vec![1], |a| *a);
+        let wrong = compare_numbers(vec![1], |_| 0);
+        let report = report(&[right.clone(), wrong, right]);
+        assert!(!report.agrees);
+    }
+
+    #[test]
+    fn the_smallest_of_the_inputs_is_taken() {
+        // Without anything simpler the inputs themselves are all there is.
+        let inputs = [0xff, 0x300, 0x60, 0x7].map(Fixed);
+        let comparison = compare(
+            "test",
+            inputs,
+            REFERENCE_AND_LIBRARY,
+            |Fixed(a)| *a,
+            |_| 1u64,
+        );
+        assert_eq!(comparison.difference.unwrap().smallest, "60");
+    }
+
+    #[test]
+    fn a_pair_is_made_smaller_in_both_places() {
+        let comparison = compare(
+            "test",
+            [[u64::MAX, u64::MAX]],
+            REFERENCE_AND_LIBRARY,
+            |_| 0u64,
+            |&[a, b]| a & 6 & (b >> 3),
+        );
+        assert_eq!(comparison.difference.unwrap().smallest, "2, 10");
+    }
+
+    #[test]
+    fn a_comparison_of_nothing_does_not_agree() {
+        let comparison = compare_numbers(Vec::new(), |a| *a);
+        assert!(!comparison.agrees());
+        assert!(!report(&[comparison]).agrees);
+        assert!(!report(&[]).agrees);
+    }
+}

@@ -1,0 +1,26 @@
+//! Compares the library with an implementation written from the paper alone.
+//!
+//! It prints a line for each comparison. It ends with 0 if all agree, and with
+//! 1 if one differs, having shown the smallest input that it found.
+
+mod answer;
+mod compare;
+mod field;
+mod random;
+
+use std::process::ExitCode;
+
+fn main() -> ExitCode {
+    // Each part of the library has a file of its own under `compare`.
+    let parts = [compare::field::comparisons(
+        &compare::field::RAZGWILH,
+        &compare::field::FULL,
+    )];
+    let report = compare::report(&parts.concat());
+    print!("{}", report.text);
+    if report.agrees {
+        ExitCode::SUCCESS
+    } else {
+        ExitCode::FAILURE
+    }
+}
