@@ -20,7 +20,8 @@ impl Element {
     pub const ZERO: Element = Element(0);
 
     pub const ONE: Element = Element(1);
-    // t^64, reduced: R_64 of NIST SP 800-38B
+
+    // t^64, reduced: R_64 of NIST SP 800-38B.
     pub const REDUCTION: Element = Element(0x1b);
 
     pub fn sum(self, other: Element) -> Element
@@ -37,9 +38,12 @@ impl Element {
 
     // Number 15 where self is zero.
     pub fn inverse(self) -> Inverted
-        ensures { λ r. ⌜ r ≡ invertedOf (self .0) ⌝ }
+        ensures answer { λ r. ⌜ r ≡ invertedOf (self .0) ⌝ }
+        ensures inverts { λ r. do
+          one ← ⟦Element::ONE.0⟧ .entry
+          ⌜ ((x : Element) → r ≡ Inverted.Value x → product (self .0) (x .0) ≡ one) ⌝ }
     {
-        if self.0 == 0 {
+        if self.0 == Element::ZERO.0 {
             return Inverted::Refused(Cause::InverseOfZero);
         }
         Inverted::Value(self.reciprocal())

@@ -25,7 +25,7 @@ same-length c = search needs
 
 returns-2 : tie.Need-returns-2
 returns-2 c =
-    c .before .before .write .ensures ∙ ap numbersOf (c .before .before .before .before .of-inverted .ensures ∙ ap answerOfInverted (c .before .before .before .before .before .inverse .ensures))
+    c .before .before .write .ensures ∙ ap numbersOf (c .before .before .before .before .of-inverted .ensures ∙ ap answerOfInverted (c .before .before .before .before .before .inverse .ensures .0))
     ∙ answered-five (answerOfInverted (invertedOf (c .before .before .before .before .before .before .before .before .args .a))) (c .before .before .before .before .before .before .before .before .args .answer .now) (omega arith)
 
 pub rz-inverse-spec : {M : Type 1} → statement M

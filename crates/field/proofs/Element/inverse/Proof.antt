@@ -1,11 +1,13 @@
--- `field::Element::inverse` meets its contract. Assumes nothing.
-use mathlib.Core.Path.{sym, ap, _∙_}
+-- `field::Element::inverse` meets its contract: what is not zero has `inverse` for its inverse. Assumes nothing.
+use mathlib.Core.Path.{_≡_, sym, ap, _∙_}
 use mathlib.Core.Bool.{Bool}
 use Prim.Native.Nat.{ℕ}
 use borrow.Author.Needs.{needs}
 use borrow.Author.Tests.{ne-eqb}
-use Rattle.gf64.specs.Field.{inverse}
+use Rattle.gf64.specs.Field.{product, inverse}
+use Rattle.gf64.proofs.Inverse.{inverse-right}
 use Rattle.refusal.specs.declared.Cause.the-variants.{InverseOfZero}
+use Rattle.field.specs.declared.Element.{Element}
 use Rattle.field.specs.declared.Inverted.{Inverted}
 use Rattle.field.specs.declared.Inverted.the-variants.{Value, Refused}
 use Rattle.field.specs.Answers.{invertedOf, pickInverted}
@@ -13,18 +15,25 @@ use Rattle.field.proofs.Element.inverse.Statement.{statement}
 use Rattle.field.proofs.Element.inverse.Tie as tie
 
 returns : tie.Need-returns
-returns c = ap invertedOf (sym (c .if1 .taken))
+returns c = (ap invertedOf (sym (c .if1 .taken)), λ x e. cc)
 
 reciprocal-requires : tie.Need-reciprocal-requires
 reciprocal-requires c κs = search needs
 
 returns-2 : tie.Need-returns-2
-returns-2 c =
-    ap {B = Inverted} (λ (x : ℕ). Value (record { 0 = x })) (c .reciprocal .ensures)
-    ∙ sym (ap (λ (b : Bool). pickInverted b (Refused InverseOfZero) (Value (record { 0 = inverse a }))) (ne-eqb a 0 (c .before .if1 .left)))
+returns-2 c = (
+  ap {B = Inverted} (λ (x : ℕ). Value (record { 0 = x })) (c .reciprocal .ensures)
+      ∙ sym (ap (λ (b : Bool). pickInverted b (Refused InverseOfZero) (Value (record { 0 = inverse a }))) (ne-eqb a 0 nonzero)),
+  λ x e.
+      let same : c .reciprocal .result ≡ x = cc in
+      ap (product a) (sym (ap (λ (y : Element). y .0) same) ∙ c .reciprocal .ensures) ∙ inverse-right a (search needs) nonzero,
+)
   where
     a : ℕ
-    a = c .before .before .before .args .self .0
+    a = c .before .before .before .before .args .self .0
+
+    nonzero : a ≡ 0 → ⊥
+    nonzero = c .before .if1 .left
 
 pub inverse-spec : {M : Type 1} → statement M
 inverse-spec = tie.close (tie.spec returns reciprocal-requires returns-2)
