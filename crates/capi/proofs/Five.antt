@@ -1,13 +1,13 @@
 -- Five stores into a list of length 5 leave the five numbers; the lent list by its length. Assumes nothing.
 use mathlib.Core.Path.{_≡_, refl, sym, ap}
-use mathlib.Core.Bool.{Bool}
+use mathlib.Core.Bool.{Bool, cond}
 use mathlib.Core.List.{List, [], _∷_}
 use Prim.Native.Nat.{ℕ}
 use native.Mathlib.Omega.{arith}
 use lib.ListN.{length, set}
 use borrow.Author.Tests.{eq-eqb, ne-eqb}
 use Rattle.capi.specs.declared.Answer.{Answer}
-use Rattle.capi.specs.Answers.{numbersOf, pickList, answered}
+use Rattle.capi.specs.Answers.{numbersOf, answered}
 
 pub five-stores : (l : List ℕ) (v w x y z : ℕ) → length l ≡ 5
     → set (set (set (set (set l 0 v) 1 w) 2 x) 3 y) 4 z ≡ v ∷ w ∷ x ∷ y ∷ z ∷ []
@@ -20,7 +20,7 @@ five-stores (a ∷ b ∷ c ∷ d ∷ e ∷ []) v w x y z h = refl
 five-stores (a ∷ b ∷ c ∷ d ∷ e ∷ f ∷ l) v w x y z h = absurd (omega arith)
 
 pub answered-five : (a : Answer) (lent : List ℕ) → length lent ≡ 5 → numbersOf a ≡ answered a lent
-answered-five a lent h = sym (ap (λ (b : Bool). pickList b (numbersOf a) lent) (eq-eqb (length lent) 5 h))
+answered-five a lent h = sym (ap (λ (b : Bool). cond b (numbersOf a) lent) (eq-eqb (length lent) 5 h))
 
 pub answered-other : (a : Answer) (lent : List ℕ) → (length lent ≡ 5 → ⊥) → lent ≡ answered a lent
-answered-other a lent h = sym (ap (λ (b : Bool). pickList b (numbersOf a) lent) (ne-eqb (length lent) 5 h))
+answered-other a lent h = sym (ap (λ (b : Bool). cond b (numbersOf a) lent) (ne-eqb (length lent) 5 h))

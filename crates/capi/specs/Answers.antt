@@ -1,12 +1,12 @@
 -- The convention of the C interface: an answer is five numbers, in a lent list of length 5.
-use mathlib.Core.Bool.{Bool, true, false}
+use mathlib.Core.Bool.{cond}
 use mathlib.Core.List.{List, [], _∷_}
 use Prim.Native.Nat.{ℕ, _-_, _^_}
 use lib.Dec.{eqb}
 use lib.ListN.{length}
 use Rattle.refusal.specs.declared.Cause.{Cause}
 use Rattle.refusal.specs.declared.Position.{Position}
-use Rattle.refusal.specs.declared.Position.the-variants.{At, Nowhere}
+use Rattle.refusal.specs.declared.Position.the-variants.{At, Absent}
 use Rattle.refusal.specs.Numbers.{numberOf, placeOf, roundOf}
 use Rattle.field.specs.declared.Inverted.{Inverted}
 use Rattle.field.specs.declared.Inverted.the-variants.{Value, Refused}
@@ -16,15 +16,16 @@ use Rattle.capi.specs.declared.Answer.{Answer}
 abbrev pub none : ℕ
 none = 2 ^ 64 - 1
 
+-- a place or a round is far below 2^64 - 1, being a small number or an index of a list
 abbrev pub orNone : Position → ℕ
 orNone (At n) = n
-orNone Nowhere = none
+orNone Absent = none
 
--- it went well
+-- it went well: `value` where the operation gives one, which may be any number, and `none` where it gives none
 abbrev pub answerOfValue : ℕ → ℕ → Answer
 answerOfValue reads value = record { number = 0; place = none; round = none; reads = reads; value = value }
 
--- it was refused
+-- it was refused: `reads` is 0 unless a round check failed
 abbrev pub answerOfCause : Cause → ℕ → Answer
 answerOfCause cause reads =
     record {
@@ -35,6 +36,7 @@ answerOfCause cause reads =
       value = none;
     }
 
+-- the answer of an inversion, which reads nothing
 abbrev pub answerOfInverted : Inverted → Answer
 answerOfInverted (Value x) = answerOfValue 0 (x .0)
 answerOfInverted (Refused cause) = answerOfCause cause 0
@@ -43,10 +45,6 @@ answerOfInverted (Refused cause) = answerOfCause cause 0
 abbrev pub numbersOf : Answer → List ℕ
 numbersOf a = a .number ∷ a .place ∷ a .round ∷ a .reads ∷ a .value ∷ []
 
-abbrev pub pickList : Bool → List ℕ → List ℕ → List ℕ
-pickList true a b = a
-pickList false a b = b
-
 -- what the lent list holds afterwards: the five numbers, or what it held where its length is not 5
 abbrev pub answered : Answer → List ℕ → List ℕ
-answered a lent = pickList (eqb (length lent) 5) (numbersOf a) lent
+answered a lent = cond (eqb (length lent) 5) (numbersOf a) lent

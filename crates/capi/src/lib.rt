@@ -26,7 +26,7 @@ fn or_none(p: Position) -> u64
 {
     match p {
         Position::At(n) => n as u64,
-        Position::Nowhere => NONE,
+        Position::Absent => NONE,
     }
 }
 

@@ -1,3 +1,5 @@
-mod Halves
 mod Multiples
 mod Ones
+mod Reduction
+mod Schoolbook
+mod Wide

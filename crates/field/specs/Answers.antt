@@ -1,16 +1,18 @@
 -- What the operations of an element answer.
-use mathlib.Core.Bool.{Bool, true, false}
+use mathlib.Core.Bool.{cond}
 use Prim.Native.Nat.{ℕ}
 use lib.Dec.{eqb}
 use Rattle.gf64.specs.Field.{inverse}
 use Rattle.refusal.specs.declared.Cause.the-variants.{InverseOfZero}
+use Rattle.refusal.specs.Numbers.{numberOf}
 use Rattle.field.specs.declared.Inverted.{Inverted}
 use Rattle.field.specs.declared.Inverted.the-variants.{Value, Refused}
 
-abbrev pub pickInverted : Bool → Inverted → Inverted → Inverted
-pickInverted true a b = a
-pickInverted false a b = b
-
--- the inverse of zero is refused with number 15
+-- the inverse, or for zero its refusal
 abbrev pub invertedOf : ℕ → Inverted
-invertedOf a = pickInverted (eqb a 0) (Refused InverseOfZero) (Value (record { 0 = inverse a }))
+invertedOf a = cond (eqb a 0) (Refused InverseOfZero) (Value (record { 0 = inverse a }))
+
+-- the number of an answer: 0 where there is a value, else that of the cause
+abbrev pub numberOfInverted : Inverted → ℕ
+numberOfInverted (Value x) = 0
+numberOfInverted (Refused cause) = numberOf cause

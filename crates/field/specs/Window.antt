@@ -6,8 +6,8 @@ use Prim.Native.Nat.{ℕ, _+_, _*_, _%_, _^_, _<_}
 use lib.ListN.{getD}
 use lib.Bits.{bitXor}
 use Rattle.gf64.specs.Polynomial.{carryless}
-use Rattle.field.specs.declared.carryless.Wide.{Wide}
-use Rattle.field.specs.declared.carryless.Products.{Products}
+use Rattle.field.specs.declared.polynomial.Wide.{Wide}
+use Rattle.field.specs.declared.polynomial.Products.{Products}
 
 -- the polynomial whose bits 64 to 127 are high and whose bits 0 to 63 are low
 abbrev pub wideOf : Wide → ℕ

@@ -1,12 +1,13 @@
 // The field of 2^64 elements: a polynomial over GF(2) of degree below 64, bit i the coefficient of t^i,
 // modulo t^64 + t^4 + t^3 + t + 1.
-mod carryless;
+mod polynomial;
 
 use refusal::Cause;
 ghost use mathlib.Core.Path.{_≡_};
 ghost use Prim.Native.Nat.{_^_};
+ghost use Rattle.gf64.specs.Polynomial.{remainder};
 ghost use Rattle.gf64.specs.Field.{sum, product, power, inverse};
-ghost use Rattle.field.specs.Answers.{invertedOf};
+ghost use Rattle.field.specs.Answers.{invertedOf, numberOfInverted};
 
 pub struct Element(pub u64);
 
@@ -31,14 +32,18 @@ impl Element {
     }
 
     pub fn product(self, other: Element) -> Element
-        ensures { λ r. ⌜ r .0 ≡ product (self .0) (other .0) ⌝ }
+        ensures value { λ r. ⌜ r .0 ≡ product (self .0) (other .0) ⌝ }
+        ensures constant { λ _. do ⌜ (← ⟦Element::REDUCTION.0⟧ .entry) ≡ remainder (2 ^ 64) ⌝ }
     {
-        Element(carryless::product(self.0, other.0))
+        Element(polynomial::product(self.0, other.0))
     }
 
     // Number 15 where self is zero.
     pub fn inverse(self) -> Inverted
         ensures answer { λ r. ⌜ r ≡ invertedOf (self .0) ⌝ }
+        ensures refuses { λ r. do
+          zero ← ⟦Element::ZERO.0⟧ .entry
+          ⌜ (self .0 ≡ zero → numberOfInverted r ≡ 15) ⌝ }
         ensures inverts { λ r. do
           one ← ⟦Element::ONE.0⟧ .entry
           ⌜ ((x : Element) → r ≡ Inverted.Value x → product (self .0) (x .0) ≡ one) ⌝ }
@@ -46,13 +51,14 @@ impl Element {
         if self.0 == Element::ZERO.0 {
             return Inverted::Refused(Cause::InverseOfZero);
         }
-        Inverted::Value(self.reciprocal())
+        Inverted::Value(self.inverse_or_zero())
     }
 
-    // self^(2^64 - 2): the inverse, or zero where self is zero. Here ones_n is self^(2^n - 1), whose exponent has n bits, all set.
-    pub fn reciprocal(self) -> Element
+    // self^(2^64 - 2): the inverse, or zero where self is zero. For a caller that knows self not to be zero.
+    pub fn inverse_or_zero(self) -> Element
         ensures { λ r. ⌜ r .0 ≡ inverse (self .0) ⌝ }
     {
+        // ones_n is self^(2^n - 1), whose exponent has n bits, all set.
         let ones_2 = self.raised(1, self);
         let ones_3 = ones_2.raised(1, self);
         let ones_6 = ones_3.raised(3, ones_3);
@@ -78,7 +84,7 @@ impl Element {
         let mut x = self.0;
         let mut i: usize = 0;
         while i < n {
-            x = carryless::product(x, x);
+            x = polynomial::product(x, x);
             i += 1;
         }
         Element(x)

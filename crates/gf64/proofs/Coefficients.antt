@@ -9,7 +9,7 @@ use Rattle.gf64.specs.Theorems.{coefficient, convolution}
 use Rattle.gf64.proofs.Xor.{xor-parity, by-bit}
 use Rattle.gf64.proofs.Carryless.{carryless-step}
 
-coefficient-sum : (x y n : ℕ) → coefficient (bitXor x y) n ≡ (coefficient x n + coefficient y n) % 2
+pub coefficient-sum : (x y n : ℕ) → coefficient (bitXor x y) n ≡ (coefficient x n + coefficient y n) % 2
 coefficient-sum x y n = ap (λ (v : ℕ). v % 2) (xor-shr x y n) ∙ xor-parity (x / 2 ^ n) (y / 2 ^ n) ∙ parities (x / 2 ^ n) (y / 2 ^ n)
   where
     parities : (u v : ℕ) → (u + v) % 2 ≡ (u % 2 + v % 2) % 2

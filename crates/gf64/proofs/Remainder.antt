@@ -176,8 +176,8 @@ quotient-step x q e =
     r = remainder (x / 2)
 
 -- x is a multiple of the modulus and the remainder
-pub remainder-divides : (x : ℕ) → (q : ℕ) × (x ≡ bitXor (carryless q modulus) (remainder x))
-remainder-divides =
+pub remainder-decomposes : (x : ℕ) → (q : ℕ) × (x ≡ bitXor (carryless q modulus) (remainder x))
+remainder-decomposes =
     bin-ind (λ (n : ℕ). (q : ℕ) × (n ≡ bitXor (carryless q modulus) (remainder n)))
     (0, sym (ap₂ bitXor (carryless-zero-l modulus) remainder-zero))
     (λ n ih. (bitXor (ih .0 * 2) (top (remainder (n / 2))), quotient-step n (ih .0) (ih .1)))
@@ -193,10 +193,10 @@ pub remainder-factor : (a b : ℕ) → remainder (carryless (remainder a) b) ≡
 remainder-factor a b = sym (ap (λ (x : ℕ). remainder (carryless x b)) e ∙ ap remainder (carryless-add-l (carryless q modulus) (remainder a) b) ∙ remainder-add (carryless (carryless q modulus) b) (carryless (remainder a) b) ∙ ap (λ (x : ℕ). bitXor x (remainder (carryless (remainder a) b))) (ap remainder swapped ∙ remainder-multiple (carryless q b)))
   where
     q : ℕ
-    q = remainder-divides a .0
+    q = remainder-decomposes a .0
 
     e : a ≡ bitXor (carryless q modulus) (remainder a)
-    e = remainder-divides a .1
+    e = remainder-decomposes a .1
 
     swapped : carryless (carryless q modulus) b ≡ carryless (carryless q b) modulus
     swapped =
@@ -218,3 +218,7 @@ remainder-high h l hl =
     high =
         ap remainder parts ∙ remainder-add (carryless h modulus) (carryless reduction h)
         ∙ ap (λ (x : ℕ). bitXor x (remainder (carryless reduction h))) (remainder-multiple h)
+
+pub remainder-t64 : remainder (2 ^ 64) ≡ reduction
+unfolding remainder remainderIn timesT
+remainder-t64 = refl

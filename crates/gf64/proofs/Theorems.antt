@@ -4,8 +4,8 @@ use lib.Bits.{xor-comm, xor-self, xor-lt}
 use Rattle.gf64.specs.Theorems.{PolynomialProduct, Division, SumGroup, ProductRing, Inverses, Powers}
 use Rattle.gf64.proofs.Xor.{xor-assoc}
 use Rattle.gf64.proofs.Carryless.{carryless-comm, carryless-assoc, carryless-add-r}
-use Rattle.gf64.proofs.Coefficients.{coefficients}
-use Rattle.gf64.proofs.Remainder.{remainder-lt, remainder-divides, remainder-unique}
+use Rattle.gf64.proofs.Coefficients.{coefficients, coefficient-sum}
+use Rattle.gf64.proofs.Remainder.{remainder-lt, remainder-decomposes, remainder-unique}
 use Rattle.gf64.proofs.Ring.{product-lt, product-comm, product-assoc, product-add-r, product-one-l, square-add}
 use Rattle.gf64.proofs.Power.{power-zero, power-suc}
 use Rattle.gf64.proofs.Inverse.{inverse-lt, inverse-right, inverse-unique, no-zero-divisors, inverse-zero}
@@ -20,11 +20,12 @@ polynomial-product =
     }
 
 pub division : Division
-division = record { below = remainder-lt; divides = remainder-divides; unique = remainder-unique }
+division = record { below = remainder-lt; decomposes = remainder-decomposes; unique = remainder-unique }
 
 pub sum-group : SumGroup
 sum-group =
     record {
+      coefficients = coefficient-sum;
       closed = xor-lt 64;
       commutative = xor-comm;
       associative = xor-assoc;

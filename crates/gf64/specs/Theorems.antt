@@ -3,16 +3,16 @@ use mathlib.Core.Path.{_≡_}
 use mathlib.Core.Logic.{_≢_}
 use Prim.Native.Nat.{ℕ, zero, suc, _+_, _*_, _/_, _%_, _^_, _<_}
 use Rattle.gf64.specs.Polynomial.{carryless, remainder, modulus}
-use Rattle.gf64.specs.Field.{Element, sum, product, power, inverse}
+use Rattle.gf64.specs.Field.{IsElement, sum, product, power, inverse}
 
 -- the coefficient of t^n
 abbrev pub coefficient : ℕ → ℕ → ℕ
-coefficient a n = a / 2 ^ n % 2
+coefficient a n = (a / 2 ^ n) % 2
 
 -- the sum over i + j = n of a_i · b_j as a number, the term of a's lowest coefficient first
 unfoldable pub convolution : ℕ → ℕ → ℕ → ℕ
-convolution a b zero = a % 2 * (b % 2)
-convolution a b (suc n) = a % 2 * coefficient b (suc n) + convolution (a / 2) b n
+convolution a b zero = (a % 2) * (b % 2)
+convolution a b (suc n) = (a % 2) * coefficient b (suc n) + convolution (a / 2) b n
 
 -- `carryless` is the product of polynomials over GF(2)
 pub record PolynomialProduct : Type 0 where
@@ -24,12 +24,13 @@ pub record PolynomialProduct : Type 0 where
 -- the remainder is the textbook one: x = q · modulus + remainder, and below 2^64 there is no other
 pub record Division : Type 0 where
   pub below : (x : ℕ) → remainder x < 2 ^ 64
-  pub divides : (x : ℕ) → (q : ℕ) × (x ≡ sum (carryless q modulus) (remainder x))
+  pub decomposes : (x : ℕ) → (q : ℕ) × (x ≡ sum (carryless q modulus) (remainder x))
   pub unique : (x q r : ℕ) → r < 2 ^ 64 → x ≡ sum (carryless q modulus) r → r ≡ remainder x
 
--- the sum is a commutative group in which every element is its own negative
+-- the sum adds coefficients modulo 2: a commutative group in which every element is its own negative
 pub record SumGroup : Type 0 where
-  pub closed : (a b : ℕ) → Element a → Element b → Element (sum a b)
+  pub coefficients : (a b n : ℕ) → coefficient (sum a b) n ≡ (coefficient a n + coefficient b n) % 2
+  pub closed : (a b : ℕ) → IsElement a → IsElement b → IsElement (sum a b)
   pub commutative : (a b : ℕ) → sum a b ≡ sum b a
   pub associative : (a b c : ℕ) → sum (sum a b) c ≡ sum a (sum b c)
   pub zero-neutral : (a : ℕ) → sum 0 a ≡ a
@@ -37,19 +38,19 @@ pub record SumGroup : Type 0 where
 
 -- the product is commutative, associative and distributive on all naturals; one is neutral on elements
 pub record ProductRing : Type 0 where
-  pub closed : (a b : ℕ) → Element (product a b)
+  pub closed : (a b : ℕ) → IsElement (product a b)
   pub commutative : (a b : ℕ) → product a b ≡ product b a
   pub associative : (a b c : ℕ) → product (product a b) c ≡ product a (product b c)
   pub distributive : (a b c : ℕ) → product a (sum b c) ≡ sum (product a b) (product a c)
-  pub one-neutral : (a : ℕ) → Element a → product 1 a ≡ a
+  pub one-neutral : (a : ℕ) → IsElement a → product 1 a ≡ a
   pub square-additive : (a b : ℕ) → product (sum a b) (sum a b) ≡ sum (product a a) (product b b)
 
 -- every nonzero element has exactly one inverse, `inverse`; there are no zero divisors
 pub record Inverses : Type 0 where
-  pub closed : (a : ℕ) → Element (inverse a)
-  pub inverts : (a : ℕ) → Element a → a ≢ 0 → product a (inverse a) ≡ 1
-  pub unique : (a x : ℕ) → Element a → Element x → product a x ≡ 1 → x ≡ inverse a
-  pub no-zero-divisors : (a b : ℕ) → Element a → Element b → a ≢ 0 → product a b ≡ 0 → b ≡ 0
+  pub closed : (a : ℕ) → IsElement (inverse a)
+  pub inverts : (a : ℕ) → IsElement a → a ≢ 0 → product a (inverse a) ≡ 1
+  pub unique : (a x : ℕ) → IsElement a → IsElement x → product a x ≡ 1 → x ≡ inverse a
+  pub no-zero-divisors : (a b : ℕ) → IsElement a → IsElement b → a ≢ 0 → product a b ≡ 0 → b ≡ 0
   pub of-zero : inverse 0 ≡ 0
 
 -- `power` is the repeated product

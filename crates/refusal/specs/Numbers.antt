@@ -1,62 +1,63 @@
 -- The number, the place and the round of each cause, as document 01's table "Numbers by cause" gives them.
 use Prim.Native.Nat.{ℕ}
 use Rattle.refusal.specs.declared.Cause.{Cause}
-use Rattle.refusal.specs.declared.Cause.the-variants.{BytesEnd, CountDiffers, BytesLeft, DimensionOutOfRange, RateOutOfRange, StepOutOfRange, DimensionTooSmall, BasisDependent, QueryCount, QueryOutOfRange, CheckFails, DegreeTooLarge, WrongLength, InputTooLong, InverseOfZero, LaterBasisDependent}
+use Rattle.refusal.specs.declared.Cause.the-variants.{BytesEnd, CountDiffers, TrailingBytes, DimensionOutOfRange, RateOutOfRange, StepOutOfRange, DimensionTooSmall, BasisDependent, QueryCountOutOfRange, QueryOutOfRange, RoundCheckFails, DegreeTooLarge, WrongLength, InputTooLong, InverseOfZero, LaterBasisDependent}
 use Rattle.refusal.specs.declared.Position.{Position}
-use Rattle.refusal.specs.declared.Position.the-variants.{At, Nowhere}
+use Rattle.refusal.specs.declared.Position.the-variants.{At, Absent}
 
+-- a number, once given, keeps its cause for good
 abbrev pub numberOf : Cause → ℕ
 numberOf (BytesEnd section) = 1
 numberOf (CountDiffers section) = 2
-numberOf BytesLeft = 3
+numberOf TrailingBytes = 3
 numberOf DimensionOutOfRange = 4
 numberOf RateOutOfRange = 5
 numberOf StepOutOfRange = 6
 numberOf DimensionTooSmall = 7
 numberOf (BasisDependent place) = 8
-numberOf QueryCount = 9
+numberOf QueryCountOutOfRange = 9
 numberOf (QueryOutOfRange query) = 10
-numberOf (CheckFails query round) = 11
+numberOf (RoundCheckFails query round) = 11
 numberOf (DegreeTooLarge degree) = 12
 numberOf (WrongLength list) = 13
 numberOf InputTooLong = 14
 numberOf InverseOfZero = 15
 numberOf (LaterBasisDependent round) = 16
 
--- the section, basis place, query, degree or list that the table returns
+-- what the table's column "Returned" gives, but for rounds and reads: the section, basis place, query, degree or list
 abbrev pub placeOf : Cause → Position
 placeOf (BytesEnd section) = At section
 placeOf (CountDiffers section) = At section
-placeOf BytesLeft = Nowhere
-placeOf DimensionOutOfRange = Nowhere
-placeOf RateOutOfRange = Nowhere
-placeOf StepOutOfRange = Nowhere
-placeOf DimensionTooSmall = Nowhere
+placeOf TrailingBytes = Absent
+placeOf DimensionOutOfRange = Absent
+placeOf RateOutOfRange = Absent
+placeOf StepOutOfRange = Absent
+placeOf DimensionTooSmall = Absent
 placeOf (BasisDependent place) = At place
-placeOf QueryCount = Nowhere
+placeOf QueryCountOutOfRange = Absent
 placeOf (QueryOutOfRange query) = At query
-placeOf (CheckFails query round) = At query
+placeOf (RoundCheckFails query round) = At query
 placeOf (DegreeTooLarge degree) = At degree
 placeOf (WrongLength list) = At list
-placeOf InputTooLong = Nowhere
-placeOf InverseOfZero = Nowhere
-placeOf (LaterBasisDependent round) = Nowhere
+placeOf InputTooLong = Absent
+placeOf InverseOfZero = Absent
+placeOf (LaterBasisDependent round) = Absent
 
 -- the round of a failed check or of a dependent later basis
 abbrev pub roundOf : Cause → Position
-roundOf (BytesEnd section) = Nowhere
-roundOf (CountDiffers section) = Nowhere
-roundOf BytesLeft = Nowhere
-roundOf DimensionOutOfRange = Nowhere
-roundOf RateOutOfRange = Nowhere
-roundOf StepOutOfRange = Nowhere
-roundOf DimensionTooSmall = Nowhere
-roundOf (BasisDependent place) = Nowhere
-roundOf QueryCount = Nowhere
-roundOf (QueryOutOfRange query) = Nowhere
-roundOf (CheckFails query round) = At round
-roundOf (DegreeTooLarge degree) = Nowhere
-roundOf (WrongLength list) = Nowhere
-roundOf InputTooLong = Nowhere
-roundOf InverseOfZero = Nowhere
+roundOf (BytesEnd section) = Absent
+roundOf (CountDiffers section) = Absent
+roundOf TrailingBytes = Absent
+roundOf DimensionOutOfRange = Absent
+roundOf RateOutOfRange = Absent
+roundOf StepOutOfRange = Absent
+roundOf DimensionTooSmall = Absent
+roundOf (BasisDependent place) = Absent
+roundOf QueryCountOutOfRange = Absent
+roundOf (QueryOutOfRange query) = Absent
+roundOf (RoundCheckFails query round) = At round
+roundOf (DegreeTooLarge degree) = Absent
+roundOf (WrongLength list) = Absent
+roundOf InputTooLong = Absent
+roundOf InverseOfZero = Absent
 roundOf (LaterBasisDependent round) = At round

@@ -2,14 +2,15 @@
 ghost use mathlib.Core.Path.{_≡_};
 ghost use Rattle.refusal.specs.Numbers.{numberOf, placeOf, roundOf};
 
-// Why something was refused: one case for each number, in the order of the numbers.
+// Why something was refused: one case for each number, in the order of the numbers. Sections and lists are counted from 1,
+// basis places, queries and rounds from 0.
 pub enum Cause {
     // 1: the bytes end in a count or its entries
     BytesEnd { section: usize },
-    // 2: a count differs from the one due
+    // 2: a count differs from the one due, in another section than 4
     CountDiffers { section: usize },
     // 3: bytes after the last section
-    BytesLeft,
+    TrailingBytes,
     // 4: k out of range
     DimensionOutOfRange,
     // 5: R out of range
@@ -18,17 +19,18 @@ pub enum Cause {
     StepOutOfRange,
     // 7: k < R + η, or k < η in a lone fold
     DimensionTooSmall,
-    // 8: a basis element lies in the span of earlier ones; the first such place, from 0
+    // 8: a basis element lies in the span of earlier ones; the first such place
     BasisDependent { place: usize },
     // 9: no query, or over 256
-    QueryCount,
+    QueryCountOutOfRange,
     // 10: a query index is 2^k or more; the first such query
     QueryOutOfRange { query: usize },
-    // 11: a round check fails
-    CheckFails { query: usize, round: usize },
+    // 11: a round check fails; the entries read are told beside the cause
+    RoundCheckFails { query: usize, round: usize },
     // 12: layer r has degree d or more; that degree
     DegreeTooLarge { degree: usize },
-    // 13: a lent list has the wrong length
+    // 13: a lent list has the wrong length: 1 basis, 2 challenges, 3 word or encoder coefficients, 4 store, 5 last
+    // coefficients, 6 output values, 7 next basis
     WrongLength { list: usize },
     // 14: the program's input has over 65,536 bytes
     InputTooLong,
@@ -41,7 +43,7 @@ pub enum Cause {
 // A place or a round, where there is one.
 pub enum Position {
     At(usize),
-    Nowhere,
+    Absent,
 }
 
 impl Cause {
@@ -51,15 +53,15 @@ impl Cause {
         match self {
             Cause::BytesEnd { section: _ } => 1,
             Cause::CountDiffers { section: _ } => 2,
-            Cause::BytesLeft => 3,
+            Cause::TrailingBytes => 3,
             Cause::DimensionOutOfRange => 4,
             Cause::RateOutOfRange => 5,
             Cause::StepOutOfRange => 6,
             Cause::DimensionTooSmall => 7,
             Cause::BasisDependent { place: _ } => 8,
-            Cause::QueryCount => 9,
+            Cause::QueryCountOutOfRange => 9,
             Cause::QueryOutOfRange { query: _ } => 10,
-            Cause::CheckFails { query: _, round: _ } => 11,
+            Cause::RoundCheckFails { query: _, round: _ } => 11,
             Cause::DegreeTooLarge { degree: _ } => 12,
             Cause::WrongLength { list: _ } => 13,
             Cause::InputTooLong => 14,
@@ -74,20 +76,20 @@ impl Cause {
         match self {
             Cause::BytesEnd { section } => Position::At(section),
             Cause::CountDiffers { section } => Position::At(section),
-            Cause::BytesLeft => Position::Nowhere,
-            Cause::DimensionOutOfRange => Position::Nowhere,
-            Cause::RateOutOfRange => Position::Nowhere,
-            Cause::StepOutOfRange => Position::Nowhere,
-            Cause::DimensionTooSmall => Position::Nowhere,
+            Cause::TrailingBytes => Position::Absent,
+            Cause::DimensionOutOfRange => Position::Absent,
+            Cause::RateOutOfRange => Position::Absent,
+            Cause::StepOutOfRange => Position::Absent,
+            Cause::DimensionTooSmall => Position::Absent,
             Cause::BasisDependent { place } => Position::At(place),
-            Cause::QueryCount => Position::Nowhere,
+            Cause::QueryCountOutOfRange => Position::Absent,
             Cause::QueryOutOfRange { query } => Position::At(query),
-            Cause::CheckFails { query, round: _ } => Position::At(query),
+            Cause::RoundCheckFails { query, round: _ } => Position::At(query),
             Cause::DegreeTooLarge { degree } => Position::At(degree),
             Cause::WrongLength { list } => Position::At(list),
-            Cause::InputTooLong => Position::Nowhere,
-            Cause::InverseOfZero => Position::Nowhere,
-            Cause::LaterBasisDependent { round: _ } => Position::Nowhere,
+            Cause::InputTooLong => Position::Absent,
+            Cause::InverseOfZero => Position::Absent,
+            Cause::LaterBasisDependent { round: _ } => Position::Absent,
         }
     }
 
@@ -95,21 +97,21 @@ impl Cause {
         ensures { λ r. ⌜ r ≡ roundOf self ⌝ }
     {
         match self {
-            Cause::BytesEnd { section: _ } => Position::Nowhere,
-            Cause::CountDiffers { section: _ } => Position::Nowhere,
-            Cause::BytesLeft => Position::Nowhere,
-            Cause::DimensionOutOfRange => Position::Nowhere,
-            Cause::RateOutOfRange => Position::Nowhere,
-            Cause::StepOutOfRange => Position::Nowhere,
-            Cause::DimensionTooSmall => Position::Nowhere,
-            Cause::BasisDependent { place: _ } => Position::Nowhere,
-            Cause::QueryCount => Position::Nowhere,
-            Cause::QueryOutOfRange { query: _ } => Position::Nowhere,
-            Cause::CheckFails { query: _, round } => Position::At(round),
-            Cause::DegreeTooLarge { degree: _ } => Position::Nowhere,
-            Cause::WrongLength { list: _ } => Position::Nowhere,
-            Cause::InputTooLong => Position::Nowhere,
-            Cause::InverseOfZero => Position::Nowhere,
+            Cause::BytesEnd { section: _ } => Position::Absent,
+            Cause::CountDiffers { section: _ } => Position::Absent,
+            Cause::TrailingBytes => Position::Absent,
+            Cause::DimensionOutOfRange => Position::Absent,
+            Cause::RateOutOfRange => Position::Absent,
+            Cause::StepOutOfRange => Position::Absent,
+            Cause::DimensionTooSmall => Position::Absent,
+            Cause::BasisDependent { place: _ } => Position::Absent,
+            Cause::QueryCountOutOfRange => Position::Absent,
+            Cause::QueryOutOfRange { query: _ } => Position::Absent,
+            Cause::RoundCheckFails { query: _, round } => Position::At(round),
+            Cause::DegreeTooLarge { degree: _ } => Position::Absent,
+            Cause::WrongLength { list: _ } => Position::Absent,
+            Cause::InputTooLong => Position::Absent,
+            Cause::InverseOfZero => Position::Absent,
             Cause::LaterBasisDependent { round } => Position::At(round),
         }
     }

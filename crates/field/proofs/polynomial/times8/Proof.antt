@@ -1,9 +1,9 @@
--- `field::carryless::times8` meets its contract: the parts' products make the whole. Assumes nothing.
+-- `field::polynomial::times8` meets its contract: the parts' products make the whole. Assumes nothing.
 use native.Mathlib.Omega.{arith}
 use borrow.Author.Needs.{needs}
-use Rattle.field.proofs.Halves.{sums-joined}
-use Rattle.field.proofs.carryless.times8.Statement.{statement}
-use Rattle.field.proofs.carryless.times8.Tie as tie
+use Rattle.field.proofs.Schoolbook.{sums-joined}
+use Rattle.field.proofs.polynomial.times8.Statement.{statement}
+use Rattle.field.proofs.polynomial.times8.Tie as tie
 
 times4-requires : tie.Need-times4-requires
 times4-requires c κs = search needs

@@ -1,11 +1,11 @@
--- `field::carryless::multiple` meets its contract: n % 2 is 1 or 0, and half can be doubled in 64 bits. Assumes nothing.
+-- `field::polynomial::multiple` meets its contract: n % 2 is 1 or 0, and half can be doubled in 64 bits. Assumes nothing.
 use mathlib.Core.Path.{_≡_, sym, ap, ap₂, _∙_}
 use Prim.Native.Nat.{ℕ, _*_, _%_}
 use native.Mathlib.Nat.{one-mul, zero-mul, mod-eq-of-lt}
 use native.Mathlib.Omega.{arith}
 use lib.Bits.{bitXor}
-use Rattle.field.proofs.carryless.multiple.Statement.{statement}
-use Rattle.field.proofs.carryless.multiple.Tie as tie
+use Rattle.field.proofs.polynomial.multiple.Statement.{statement}
+use Rattle.field.proofs.polynomial.multiple.Tie as tie
 
 returns : tie.Need-returns
 returns c =

@@ -1,9 +1,9 @@
--- `field::carryless::carryless` meets its contract. Assumes nothing.
+-- `field::polynomial::wide_product` meets its contract. Assumes nothing.
 use borrow.Author.Needs.{needs}
 use Prim.Native.Nat.{_/_, _%_, _^_}
-use Rattle.field.proofs.Halves.{schoolbook}
-use Rattle.field.proofs.carryless.carryless.Statement.{statement}
-use Rattle.field.proofs.carryless.carryless.Tie as tie
+use Rattle.field.proofs.Schoolbook.{schoolbook}
+use Rattle.field.proofs.polynomial.wide_product.Statement.{statement}
+use Rattle.field.proofs.polynomial.wide_product.Tie as tie
 
 window-requires : tie.Need-window-requires
 window-requires c κs = search needs
@@ -20,5 +20,5 @@ returns c =
     schoolbook a (c .before .before .before .before .before .before .before .before .before .args .b) _
     (c .before .before .before .before .times32 .ensures (a % 2 ^ 32) (a / 2 ^ 32) (c .before .before .before .before .before .before .before .before .window .ensures) (c .before .before .before .before .before .before .before .window2 .ensures))
 
-pub carryless-spec : {M : Type 1} → statement M
-carryless-spec = tie.close (tie.spec window-requires window-requires-2 times32-requires returns)
+pub wide-product-spec : {M : Type 1} → statement M
+wide-product-spec = tie.close (tie.spec window-requires window-requires-2 times32-requires returns)

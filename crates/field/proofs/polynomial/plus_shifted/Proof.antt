@@ -1,12 +1,12 @@
--- `field::carryless::plus_shifted` meets its contract: what the shift moves out of 64 bits goes to the high half.
+-- `field::polynomial::plus_shifted` meets its contract: what the shift moves out of 64 bits goes to the high half.
 -- Assumes nothing.
 use mathlib.Core.Path.{ap, _∙_}
 use Prim.Native.Nat.{ℕ, _+_, _*_, _%_, _^_}
 use lib.Bits.{bitXor}
 use borrow.Author.Needs.{needs}
-use Rattle.field.proofs.Halves.{wide-sum, shifted-out}
-use Rattle.field.proofs.carryless.plus_shifted.Statement.{statement}
-use Rattle.field.proofs.carryless.plus_shifted.Tie as tie
+use Rattle.field.proofs.Wide.{wide-sum, shifted-out}
+use Rattle.field.proofs.polynomial.plus_shifted.Statement.{statement}
+use Rattle.field.proofs.polynomial.plus_shifted.Tie as tie
 
 sub-t5 : tie.Need-sub-t5
 sub-t5 c = search needs

@@ -1,4 +1,4 @@
--- `field::carryless::lowered` meets its contract. The loop's invariant: w is the product by the i low bits of the
+-- `field::polynomial::times_reduction` meets its contract. The loop's invariant: w is the product by the i low bits of the
 -- reduction constant. Assumes nothing.
 use mathlib.Core.Path.{_≡_, sym, ap, _∙_}
 use mathlib.Core.Logic.{⊎-elim}
@@ -8,9 +8,9 @@ use borrow.Author.Needs.{needs}
 use Rattle.gf64.specs.Polynomial.{carryless, reduction}
 use Rattle.gf64.proofs.Carryless.{carryless-zero-l}
 use Rattle.field.specs.Window.{wideOf}
-use Rattle.field.proofs.Halves.{bit-set, bit-clear}
-use Rattle.field.proofs.carryless.lowered.Statement.{statement}
-use Rattle.field.proofs.carryless.lowered.Tie as tie
+use Rattle.field.proofs.Reduction.{bit-set, bit-clear}
+use Rattle.field.proofs.polynomial.times_reduction.Statement.{statement}
+use Rattle.field.proofs.polynomial.times_reduction.Tie as tie
 
 abbrev Inv-loop : tie.InvT-loop
 Inv-loop a w₀ i₀ w i = (i ≤ 5) × (wideOf w ≡ carryless (reduction % 2 ^ i) a)
@@ -49,7 +49,7 @@ returns c =
     let five : c .before .loop .i ≡ 5 = omega arith in
     c .before .loop .inv .1 ∙ ap (λ (i : ℕ). carryless (reduction % 2 ^ i) (c .before .before .args .a)) five
 
-pub lowered-spec : {M : Type 1} → statement M
-lowered-spec =
+pub times-reduction-spec : {M : Type 1} → statement M
+times-reduction-spec =
     tie.close
     (tie.spec Inv-loop μ-loop loop-holds shr-if1 plus-shifted-requires add-i loop-less loop-again returns)

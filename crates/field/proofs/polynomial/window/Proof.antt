@@ -1,4 +1,4 @@
--- `field::carryless::window` meets its contract. The loop's invariant: the entries below n are the multiples; entry n
+-- `field::polynomial::window` meets its contract. The loop's invariant: the entries below n are the multiples; entry n
 -- comes from entry n / 2 by the step of the product. Assumes nothing.
 use mathlib.Core.Path.{_≡_, refl}
 use Prim.Native.Nat.{ℕ, _-_, _/_, _≤_, _<_}
@@ -7,8 +7,8 @@ use lib.ListN.{length, getD, length-set, replicate}
 use borrow.Author.Needs.{needs}
 use Rattle.gf64.specs.Polynomial.{carryless}
 use Rattle.field.proofs.Multiples.{first-multiple, next-multiple, half-multiple-lt}
-use Rattle.field.proofs.carryless.window.Statement.{statement}
-use Rattle.field.proofs.carryless.window.Tie as tie
+use Rattle.field.proofs.polynomial.window.Statement.{statement}
+use Rattle.field.proofs.polynomial.window.Tie as tie
 
 abbrev Inv-loop : tie.InvT-loop
 Inv-loop a t₀ n₀ t n = (0 < n) × (n ≤ 16) × (length t ≡ 16) × ((m : ℕ) → m < n → getD t m 0 ≡ carryless m a)

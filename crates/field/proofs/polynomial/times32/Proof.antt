@@ -1,9 +1,9 @@
--- `field::carryless::times32` meets its contract: the parts' products make the whole. Assumes nothing.
+-- `field::polynomial::times32` meets its contract: the parts' products make the whole. Assumes nothing.
 use native.Mathlib.Omega.{arith}
 use borrow.Author.Needs.{needs}
-use Rattle.field.proofs.Halves.{sums-joined}
-use Rattle.field.proofs.carryless.times32.Statement.{statement}
-use Rattle.field.proofs.carryless.times32.Tie as tie
+use Rattle.field.proofs.Schoolbook.{sums-joined}
+use Rattle.field.proofs.polynomial.times32.Statement.{statement}
+use Rattle.field.proofs.polynomial.times32.Tie as tie
 
 times16-requires : tie.Need-times16-requires
 times16-requires c κs = search needs

@@ -47,7 +47,7 @@ pub struct Products {
     pub high: u64,
 }
 
-// For an x and a y of 4, 8, 16 and 32 bits.
+// For an x and a y of 4, then 8, 16 and 32 bits.
 fn times4(low: &[u64; 16], high: &[u64; 16], x: u64, y: u64) -> Products
     requires { ⌜ (x < 2 ^ 4) × (y < 2 ^ 4) ⌝ }
     ensures { λ r. ⌜ ProductsBy (now (low .entry)) (now (high .entry)) x y r ⌝ }
@@ -100,7 +100,7 @@ impl Products {
 }
 
 // a · b, by halves of 32 bits.
-fn carryless(a: u64, b: u64) -> Wide
+fn wide_product(a: u64, b: u64) -> Wide
     ensures { λ r. ⌜ wideOf r ≡ carryless a b ⌝ }
 {
     let low = window(a % 4294967296);
@@ -123,8 +123,8 @@ fn plus_shifted(w: Wide, a: u64, i: u64) -> Wide
     }
 }
 
-// What t^64 · a is modulo t^64 + t^4 + t^3 + t + 1, not reduced any further.
-fn lowered(a: u64) -> Wide
+// a times t^4 + t^3 + t + 1, which is what t^64 · a reduces to.
+fn times_reduction(a: u64) -> Wide
     ensures { λ r. ⌜ wideOf r ≡ carryless reduction a ⌝ }
 {
     let mut w = Wide { high: 0, low: 0 };
@@ -138,17 +138,17 @@ fn lowered(a: u64) -> Wide
     w
 }
 
-// w modulo t^64 + t^4 + t^3 + t + 1: lowering the high half moves four bits out of 64 again, which are lowered with it.
+// w modulo t^64 + t^4 + t^3 + t + 1. What t^64 · high reduces to has four bits over 64, which are reduced with it.
 fn reduced(w: Wide) -> u64
     ensures { λ r. ⌜ r ≡ remainder (wideOf w) ⌝ }
 {
-    let over = lowered(w.high).high;
-    w.low ^ lowered(w.high ^ over).low
+    let over = times_reduction(w.high).high;
+    w.low ^ times_reduction(w.high ^ over).low
 }
 
 // The product of the field. It goes by numbers, which return in a register, where an element returns in memory.
 pub fn product(a: u64, b: u64) -> u64
     ensures { λ r. ⌜ r ≡ product a b ⌝ }
 {
-    reduced(carryless(a, b))
+    reduced(wide_product(a, b))
 }

@@ -1,9 +1,9 @@
--- `field::carryless::times4` meets its contract: the entries are the multiples. Assumes nothing.
+-- `field::polynomial::times4` meets its contract: the entries are the multiples. Assumes nothing.
 use mathlib.Core.Path.{ap₂}
 use lib.Bits.{bitXor}
 use borrow.Author.Needs.{needs}
-use Rattle.field.proofs.carryless.times4.Statement.{statement}
-use Rattle.field.proofs.carryless.times4.Tie as tie
+use Rattle.field.proofs.polynomial.times4.Statement.{statement}
+use Rattle.field.proofs.polynomial.times4.Tie as tie
 
 mul-t7 : tie.Need-mul-t7
 mul-t7 c = search needs

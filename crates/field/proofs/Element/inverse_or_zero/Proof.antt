@@ -1,9 +1,9 @@
--- `field::Element::reciprocal` meets its contract: each line joins two exponents that are all ones. Assumes nothing.
+-- `field::Element::inverse_or_zero` meets its contract: each line joins two exponents that are all ones. Assumes nothing.
 use native.Mathlib.Omega.{arith}
 use borrow.Author.Needs.{needs}
 use Rattle.field.proofs.Ones.{ones-first, ones-join, ones-last}
-use Rattle.field.proofs.Element.reciprocal.Statement.{statement}
-use Rattle.field.proofs.Element.reciprocal.Tie as tie
+use Rattle.field.proofs.Element.inverse_or_zero.Statement.{statement}
+use Rattle.field.proofs.Element.inverse_or_zero.Tie as tie
 
 raised-requires : tie.Need-raised-requires
 raised-requires c κs = search needs
@@ -45,8 +45,8 @@ returns c =
     let sixty = ones-join a 30 30 _ _ _ thirty thirty (c .before .before .raised7 .ensures) in
     ones-last a _ _ (ones-join a 60 3 _ _ _ sixty three (c .before .raised8 .ensures)) (c .squared .ensures)
 
-pub reciprocal-spec : {M : Type 1} → statement M
-reciprocal-spec =
+pub inverse-or-zero-spec : {M : Type 1} → statement M
+inverse-or-zero-spec =
     tie.close
     (tie.spec
     raised-requires

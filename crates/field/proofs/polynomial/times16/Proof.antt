@@ -1,9 +1,9 @@
--- `field::carryless::times16` meets its contract: the parts' products make the whole. Assumes nothing.
+-- `field::polynomial::times16` meets its contract: the parts' products make the whole. Assumes nothing.
 use native.Mathlib.Omega.{arith}
 use borrow.Author.Needs.{needs}
-use Rattle.field.proofs.Halves.{sums-joined}
-use Rattle.field.proofs.carryless.times16.Statement.{statement}
-use Rattle.field.proofs.carryless.times16.Tie as tie
+use Rattle.field.proofs.Schoolbook.{sums-joined}
+use Rattle.field.proofs.polynomial.times16.Statement.{statement}
+use Rattle.field.proofs.polynomial.times16.Tie as tie
 
 times8-requires : tie.Need-times8-requires
 times8-requires c κs = search needs
