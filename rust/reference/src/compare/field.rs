@@ -117,52 +117,57 @@ fn random_lists<const N: usize>(name: &str, amount: usize) -> impl Iterator<Item
 
 // Sum and product against the reference.
 
+type Operation = fn(u64, u64) -> u64;
+
 fn sum_edge(library: &Library) -> Comparison {
-    sums("sum, edge pairs", edge_pairs(), library)
+    pairs("sum, edge pairs", edge_pairs(), field::sum, library.sum)
 }
 
 fn sum_random(library: &Library, amounts: &Amounts) -> Comparison {
-    let name = "sum, random pairs";
-    let pairs = random_lists(name, amounts.against_reference);
-    sums(name, pairs, library)
-}
-
-fn sums(
-    name: &'static str,
-    pairs: impl IntoIterator<Item = [u64; 2]>,
-    library: &Library,
-) -> Comparison {
-    compare(
-        name,
-        pairs,
-        REFERENCE_AND_LIBRARY,
-        |&[a, b]| field::sum(a, b),
-        |&[a, b]| (library.sum)(a, b),
-    )
+    random_pairs("sum, random pairs", amounts, field::sum, library.sum)
 }
 
 fn product_edge(library: &Library) -> Comparison {
-    products("product, edge pairs", edge_pairs(), library)
+    pairs(
+        "product, edge pairs",
+        edge_pairs(),
+        field::product,
+        library.product,
+    )
 }
 
 fn product_random(library: &Library, amounts: &Amounts) -> Comparison {
-    let name = "product, random pairs";
-    let pairs = random_lists(name, amounts.against_reference);
-    products(name, pairs, library)
+    random_pairs(
+        "product, random pairs",
+        amounts,
+        field::product,
+        library.product,
+    )
 }
 
-fn products(
+fn pairs(
     name: &'static str,
-    pairs: impl IntoIterator<Item = [u64; 2]>,
-    library: &Library,
+    inputs: impl IntoIterator<Item = [u64; 2]>,
+    reference: Operation,
+    library: Operation,
 ) -> Comparison {
     compare(
         name,
-        pairs,
+        inputs,
         REFERENCE_AND_LIBRARY,
-        |&[a, b]| field::product(a, b),
-        |&[a, b]| (library.product)(a, b),
+        |&[a, b]| reference(a, b),
+        |&[a, b]| library(a, b),
     )
+}
+
+fn random_pairs(
+    name: &'static str,
+    amounts: &Amounts,
+    reference: Operation,
+    library: Operation,
+) -> Comparison {
+    let inputs = random_lists(name, amounts.against_reference);
+    pairs(name, inputs, reference, library)
 }
 
 // The inverse against the reference.
@@ -238,61 +243,61 @@ fn inverse_products(
 
 // The laws of a field, with the library on both sides.
 
+fn law<const N: usize>(
+    name: &'static str,
+    amounts: &Amounts,
+    left: impl Fn(&[u64; N]) -> u64,
+    right: impl Fn(&[u64; N]) -> u64,
+) -> Comparison {
+    let inputs = random_lists(name, amounts.laws);
+    compare(name, inputs, LEFT_AND_RIGHT, left, right)
+}
+
 fn sum_commutes(library: &Library, amounts: &Amounts) -> Comparison {
-    let name = "a + b = b + a";
     let sum = library.sum;
-    compare(
-        name,
-        random_lists(name, amounts.laws),
-        LEFT_AND_RIGHT,
+    law(
+        "a + b = b + a",
+        amounts,
         |&[a, b]| sum(a, b),
         |&[a, b]| sum(b, a),
     )
 }
 
 fn sum_associates(library: &Library, amounts: &Amounts) -> Comparison {
-    let name = "(a + b) + c = a + (b + c)";
     let sum = library.sum;
-    compare(
-        name,
-        random_lists(name, amounts.laws),
-        LEFT_AND_RIGHT,
+    law(
+        "(a + b) + c = a + (b + c)",
+        amounts,
         |&[a, b, c]| sum(sum(a, b), c),
         |&[a, b, c]| sum(a, sum(b, c)),
     )
 }
 
 fn product_commutes(library: &Library, amounts: &Amounts) -> Comparison {
-    let name = "a b = b a";
     let product = library.product;
-    compare(
-        name,
-        random_lists(name, amounts.laws),
-        LEFT_AND_RIGHT,
+    law(
+        "a b = b a",
+        amounts,
         |&[a, b]| product(a, b),
         |&[a, b]| product(b, a),
     )
 }
 
 fn product_associates(library: &Library, amounts: &Amounts) -> Comparison {
-    let name = "(a b) c = a (b c)";
     let product = library.product;
-    compare(
-        name,
-        random_lists(name, amounts.laws),
-        LEFT_AND_RIGHT,
+    law(
+        "(a b) c = a (b c)",
+        amounts,
         |&[a, b, c]| product(product(a, b), c),
         |&[a, b, c]| product(a, product(b, c)),
     )
 }
 
 fn product_distributes(library: &Library, amounts: &Amounts) -> Comparison {
-    let name = "a (b + c) = a b + a c";
     let Library { sum, product, .. } = *library;
-    compare(
-        name,
-        random_lists(name, amounts.laws),
-        LEFT_AND_RIGHT,
+    law(
+        "a (b + c) = a b + a c",
+        amounts,
         |&[a, b, c]| product(a, sum(b, c)),
         |&[a, b, c]| sum(product(a, b), product(a, c)),
     )
