@@ -2,7 +2,7 @@
 -- Assumes nothing.
 use mathlib.Core.Path.{_≡_, refl, sym, ap, ap₂, _∙_, subst}
 use mathlib.Core.Logic.{⊎-elim}
-use mathlib.Core.Bool.{Bool, true, false}
+use mathlib.Core.Bool.{Bool, true, false, _&&_}
 use mathlib.Core.List.{List, [], _∷_}
 use Prim.Native.Nat.{ℕ, zero, suc, _*_, _/_, _%_, _^_, _<_}
 use native.Mathlib.Nat.{zero-mul, one-mul, mod-lt, le-refl, not-suc-le-zero, div-lt-iff-lt-mul, eq-or-lt-of-le, le-of-suc-le-suc}
@@ -27,9 +27,6 @@ sum-additive f g hf hg a b = ap₂ bitXor (hf a b) (hg a b) ∙ xor-swap (f a) (
 pub shift-left-additive : (k w : ℕ) → Additive (λ x. x * 2 ^ k % 2 ^ w)
 shift-left-additive k w a b =
     ap (λ (x : ℕ). x % 2 ^ w) (sym (xor-shift k a b)) ∙ xor-mod (a * 2 ^ k) (b * 2 ^ k) w
-
-pub shift-right-additive : (k : ℕ) → Additive (λ x. x / 2 ^ k)
-shift-right-additive k a b = xor-shr a b k
 
 -- ---- agreement
 
@@ -57,22 +54,18 @@ module _ (f g : ℕ → ℕ) (hf : Additive f) (hg : Additive g) where
 
 -- ---- agreement as a test that is computed
 
-abbrev pub both : Bool → Bool → Bool
-both true b = b
-both false b = false
-
-both-left : (a b : Bool) → T (both a b) → T a
+both-left : (a b : Bool) → T (a && b) → T a
 both-left true b t = tt
 both-left false b t = t
 
-both-right : (a b : Bool) → T (both a b) → T b
+both-right : (a b : Bool) → T (a && b) → T b
 both-right true b t = t
 both-right false b t = absurd t
 
 -- f and g agree on the powers of two below 2^k
 unfoldable pub agreeOn : (ℕ → ℕ) → (ℕ → ℕ) → ℕ → Bool
 agreeOn f g zero = true
-agreeOn f g (suc k) = both (eqb (f (2 ^ k)) (g (2 ^ k))) (agreeOn f g k)
+agreeOn f g (suc k) = eqb (f (2 ^ k)) (g (2 ^ k)) && agreeOn f g k
 
 agreeOn-at : (f g : ℕ → ℕ) (k : ℕ) → T (agreeOn f g k) → (i : ℕ) → i < k → f (2 ^ i) ≡ g (2 ^ i)
 unfolding agreeOn

@@ -105,9 +105,6 @@ below (suc k) x h l =
 pub remainder-id : (x : ℕ) → x < 2 ^ 64 → remainder x ≡ x
 remainder-id x h = below 64 x h (le-refl 64)
 
-pub remainder-twice : (x : ℕ) → remainder (remainder x) ≡ remainder x
-remainder-twice x = remainder-id (remainder x) (remainder-lt x)
-
 pub remainder-double : (x : ℕ) → remainder (x * 2) ≡ timesT (remainder x)
 remainder-double x =
     remainder-step (x * 2)

@@ -42,10 +42,6 @@ xor-swap a b c d =
 pub xor-cancel : (a b : ℕ) → bitXor a (bitXor a b) ≡ b
 xor-cancel a b = sym (xor-assoc a a b) ∙ ap (λ (x : ℕ). bitXor x b) (xor-self a)
 
--- equal where the sum is zero
-pub xor-zero-eq : (a b : ℕ) → bitXor a b ≡ 0 → a ≡ b
-xor-zero-eq a b e = sym (xor-zero-r a) ∙ ap (bitXor a) (sym e) ∙ xor-cancel a b
-
 pub xor-shift : (k a b : ℕ) → bitXor (a * 2 ^ k) (b * 2 ^ k) ≡ bitXor a b * 2 ^ k
 xor-shift k a b =
     sym (ap₂ bitXor (add-zero (a * 2 ^ k)) (add-zero (b * 2 ^ k))) ∙ xor-block k a b 0 0 (pow-pos k) (pow-pos k)
