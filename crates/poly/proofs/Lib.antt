@@ -1,0 +1,10 @@
+pub mod Sums
+pub mod Evaluation
+pub mod Roots
+pub mod Interpolation
+pub mod Division
+pub mod Rows
+pub mod Theorems
+pub mod AtField
+pub mod Filling
+mod Horner

@@ -1,0 +1,33 @@
+-- The carriers that polynomials are taken over: fields of characteristic 2, in which a difference is a sum.
+use mathlib.Core.Path.{_≡_}
+use mathlib.Core.Logic.{_≢_}
+use Prim.Native.Nat.{ℕ}
+use Rattle.gf64.specs.Field.{sum, product, inverse}
+
+pub record Operations (A : Type 0) : Type 0 where
+  pub nought : A
+  pub one : A
+  pub sum : A → A → A
+  pub product : A → A → A
+  pub inverse : A → A
+
+-- sums and products obey their laws on the whole carrier; that one is neutral and that inverses divide is asked of elements alone
+pub record Laws (A : Type 0) (F : Operations A) (Element : A → Type 0) : Type 0 where
+  pub sum-commutative : (a b : A) → F .sum a b ≡ F .sum b a
+  pub sum-associative : (a b c : A) → F .sum (F .sum a b) c ≡ F .sum a (F .sum b c)
+  pub sum-nought : (a : A) → F .sum (F .nought) a ≡ a
+  pub sum-self : (a : A) → F .sum a a ≡ F .nought
+  pub product-commutative : (a b : A) → F .product a b ≡ F .product b a
+  pub product-associative : (a b c : A) → F .product (F .product a b) c ≡ F .product a (F .product b c)
+  pub distributive : (a b c : A) → F .product a (F .sum b c) ≡ F .sum (F .product a b) (F .product a c)
+  pub nought-element : Element (F .nought)
+  pub one-element : Element (F .one)
+  pub sum-element : (a b : A) → Element a → Element b → Element (F .sum a b)
+  pub product-element : (a b : A) → Element a → Element b → Element (F .product a b)
+  pub inverse-element : (a : A) → Element a → Element (F .inverse a)
+  pub one-neutral : (a : A) → Element a → F .product (F .one) a ≡ a
+  pub inverse-divides : (a : A) → Element a → a ≢ F .nought → F .product a (F .inverse a) ≡ F .one
+
+-- the field of 2^64 elements
+abbrev pub gf64 : Operations ℕ
+gf64 = record { nought = 0; one = 1; sum = sum; product = product; inverse = inverse }

@@ -1,0 +1,4 @@
+pub mod Carrier
+pub mod Polynomial
+pub mod Rows
+pub mod Theorems

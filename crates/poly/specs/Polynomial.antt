@@ -1,0 +1,61 @@
+-- Polynomials over a carrier: a polynomial is the list of its coefficients, constant first.
+use mathlib.Core.Path.{_≡_}
+use mathlib.Core.Logic.{_≢_}
+use mathlib.Core.List.{List, [], _∷_, _++_, map}
+use Prim.Native.Nat.{ℕ, zero, _-_}
+use lib.ListN.{length, drop, replicate}
+use Rattle.poly.specs.Carrier.{Operations}
+
+-- P holds of every entry
+abbrev pub All : {A : Type 0} → (A → Type 0) → List A → Type 0
+All P [] = record {}
+All P (x ∷ xs) = P x × All P xs
+
+-- no two entries are equal
+abbrev pub Distinct : {A : Type 0} → List A → Type 0
+Distinct [] = record {}
+Distinct (x ∷ xs) = All (λ y. y ≢ x) xs × Distinct xs
+
+-- every coefficient is zero
+abbrev pub Zeros : {A : Type 0} → Operations A → List A → Type 0
+Zeros F p = All (λ c. c ≡ F .nought) p
+
+-- the degree is below n: every coefficient from n on is zero, so that zero is below every bound
+abbrev pub DegreeBelow : {A : Type 0} → Operations A → ℕ → List A → Type 0
+DegreeBelow F n p = Zeros F (drop n p)
+
+-- the value at x, by Horner: the constant plus x times the rest's value
+unfoldable pub evaluate : {A : Type 0} → Operations A → List A → A → A
+evaluate F [] x = F .nought
+evaluate F (c ∷ p) x = F .sum c (F .product x (evaluate F p x))
+
+-- p + q
+unfoldable pub plus : {A : Type 0} → Operations A → List A → List A → List A
+plus F [] q = q
+plus F (c ∷ p) [] = c ∷ p
+plus F (c ∷ p) (d ∷ q) = F .sum c d ∷ plus F p q
+
+-- a · p
+unfoldable pub scale : {A : Type 0} → Operations A → A → List A → List A
+scale F a p = map (F .product a) p
+
+-- p with zeros up to n coefficients
+unfoldable pub padded : {A : Type 0} → Operations A → ℕ → List A → List A
+padded F n p = p ++ replicate (n - length p) (F .nought)
+
+-- c + (X + x) · p
+unfoldable pub timesLinear : {A : Type 0} → Operations A → A → A → List A → List A
+timesLinear F c x p = plus F (c ∷ p) (scale F x p)
+
+-- the slopes from the point x with value y to the others: (y′ - y) / (x′ - x) for each
+unfoldable pub slopes : {A : Type 0} → Operations A → A → A → List A → List A → List A
+slopes F x y [] values = []
+slopes F x y (x′ ∷ points) [] = []
+slopes F x y (x′ ∷ points) (y′ ∷ values) =
+    F .product (F .inverse (F .sum x′ x)) (F .sum y′ y) ∷ slopes F x y points values
+
+-- the interpolant of the values at the points, by Newton: y + (X - x) · Q, where Q has the slopes for its values at the other points
+unfoldable pub interpolant : {A : Type 0} → Operations A → List A → List A → List A
+interpolant F [] values = []
+interpolant F (x ∷ points) [] = []
+interpolant F (x ∷ points) (y ∷ values) = timesLinear F y x (interpolant F points (slopes F x y points values))
