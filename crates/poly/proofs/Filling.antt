@@ -1,9 +1,16 @@
 -- A list that is being filled from the front: j entries of the target, and after them those it held before. Assumes nothing.
-use mathlib.Core.Path.{_≡_, refl, ap}
-use mathlib.Core.List.{List, [], _∷_, _++_}
-use Prim.Native.Nat.{ℕ, zero, suc, _≤_, _<_}
+use mathlib.Core.Path.{_≡_, refl, sym, ap, _∙_}
+use mathlib.Core.List.{List, [], _∷_, _++_, map}
+use mathlib.Core.Logic.{_⊎_, inl, inr, ⊎-elim}
+use Prim.Native.Nat.{ℕ, zero, suc, _+_, _-_, _≤_, _<_}
+use native.Mathlib.Nat.{le-trans}
+use native.Mathlib.Numerals.{add-one}
 use native.Mathlib.Omega.{arith}
-use lib.ListN.{length, getD, take, drop, set}
+use lib.ListN.{length, getD, take, drop, set, replicate, length-replicate, List·getD-eq-default}
+use lib.Seq.{ext-getD, take-append-seam}
+use Rattle.poly.specs.Carrier.{gf64}
+use Rattle.poly.specs.Polynomial.{padded}
+use Rattle.poly.proofs.Evaluation.{length-padded}
 
 unfoldable pub filled : List ℕ → List ℕ → ℕ → List ℕ
 filled target held j = take j target ++ drop j held
@@ -12,14 +19,20 @@ pub filled-start : (target held : List ℕ) → held ≡ filled target held 0
 unfolding filled
 filled-start target held = refl
 
-pub filled-next : (target held : List ℕ) (j : ℕ) → j < length held → length target ≡ length held
+filled-suc : (target held : List ℕ) (j : ℕ) → j < length held → length target ≡ length held
     → set (filled target held j) j (getD target j 0) ≡ filled target held (suc j)
 unfolding filled
-filled-next [] [] j h e = absurd (omega arith)
-filled-next [] (b ∷ held) j h e = absurd (omega arith)
-filled-next (a ∷ target) [] j h e = absurd (omega arith)
-filled-next (a ∷ target) (b ∷ held) zero h e = refl
-filled-next (a ∷ target) (b ∷ held) (suc j) h e = ap {B = List ℕ} (λ l. a ∷ l) (filled-next target held j (omega arith) (omega arith))
+filled-suc [] [] j h e = absurd (omega arith)
+filled-suc [] (b ∷ held) j h e = absurd (omega arith)
+filled-suc (a ∷ target) [] j h e = absurd (omega arith)
+filled-suc (a ∷ target) (b ∷ held) zero h e = refl
+filled-suc (a ∷ target) (b ∷ held) (suc j) h e = ap {B = List ℕ} (λ l. a ∷ l) (filled-suc target held j (omega arith) (omega arith))
+
+-- the next entry of the target is stored
+pub filled-next : (target held : List ℕ) (j v : ℕ) → j < length held → length target ≡ length held → v ≡ getD target j 0
+    → set (filled target held j) j v ≡ filled target held (j + 1)
+filled-next target held j v h e s =
+    ap (set (filled target held j) j) s ∙ filled-suc target held j h e ∙ ap (filled target held) (sym (add-one j))
 
 pub filled-all : (target held : List ℕ) (j : ℕ) → length held ≤ j → length target ≡ length held → filled target held j ≡ target
 unfolding filled
@@ -49,3 +62,60 @@ length-filled [] (b ∷ held) j e = absurd (omega arith)
 length-filled (a ∷ target) [] j e = absurd (omega arith)
 length-filled (a ∷ target) (b ∷ held) zero e = refl
 length-filled (a ∷ target) (b ∷ held) (suc j) e = ap suc (length-filled target held j (omega arith))
+
+pub getD-map : (f : ℕ → ℕ) (l : List ℕ) (j : ℕ) → j < length l → getD (map f l) j 0 ≡ f (getD l j 0)
+getD-map f [] j h = absurd (omega arith)
+getD-map f (a ∷ l) zero h = refl
+getD-map f (a ∷ l) (suc j) h = getD-map f l j (omega arith)
+
+-- an entry that is filled is the target's
+filled-getD : (target held : List ℕ) (j i : ℕ) → i < j → length target ≡ length held → getD (filled target held j) i 0 ≡ getD target i 0
+unfolding filled
+filled-getD [] [] zero i h e = absurd (omega arith)
+filled-getD [] [] (suc j) i h e = refl
+filled-getD [] (b ∷ held) j i h e = absurd (omega arith)
+filled-getD (a ∷ target) [] j i h e = absurd (omega arith)
+filled-getD (a ∷ target) (b ∷ held) zero i h e = absurd (omega arith)
+filled-getD (a ∷ target) (b ∷ held) (suc j) zero h e = refl
+filled-getD (a ∷ target) (b ∷ held) (suc j) (suc i) h e = filled-getD target held j i (omega arith) (omega arith)
+
+le-or-lt : (j i : ℕ) → (j ≤ i) ⊎ (i < j)
+le-or-lt zero i = inl (omega arith)
+le-or-lt (suc j) zero = inr (omega arith)
+le-or-lt (suc j) (suc i) = ⊎-elim (λ l. inl (omega arith)) (λ l. inr (omega arith)) (le-or-lt j i)
+
+-- where the target's other entries are those that the list held, it is filled
+pub filled-done : (target held : List ℕ) (j : ℕ) → length target ≡ length held → ((i : ℕ) → j ≤ i → getD target i 0 ≡ getD held i 0)
+    → filled target held j ≡ target
+filled-done target held j e same =
+    ext-getD 0 (filled target held j) target (length-filled target held j e ∙ sym e) (λ i h. at i (le-or-lt j i))
+  where
+    at : (i : ℕ) → (j ≤ i) ⊎ (i < j) → getD (filled target held j) i 0 ≡ getD target i 0
+    at i (inl l) = filled-rest target held j i l e ∙ sym (same i l)
+    at i (inr l) = filled-getD target held j i l e
+
+-- ---- zeros at the end
+
+getD-zeros : (n i : ℕ) → _≡_ {A = ℕ} (getD (replicate n 0) i 0) 0
+getD-zeros zero i = refl
+getD-zeros (suc n) zero = refl
+getD-zeros (suc n) (suc i) = getD-zeros n i
+
+getD-followed : (p : List ℕ) (n i : ℕ) → getD (p ++ replicate n 0) i 0 ≡ getD p i 0
+getD-followed [] n i = getD-zeros n i
+getD-followed (a ∷ p) n zero = refl
+getD-followed (a ∷ p) n (suc i) = getD-followed p n i
+
+pub getD-padded : (n : ℕ) (p : List ℕ) (i : ℕ) → getD (padded gf64 n p) i 0 ≡ getD p i 0
+unfolding padded
+getD-padded n p i = getD-followed p (n - length p) i
+
+-- a list of zeros in which p is filled in
+pub filled-padded : (n : ℕ) (p : List ℕ) (j : ℕ) → length p ≤ j → length p ≤ n → filled (padded gf64 n p) (replicate n 0) j ≡ padded gf64 n p
+filled-padded n p j h l =
+    filled-done (padded gf64 n p) (replicate n 0) j (length-padded gf64 n p l ∙ sym (length-replicate n 0))
+    (λ i k. getD-padded n p i ∙ List·getD-eq-default p 0 (le-trans h k) ∙ sym (getD-zeros n i))
+
+pub take-padded : (n : ℕ) (p : List ℕ) → take (length p) (padded gf64 n p) ≡ p
+unfolding padded
+take-padded n p = take-append-seam p (replicate (n - length p) 0)

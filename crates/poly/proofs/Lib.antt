@@ -7,4 +7,5 @@ pub mod Rows
 pub mod Theorems
 pub mod AtField
 pub mod Filling
+pub mod Parts
 mod Horner

@@ -1,0 +1,7 @@
+pub mod Span
+pub mod Clearing
+pub mod Points
+pub mod Sequence
+pub mod Dependence
+pub mod Theorems
+mod FirstPlace

@@ -1,0 +1,177 @@
+-- The points of a coset: images under additive maps, distinctness over an independent basis, elements. Assumes nothing.
+use mathlib.Core.Path.{_≡_, refl, sym, ap, ap₂, _∙_, subst}
+use mathlib.Core.Logic.{_≢_}
+use mathlib.Core.Bool.{Bool, cond}
+use mathlib.Core.List.{List, [], _∷_, map}
+use Prim.Native.Nat.{ℕ, zero, suc, _+_, _*_, _/_, _%_, _^_, _<_, _≤_}
+use native.Mathlib.Nat.{zero-mul, one-mul, mul-zero, add-zero, zero-add, add-suc, suc-add}
+use native.Mathlib.Omega.{arith}
+use lib.ListN.{length, getD, length-map}
+use lib.Bits.{bitXor, xor-comm, xor-lt}
+use borrow.Author.Tests.{eq-eqb, ne-eqb}
+use Rattle.gf64.specs.Field.{IsElement}
+use Rattle.gf64.proofs.Xor.{xor-cancel, by-bit, halves-eq}
+use Rattle.gf64.proofs.Additive.{Additive, additive-zero}
+use Rattle.refusal.specs.declared.Position.the-variants.{At, Absent}
+use Rattle.poly.specs.Polynomial.{All, Distinct}
+use Rattle.coset.specs.Coset.{point, listed, points}
+use Rattle.coset.specs.Span.{inSpan, firstDependentAfter, firstDependent, Independent}
+use Rattle.coset.specs.Elimination.{cleared}
+use Rattle.coset.proofs.Span.{first-image}
+use Rattle.coset.proofs.Clearing.{cleared-additive, cleared-self, cleared-kernel}
+
+-- ---- images
+
+bit-image : (f : ℕ → ℕ) → Additive f → (j b : ℕ) → f (j % 2 * b) ≡ j % 2 * f b
+bit-image f additive j b =
+    by-bit (λ (r : ℕ). f (r * b) ≡ r * f b)
+    (ap f (zero-mul b) ∙ additive-zero f additive ∙ sym (zero-mul (f b)))
+    (ap f (one-mul b) ∙ sym (one-mul (f b))) j
+
+pub point-image : (f : ℕ → ℕ) → Additive f → (offset : ℕ) (basis : List ℕ) (j : ℕ)
+    → f (point offset basis j) ≡ point (f offset) (map f basis) j
+unfolding point
+point-image f additive offset [] j = refl
+point-image f additive offset (b ∷ basis) j =
+    additive (j % 2 * b) (point offset basis (j / 2))
+    ∙ ap₂ bitXor (bit-image f additive j b) (point-image f additive offset basis (j / 2))
+
+-- ---- one element of the basis at a time
+
+-- the first element is not zero, and the others are independent once it is taken out of them
+pub first-taken : (b : ℕ) (basis : List ℕ) (place : ℕ) → b ≢ 0
+    → firstDependentAfter [] (b ∷ basis) place ≡ firstDependentAfter [] (map (cleared b) basis) (suc place)
+unfolding firstDependentAfter inSpan
+first-taken b basis place nz =
+    ap (λ (t : Bool). cond t (At place) (firstDependentAfter (b ∷ []) basis (suc place))) (ne-eqb b 0 nz)
+    ∙ first-image (cleared b) b (cleared-additive b nz) (cleared-kernel b nz) [] basis (suc place)
+
+pub first-zero : (b : ℕ) (basis : List ℕ) (place : ℕ) → b ≡ 0 → firstDependentAfter [] (b ∷ basis) place ≡ At place
+unfolding firstDependentAfter inSpan
+first-zero b basis place z =
+    ap (λ (t : Bool). cond t (At place) (firstDependentAfter (b ∷ []) basis (suc place))) (eq-eqb b 0 z)
+
+first-not-zero : (b : ℕ) (basis : List ℕ) (place : ℕ) → firstDependentAfter [] (b ∷ basis) place ≡ Absent → b ≢ 0
+first-not-zero b basis place e z = At-not-Absent (sym (first-zero b basis place z) ∙ e)
+  where
+    At-not-Absent : At place ≡ Absent → ⊥
+    At-not-Absent h = let impossible : _≡_ {A = ℕ} 0 1 = cc in omega arith
+
+-- ---- distinctness
+
+-- the image of a point under the map that clears the first element is a point over the others
+point-cleared : (b : ℕ) → b ≢ 0 → (offset : ℕ) (basis : List ℕ) (j : ℕ)
+    → cleared b (point offset (b ∷ basis) j) ≡ point (cleared b offset) (map (cleared b) basis) (j / 2)
+unfolding point
+point-cleared b nz offset basis j =
+    cleared-additive b nz (j % 2 * b) (point offset basis (j / 2))
+    ∙ ap₂ bitXor
+    (bit-image (cleared b) (cleared-additive b nz) j b ∙ ap (λ (s : ℕ). j % 2 * s) (cleared-self b nz) ∙ mul-zero (j % 2))
+    (point-image (cleared b) (cleared-additive b nz) offset basis (j / 2))
+
+multiple-injective : (b i j : ℕ) → b ≢ 0 → i < 2 → j < 2 → i * b ≡ j * b → i ≡ j
+multiple-injective b zero zero nz hi hj e = refl
+multiple-injective b zero (suc zero) nz hi hj e = absurd (nz (sym (one-mul b) ∙ sym e ∙ zero-mul b))
+multiple-injective b zero (suc (suc j)) nz hi hj e = absurd (omega arith)
+multiple-injective b (suc zero) zero nz hi hj e = absurd (nz (sym (one-mul b) ∙ e ∙ zero-mul b))
+multiple-injective b (suc zero) (suc zero) nz hi hj e = refl
+multiple-injective b (suc zero) (suc (suc j)) nz hi hj e = absurd (omega arith)
+multiple-injective b (suc (suc i)) j nz hi hj e = absurd (omega arith)
+
+xor-cancel-r : (a b c : ℕ) → bitXor a c ≡ bitXor b c → a ≡ b
+xor-cancel-r a b c e =
+    sym (xor-cancel c a) ∙ ap (bitXor c) (xor-comm c a ∙ e ∙ xor-comm b c) ∙ xor-cancel c b
+
+-- equal points with equal upper bits have equal lowest bits
+lowest-bit : (b offset : ℕ) (basis : List ℕ) (i j : ℕ) → b ≢ 0 → i / 2 ≡ j / 2
+    → point offset (b ∷ basis) i ≡ point offset (b ∷ basis) j → i % 2 ≡ j % 2
+unfolding point
+lowest-bit b offset basis i j nz h e =
+    multiple-injective b (i % 2) (j % 2) nz (omega arith) (omega arith)
+    (xor-cancel-r (i % 2 * b) (j % 2 * b) (point offset basis (j / 2))
+    (ap (λ (m : ℕ). bitXor (i % 2 * b) (point offset basis m)) (sym h) ∙ e))
+
+injective-of : (k : ℕ) (offset : ℕ) (basis : List ℕ) (place i j : ℕ) → length basis ≡ k
+    → firstDependentAfter [] basis place ≡ Absent → i < 2 ^ k → j < 2 ^ k
+    → point offset basis i ≡ point offset basis j → i ≡ j
+injective-of zero offset basis place i j l d hi hj e = omega arith
+injective-of (suc k) offset [] place i j l d hi hj e = absurd (omega arith)
+injective-of (suc k) offset (b ∷ basis) place i j l d hi hj e =
+    let nz : b ≢ 0 = first-not-zero b basis place d in
+    let halves : i / 2 ≡ j / 2 =
+    injective-of k (cleared b offset) (map (cleared b) basis) (suc place) (i / 2) (j / 2)
+    (length-map basis (cleared b) ∙ omega arith) (sym (first-taken b basis place nz) ∙ d) (omega arith) (omega arith)
+    (sym (point-cleared b nz offset basis i) ∙ ap (cleared b) e ∙ point-cleared b nz offset basis j)
+    in
+    halves-eq i j halves (lowest-bit b offset basis i j nz halves e)
+
+pub point-injective : (offset : ℕ) (basis : List ℕ) (i j : ℕ) → Independent basis → i < 2 ^ length basis → j < 2 ^ length basis
+    → point offset basis i ≡ point offset basis j → i ≡ j
+unfolding firstDependent
+point-injective offset basis i j d hi hj e = injective-of (length basis) offset basis 0 i j refl d hi hj e
+
+-- ---- the list of points
+
+pub length-listed : (f : ℕ → ℕ) (start count : ℕ) → length (listed f start count) ≡ count
+unfolding listed
+length-listed f start zero = refl
+length-listed f start (suc count) = ap suc (length-listed f (suc start) count)
+
+pub getD-listed : (f : ℕ → ℕ) (start count j : ℕ) → j < count → getD (listed f start count) j 0 ≡ f (start + j)
+unfolding listed
+getD-listed f start zero j h = absurd (omega arith)
+getD-listed f start (suc count) zero h = ap f (sym (add-zero start))
+getD-listed f start (suc count) (suc j) h =
+    getD-listed f (suc start) count j (omega arith) ∙ ap f (suc-add start j ∙ sym (add-suc start j))
+
+all-listed : (P : ℕ → Type 0) (f : ℕ → ℕ) (start count : ℕ) → ((j : ℕ) → start ≤ j → j < start + count → P (f j)) → All P (listed f start count)
+unfolding listed
+all-listed P f start zero h = record {}
+all-listed P f start (suc count) h =
+    (h start (omega arith) (omega arith), all-listed P f (suc start) count (λ j l u. h j (omega arith) (omega arith)))
+
+distinct-listed : (f : ℕ → ℕ) (start count : ℕ)
+    → ((i j : ℕ) → i < start + count → j < start + count → f i ≡ f j → i ≡ j) → Distinct (listed f start count)
+unfolding listed
+distinct-listed f start zero h = record {}
+distinct-listed f start (suc count) h = (
+  all-listed (λ y. y ≢ f start) f (suc start) count (λ j l u e. later-differs j l (h j start (omega arith) (omega arith) e)),
+  distinct-listed f (suc start) count (λ i j hi hj e. h i j (omega arith) (omega arith) e),
+)
+  where
+    later-differs : (j : ℕ) → suc start ≤ j → j ≡ start → ⊥
+    later-differs j l e = omega arith
+
+pub length-points : (offset : ℕ) (basis : List ℕ) → length (points offset basis) ≡ 2 ^ length basis
+unfolding points
+length-points offset basis = length-listed (point offset basis) 0 (2 ^ length basis)
+
+pub getD-points : (offset : ℕ) (basis : List ℕ) (j : ℕ) → j < 2 ^ length basis → getD (points offset basis) j 0 ≡ point offset basis j
+unfolding points
+getD-points offset basis j h =
+    getD-listed (point offset basis) 0 (2 ^ length basis) j h ∙ ap (point offset basis) (zero-add j)
+
+-- the points over an independent basis are pairwise distinct
+pub points-distinct : (offset : ℕ) (basis : List ℕ) → Independent basis → Distinct (points offset basis)
+unfolding points
+points-distinct offset basis d =
+    distinct-listed (point offset basis) 0 (2 ^ length basis)
+    (λ i j hi hj e. point-injective offset basis i j d (omega arith) (omega arith) e)
+
+-- ---- elements
+
+bit-element : (j b : ℕ) → IsElement b → IsElement (j % 2 * b)
+bit-element j b h =
+    by-bit (λ (r : ℕ). r * b < 2 ^ 64) (subst (λ (s : ℕ). s < 2 ^ 64) (sym (zero-mul b)) (omega arith))
+    (subst (λ (s : ℕ). s < 2 ^ 64) (sym (one-mul b)) h) j
+
+pub point-element : (offset : ℕ) (basis : List ℕ) (j : ℕ) → IsElement offset → All IsElement basis → IsElement (point offset basis j)
+unfolding point
+point-element offset [] j eo eb = eo
+point-element offset (b ∷ basis) j eo eb =
+    xor-lt 64 (j % 2 * b) (point offset basis (j / 2)) (bit-element j b (eb .0)) (point-element offset basis (j / 2) eo (eb .1))
+
+pub points-elements : (offset : ℕ) (basis : List ℕ) → IsElement offset → All IsElement basis → All IsElement (points offset basis)
+unfolding points
+points-elements offset basis eo eb =
+    all-listed IsElement (point offset basis) 0 (2 ^ length basis) (λ j l u. point-element offset basis j eo eb)

@@ -1,0 +1,19 @@
+-- The statements of specs/Theorems.antt, proved. Assumes nothing.
+use mathlib.Core.Path.{_∙_, sym, ap}
+use Rattle.coset.specs.Span.{inSpan}
+use Rattle.coset.specs.Theorems.{Cosets, FirstDependent}
+use Rattle.coset.proofs.Points.{length-points, getD-points, points-distinct}
+use Rattle.coset.proofs.Dependence.{point-shifted, reached-of-span, span-of-point, first-found, first-before, none-dependent}
+
+pub cosets : Cosets
+cosets =
+    record {
+      span = λ elements a. (reached-of-span elements a, λ r. sym (ap (inSpan elements) (r .2)) ∙ span-of-point elements (r .0));
+      shifted = point-shifted;
+      count = length-points;
+      in-order = getD-points;
+      distinct = points-distinct;
+    }
+
+pub first-dependent : FirstDependent
+first-dependent = record { found = first-found; first = first-before; none = none-dependent }

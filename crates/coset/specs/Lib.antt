@@ -1,0 +1,5 @@
+pub mod Coset
+pub mod Span
+pub mod Elimination
+pub mod Sequence
+pub mod Theorems

@@ -1,0 +1,28 @@
+-- What is proved of cosets, as a statement: proofs/Theorems.antt has a value of it.
+use mathlib.Core.Path.{_≡_}
+use mathlib.Core.Logic.{_↔_}
+use mathlib.Core.Bool.{true, false}
+use mathlib.Core.List.{List}
+use Prim.Native.Nat.{ℕ, _^_, _<_}
+use lib.ListN.{length, getD, take}
+use Rattle.refusal.specs.declared.Position.the-variants.{At}
+use Rattle.gf64.specs.Field.{sum}
+use Rattle.poly.specs.Polynomial.{Distinct}
+use Rattle.coset.specs.Coset.{point, points}
+use Rattle.coset.specs.Span.{inSpan, firstDependent, Independent}
+
+pub record Cosets : Type 0 where
+  -- the span is the coset with offset 0
+  pub span : (elements : List ℕ) (a : ℕ)
+      → (inSpan elements a ≡ true) ↔ ((j : ℕ) × (j < 2 ^ length elements) × (point 0 elements j ≡ a))
+  pub shifted : (offset : ℕ) (basis : List ℕ) (j : ℕ) → point offset basis j ≡ sum offset (point 0 basis j)
+  pub count : (offset : ℕ) (basis : List ℕ) → length (points offset basis) ≡ 2 ^ length basis
+  pub in-order : (offset : ℕ) (basis : List ℕ) (j : ℕ) → j < 2 ^ length basis → getD (points offset basis) j 0 ≡ point offset basis j
+  pub distinct : (offset : ℕ) (basis : List ℕ) → Independent basis → Distinct (points offset basis)
+
+-- `firstDependent` finds the first element that lies in the span of the earlier ones
+pub record FirstDependent : Type 0 where
+  pub found : (basis : List ℕ) (i : ℕ) → firstDependent basis ≡ At i
+      → (i < length basis) × (inSpan (take i basis) (getD basis i 0) ≡ true)
+  pub first : (basis : List ℕ) (i t : ℕ) → firstDependent basis ≡ At i → t < i → inSpan (take t basis) (getD basis t 0) ≡ false
+  pub none : (basis : List ℕ) (t : ℕ) → Independent basis → t < length basis → inSpan (take t basis) (getD basis t 0) ≡ false

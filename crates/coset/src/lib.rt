@@ -1,0 +1,95 @@
+// Cosets: whether a basis is independent, and the points in sequence.
+use field::Element;
+use refusal::Position;
+ghost use mathlib.Core.Path.{_≡_};
+ghost use mathlib.Core.List.{map};
+ghost use Prim.Native.Nat.{min};
+ghost use lib.ListN.{length, getD, take};
+ghost use lib.Count.{trailingZeros};
+ghost use Rattle.gf64.specs.Field.{sum};
+ghost use Rattle.poly.specs.Carrier.{gf64};
+ghost use Rattle.poly.specs.Polynomial.{padded};
+ghost use Rattle.coset.specs.Span.{firstDependent};
+ghost use Rattle.coset.specs.Elimination.{cleared};
+ghost use Rattle.coset.specs.Sequence.{prefixSums};
+
+// The first place whose element lies in the span of the earlier ones, among the first 20 elements: no basis has more.
+pub fn first_dependent(basis: &[u64]) -> Position
+    ensures { λ r. ⌜ r ≡ firstDependent (take 20 (now (basis .entry))) ⌝ }
+{
+    let count = at_most_20(basis.len());
+    let mut rows = [0u64; 20];
+    let mut i: usize = 0;
+    while i < count {
+        rows[i] = basis[i];
+        i += 1;
+    }
+    first_dependent_of(&mut rows[..count])
+}
+
+fn at_most_20(length: usize) -> usize
+    ensures { λ r. ⌜ r ≡ min length 20 ⌝ }
+{
+    if length < 20 { length } else { 20 }
+}
+
+// The same of any list, by elimination in the list itself.
+fn first_dependent_of(rows: &mut [u64]) -> Position
+    ensures { λ r. ⌜ r ≡ firstDependent (now (rows .entry)) ⌝ }
+{
+    let mut place: usize = 0;
+    while place < rows.len() {
+        let row = rows[place];
+        if row == 0 {
+            return Position::At(place);
+        }
+        place += 1;
+        clear(&mut rows[place..], row);
+    }
+    Position::Absent
+}
+
+// Clears the highest bit of row from each of the rows.
+fn clear(rows: &mut [u64], row: u64)
+    ensures { λ _. ⌜ now (rows .exit) ≡ map (cleared row) (now (rows .entry)) ⌝ }
+{
+    let mut i: usize = 0;
+    while i < rows.len() {
+        rows[i] = cleared(row, rows[i]);
+        i += 1;
+    }
+}
+
+fn cleared(row: u64, a: u64) -> u64
+    ensures { λ r. ⌜ r ≡ cleared row a ⌝ }
+{
+    if (a ^ row) < a { a ^ row } else { a }
+}
+
+// Entry t is the sum of the first t + 1 elements of a basis of at most 20: `stepped` goes from point to point by them.
+pub fn prefix_sums(basis: &[u64]) -> [u64; 20]
+    ensures { λ r. ⌜ r ≡ padded gf64 20 (prefixSums 0 (take 20 (now (basis .entry)))) ⌝ }
+{
+    let count = at_most_20(basis.len());
+    let mut sums = [0u64; 20];
+    let mut sum: u64 = 0;
+    let mut t: usize = 0;
+    while t < count {
+        sum = sum ^ basis[t];
+        sums[t] = sum;
+        t += 1;
+    }
+    sums
+}
+
+// From point j of a coset to point j + 1, or from point j + 1 to point j, where next is j + 1.
+pub fn stepped(sums: &[u64], point: Element, next: usize) -> Element
+    ensures { λ r. ⌜ r .0 ≡ sum (point .0) (getD (now (sums .entry)) (trailingZeros 64 next) 0) ⌝ }
+{
+    let t = usize::trailing_zeros(next) as usize;
+    if t < sums.len() {
+        point.sum(Element(sums[t]))
+    } else {
+        point
+    }
+}
