@@ -22,6 +22,12 @@ point-shifted offset [] j = sym (xor-zero-r offset)
 point-shifted offset (b ∷ basis) j =
     ap (bitXor (j % 2 * b)) (point-shifted offset basis (j / 2)) ∙ xor-left-comm (j % 2 * b) offset (point 0 basis (j / 2))
 
+-- point 0 is the offset
+pub point-first : (offset : ℕ) (basis : List ℕ) → point offset basis 0 ≡ offset
+unfolding point
+point-first offset [] = refl
+point-first offset (b ∷ basis) = ap₂ bitXor (zero-mul b) (point-first offset basis)
+
 abbrev Reached : List ℕ → ℕ → Type 0
 Reached elements a = (j : ℕ) × (j < 2 ^ length elements) × (point 0 elements j ≡ a)
 

@@ -5,3 +5,4 @@ pub mod Sequence
 pub mod Dependence
 pub mod Theorems
 mod FirstPlace
+mod IndexBits

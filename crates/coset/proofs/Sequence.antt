@@ -95,14 +95,3 @@ pub point-next : (offset : ℕ) (basis : List ℕ) (j : ℕ) → length basis �
     → bitXor (point offset basis j) (getD (prefixSums 0 basis) (trailingZeros 64 (suc j)) 0) ≡ point offset basis (suc j)
 point-next offset basis j l h =
     ap (bitXor (point offset basis j)) (sum-of-step 64 0 offset basis j l h) ∙ xor-cancel (point offset basis j) (point offset basis (suc j))
-
--- and back
-pub point-before : (offset : ℕ) (basis : List ℕ) (j : ℕ) → length basis ≤ 64 → suc j < 2 ^ length basis
-    → bitXor (point offset basis (suc j)) (getD (prefixSums 0 basis) (trailingZeros 64 (suc j)) 0) ≡ point offset basis j
-point-before offset basis j l h =
-    ap (λ (s : ℕ). bitXor s sum-of-first) (sym (point-next offset basis j l h))
-    ∙ xor-assoc (point offset basis j) sum-of-first sum-of-first ∙ ap (bitXor (point offset basis j)) (xor-self sum-of-first)
-    ∙ xor-zero-r (point offset basis j)
-  where
-    sum-of-first : ℕ
-    sum-of-first = getD (prefixSums 0 basis) (trailingZeros 64 (suc j)) 0

@@ -9,6 +9,7 @@ ghost use lib.Count.{trailingZeros};
 ghost use Rattle.gf64.specs.Field.{sum};
 ghost use Rattle.poly.specs.Carrier.{gf64};
 ghost use Rattle.poly.specs.Polynomial.{padded};
+ghost use Rattle.coset.specs.Coset.{point};
 ghost use Rattle.coset.specs.Span.{firstDependent};
 ghost use Rattle.coset.specs.Elimination.{cleared};
 ghost use Rattle.coset.specs.Sequence.{prefixSums};
@@ -66,6 +67,23 @@ fn cleared(row: u64, a: u64) -> u64
     if (a ^ row) < a { a ^ row } else { a }
 }
 
+// Point j of the coset.
+pub fn point(offset: Element, basis: &[u64], j: usize) -> Element
+    ensures { λ r. ⌜ r .0 ≡ point (offset .0) (now (basis .entry)) j ⌝ }
+{
+    let mut point = offset;
+    let mut bits = j;
+    let mut t: usize = 0;
+    while t < basis.len() {
+        if bits % 2 == 1 {
+            point = point.sum(Element(basis[t]));
+        }
+        bits = bits / 2;
+        t += 1;
+    }
+    point
+}
+
 // Entry t is the sum of the first t + 1 elements of a basis of at most 20: `stepped` goes from point to point by them.
 pub fn prefix_sums(basis: &[u64]) -> [u64; 20]
     ensures { λ r. ⌜ r ≡ padded gf64 20 (prefixSums 0 (take 20 (now (basis .entry)))) ⌝ }
@@ -82,7 +100,7 @@ pub fn prefix_sums(basis: &[u64]) -> [u64; 20]
     sums
 }
 
-// From point j of a coset to point j + 1, or from point j + 1 to point j, where next is j + 1.
+// From point j of a coset to point j + 1, where next is j + 1.
 pub fn stepped(sums: &[u64], point: Element, next: usize) -> Element
     ensures { λ r. ⌜ r .0 ≡ sum (point .0) (getD (now (sums .entry)) (trailingZeros 64 next) 0) ⌝ }
 {

@@ -1,5 +1,7 @@
 -- The field of 2^64 elements is such a carrier; so the theorems hold there. Assumes nothing.
 use mathlib.Core.Path.{refl}
+use mathlib.Core.Logic.{_≢_}
+use native.Mathlib.Omega.{arith}
 use native.Mathlib.Bridge.{le-by-compare, IsLe}
 use lib.Bits.{xor-comm, xor-self, xor-lt}
 use Prim.Native.Nat.{ℕ, _^_}
@@ -10,6 +12,9 @@ use Rattle.gf64.proofs.Inverse.{inverse-lt, inverse-right}
 use Rattle.poly.specs.Carrier.{Laws, gf64}
 use Rattle.poly.specs.Theorems.{Roots, Interpolation, Division}
 use Rattle.poly.proofs.Theorems as over-carriers
+
+one-not-zero : _≢_ {A = ℕ} 1 0
+one-not-zero e = omega arith
 
 pub gf64-laws : Laws ℕ gf64 IsElement
 unfolding IsLe
@@ -27,6 +32,7 @@ gf64-laws =
       sum-element = xor-lt 64;
       product-element = λ a b ea eb. product-lt a b;
       inverse-element = λ a ea. inverse-lt a;
+      one-not-nought = one-not-zero;
       one-neutral = product-one-l;
       inverse-divides = inverse-right;
     }

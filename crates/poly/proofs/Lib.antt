@@ -4,6 +4,7 @@ pub mod Roots
 pub mod Interpolation
 pub mod Division
 pub mod Rows
+pub mod Newton
 pub mod Theorems
 pub mod AtField
 pub mod Filling

@@ -25,6 +25,7 @@ pub record Laws (A : Type 0) (F : Operations A) (Element : A → Type 0) : Type 
   pub sum-element : (a b : A) → Element a → Element b → Element (F .sum a b)
   pub product-element : (a b : A) → Element a → Element b → Element (F .product a b)
   pub inverse-element : (a : A) → Element a → Element (F .inverse a)
+  pub one-not-nought : F .one ≢ F .nought
   pub one-neutral : (a : A) → Element a → F .product (F .one) a ≡ a
   pub inverse-divides : (a : A) → Element a → a ≢ F .nought → F .product a (F .inverse a) ≡ F .one
 

@@ -1,4 +1,5 @@
 pub mod Carrier
 pub mod Polynomial
 pub mod Rows
+pub mod Newton
 pub mod Theorems

@@ -2,6 +2,8 @@
 use Prim.Native.Nat.{ℕ}
 use Rattle.refusal.specs.declared.Cause.{Cause}
 use Rattle.refusal.specs.declared.Cause.the-variants.{BytesEnd, CountDiffers, TrailingBytes, DimensionOutOfRange, RateOutOfRange, StepOutOfRange, DimensionTooSmall, BasisDependent, QueryCountOutOfRange, QueryOutOfRange, RoundCheckFails, DegreeTooLarge, WrongLength, InputTooLong, InverseOfZero, LaterBasisDependent}
+use Rattle.refusal.specs.declared.Outcome.{Outcome}
+use Rattle.refusal.specs.declared.Outcome.the-variants.{Done, Refused}
 use Rattle.refusal.specs.declared.Position.{Position}
 use Rattle.refusal.specs.declared.Position.the-variants.{At, Absent}
 
@@ -61,3 +63,8 @@ roundOf (WrongLength list) = Absent
 roundOf InputTooLong = Absent
 roundOf InverseOfZero = Absent
 roundOf (LaterBasisDependent round) = At round
+
+-- the number of an outcome: 0 where it went well, else that of the cause
+abbrev pub numberOfOutcome : Outcome → ℕ
+numberOfOutcome Done = 0
+numberOfOutcome (Refused cause) = numberOf cause

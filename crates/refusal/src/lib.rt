@@ -40,6 +40,12 @@ pub enum Cause {
     LaterBasisDependent { round: usize },
 }
 
+// What an operation answers that gives no value.
+pub enum Outcome {
+    Done,
+    Refused(Cause),
+}
+
 // A place or a round, where there is one.
 pub enum Position {
     At(usize),

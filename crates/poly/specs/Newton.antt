@@ -1,0 +1,42 @@
+-- Newton's form of a polynomial, c₀ + c₁ · (X - x₀) + c₂ · (X - x₀) · (X - x₁) + .. ; only inner functions cite this.
+use mathlib.Core.List.{List, [], _∷_, _++_}
+use Rattle.poly.specs.Carrier.{Operations}
+use Rattle.poly.specs.Polynomial.{timesLinear}
+
+-- its value at z
+unfoldable pub newtonValue : {A : Type 0} → Operations A → List A → List A → A → A
+newtonValue F [] cs z = F .nought
+newtonValue F (x ∷ points) [] z = F .nought
+newtonValue F (x ∷ points) (c ∷ cs) z = F .sum c (F .product (F .sum z x) (newtonValue F points cs z))
+
+-- the product of the differences of z and the points
+unfoldable pub weight : {A : Type 0} → Operations A → List A → A → A
+weight F [] z = F .one
+weight F (x ∷ points) z = F .product (F .sum z x) (weight F points z)
+
+-- the next coefficient: with it the form has the value y at z
+unfoldable pub newtonCoefficient : {A : Type 0} → Operations A → List A → List A → A → A → A
+newtonCoefficient F points cs z y = F .product (F .sum y (newtonValue F points cs z)) (F .inverse (weight F points z))
+
+-- the coefficients for further points and values, where those for earlier points are known
+unfoldable pub newtonAfter : {A : Type 0} → Operations A → List A → List A → List A → List A → List A
+newtonAfter F earlier known [] values = []
+newtonAfter F earlier known (x ∷ points) [] = []
+newtonAfter F earlier known (x ∷ points) (y ∷ values) =
+    let c = newtonCoefficient F earlier known x y in
+    c ∷ newtonAfter F (earlier ++ (x ∷ [])) (known ++ (c ∷ [])) points values
+
+-- the coefficients of the form that has the values at the points
+unfoldable pub newtonCoefficients : {A : Type 0} → Operations A → List A → List A → List A
+newtonCoefficients F points values = newtonAfter F [] [] points values
+
+-- the coefficients c, p as those of c + (X - x) · p
+unfoldable pub joined : {A : Type 0} → Operations A → A → List A → List A
+joined F x [] = []
+joined F x (c ∷ p) = timesLinear F c x p
+
+-- the polynomial itself: from the last point to the first
+unfoldable pub expanded : {A : Type 0} → Operations A → List A → List A → List A
+expanded F [] cs = []
+expanded F (x ∷ points) [] = []
+expanded F (x ∷ points) (c ∷ cs) = joined F x (c ∷ expanded F points cs)

@@ -1,0 +1,119 @@
+-- The order of the refusals, one check after the other, and what holds where all have passed. Assumes nothing.
+use mathlib.Core.Path.{_≡_, refl, sym, ap, ap₂, _∙_, subst}
+use mathlib.Core.Bool.{Bool, true, false, cond, not}
+use mathlib.Core.List.{List}
+use Prim.Native.Nat.{ℕ, _^_, _≤_, _<_}
+use native.Mathlib.Omega.{arith}
+use lib.Dec.{T, leb, eqb, leb→le, eqb→eq}
+use lib.ListN.{length}
+use borrow.Author.Tests.{le-leb, lt-leb}
+use Rattle.refusal.specs.declared.Cause.{Cause}
+use Rattle.refusal.specs.declared.Cause.the-variants.{DimensionOutOfRange, BasisDependent, WrongLength}
+use Rattle.refusal.specs.declared.Outcome.{Outcome}
+use Rattle.refusal.specs.declared.Outcome.the-variants.{Done, Refused}
+use Rattle.refusal.specs.declared.Position.{Position}
+use Rattle.refusal.specs.declared.Position.the-variants.{At, Absent}
+use Rattle.coset.specs.Span.{firstDependent, Independent}
+use Rattle.reed_solomon.specs.Answers.{outcomeOfBasis, checked, encodeOutcome, interpolateOutcome, afterwards}
+
+pub not-true : (a : Bool) → not a ≡ true → a ≡ false
+not-true true e = sym e
+not-true false e = refl
+
+pub not-false : (a : Bool) → not a ≡ false → a ≡ true
+not-false true e = refl
+not-false false e = sym e
+
+-- the checks as a function of their results
+unfoldable picked : Bool → Bool → Bool → Outcome → Outcome
+picked k fits3 fits6 rest = cond k (cond fits3 (cond fits6 rest (Refused (WrongLength 6))) (Refused (WrongLength 3))) (Refused DimensionOutOfRange)
+
+module _ (basis : List ℕ) (fits3 fits6 : Bool) where
+  pub dimension-refused : 12 < length basis → Refused DimensionOutOfRange ≡ checked basis fits3 fits6
+  unfolding picked
+  dimension-refused h = sym (ap (λ (k : Bool). picked k fits3 fits6 (outcomeOfBasis (firstDependent basis))) (lt-leb (length basis) 12 h))
+
+  pub list3-refused : length basis ≤ 12 → fits3 ≡ false → Refused (WrongLength 3) ≡ checked basis fits3 fits6
+  unfolding picked
+  list3-refused h e =
+      sym (ap₂ (λ (k a : Bool). picked k a fits6 (outcomeOfBasis (firstDependent basis))) (le-leb (length basis) 12 h) e)
+
+  pub list6-refused : length basis ≤ 12 → fits3 ≡ true → fits6 ≡ false → Refused (WrongLength 6) ≡ checked basis fits3 fits6
+  unfolding picked
+  list6-refused h e f =
+      sym
+      (ap₂ (λ (k a : Bool). picked k a fits6 (outcomeOfBasis (firstDependent basis))) (le-leb (length basis) 12 h) e
+      ∙ ap (λ (b : Bool). picked true true b (outcomeOfBasis (firstDependent basis))) f)
+
+  pub basis-looked-at : length basis ≤ 12 → fits3 ≡ true → fits6 ≡ true → outcomeOfBasis (firstDependent basis) ≡ checked basis fits3 fits6
+  unfolding picked
+  basis-looked-at h e f =
+      sym
+      (ap₂ (λ (k a : Bool). picked k a fits6 (outcomeOfBasis (firstDependent basis))) (le-leb (length basis) 12 h) e
+      ∙ ap (λ (b : Bool). picked true true b (outcomeOfBasis (firstDependent basis))) f)
+
+-- where all have passed
+pub record Passed (basis : List ℕ) (fits3 fits6 : Bool) : Type 0 where
+  pub small : length basis ≤ 12
+  pub list3 : fits3 ≡ true
+  pub list6 : fits6 ≡ true
+  pub independent : Independent basis
+
+refused-not-done : (cause : Cause) → Refused cause ≡ Done → ⊥
+refused-not-done cause e = let impossible : _≡_ {A = ℕ} 0 1 = cc in omega arith
+
+pub passed : (basis : List ℕ) (fits3 fits6 : Bool) → checked basis fits3 fits6 ≡ Done → Passed basis fits3 fits6
+unfolding picked
+passed basis fits3 fits6 e = by (leb (length basis) 12) fits3 fits6 (firstDependent basis) refl refl refl refl e
+  where
+    by : (k a b : Bool) (p : Position) → leb (length basis) 12 ≡ k → fits3 ≡ a → fits6 ≡ b → firstDependent basis ≡ p
+        → picked k a b (outcomeOfBasis p) ≡ Done → Passed basis fits3 fits6
+    by false a b p ek ea eb ep d = absurd (refused-not-done DimensionOutOfRange d)
+    by true false b p ek ea eb ep d = absurd (refused-not-done (WrongLength 3) d)
+    by true true false p ek ea eb ep d = absurd (refused-not-done (WrongLength 6) d)
+    by true true true (At place) ek ea eb ep d = absurd (refused-not-done (BasisDependent place) d)
+    by true true true Absent ek ea eb ep d =
+        record { small = leb→le (length basis) 12 (subst T (sym ek) tt); list3 = ea; list6 = eb; independent = ep }
+
+-- 2^k, or 0 where k is refused anyway
+abbrev pub sizeOf : ℕ → ℕ
+sizeOf k = cond (leb k 12) (2 ^ k) 0
+
+-- the tests of the lengths may take any size where k is refused anyway
+pub checked-size : (basis : List ℕ) (fits3 fits6 : ℕ → Bool)
+    → checked basis (fits3 (sizeOf (length basis))) (fits6 (sizeOf (length basis))) ≡ checked basis (fits3 (2 ^ length basis)) (fits6 (2 ^ length basis))
+unfolding picked
+checked-size basis fits3 fits6 = by (leb (length basis) 12)
+  where
+    by : (k : Bool)
+        → picked k (fits3 (cond k (2 ^ length basis) 0)) (fits6 (cond k (2 ^ length basis) 0)) (outcomeOfBasis (firstDependent basis))
+        ≡ picked k (fits3 (2 ^ length basis)) (fits6 (2 ^ length basis)) (outcomeOfBasis (firstDependent basis))
+    by true = refl
+    by false = refl
+
+-- what the code answers, with the size as it computes it
+pub encode-answer : (basis coefficients values : List ℕ) (size : ℕ) (answer : Outcome) → size ≡ sizeOf (length basis)
+    → answer ≡ checked basis (leb (length coefficients) size) (eqb (length values) size) → encodeOutcome basis coefficients values ≡ answer
+encode-answer basis coefficients values size answer e a =
+    sym
+    (a
+    ∙ ap (λ (n : ℕ). checked basis (leb (length coefficients) n) (eqb (length values) n)) e
+    ∙ checked-size basis (leb (length coefficients)) (eqb (length values)))
+
+pub interpolate-answer : (basis word coefficients : List ℕ) (size : ℕ) (answer : Outcome) → size ≡ sizeOf (length basis)
+    → answer ≡ checked basis (eqb (length word) size) (eqb (length coefficients) size) → interpolateOutcome basis word coefficients ≡ answer
+interpolate-answer basis word coefficients size answer e a =
+    sym
+    (a
+    ∙ ap (λ (n : ℕ). checked basis (eqb (length word) n) (eqb (length coefficients) n)) e
+    ∙ checked-size basis (eqb (length word)) (eqb (length coefficients)))
+
+pub equal-of-test : (m n : ℕ) → eqb m n ≡ true → m ≡ n
+equal-of-test m n e = eqb→eq m n (subst T (sym e) tt)
+
+-- the list afterwards, by the outcome
+pub after-done : (outcome : Outcome) (wanted held : List ℕ) → outcome ≡ Done → wanted ≡ afterwards outcome wanted held
+after-done outcome wanted held e = sym (ap (λ (o : Outcome). afterwards o wanted held) e)
+
+pub after-refused : (outcome : Outcome) (cause : Cause) (wanted held : List ℕ) → outcome ≡ Refused cause → held ≡ afterwards outcome wanted held
+after-refused outcome cause wanted held e = sym (ap (λ (o : Outcome). afterwards o wanted held) e)

@@ -1,0 +1,128 @@
+-- `reed_solomon::newton_coefficient` meets its contract. The loop's invariant: value and weight are those of the first j points, and x is
+-- point j. Assumes nothing.
+use mathlib.Core.Path.{_≡_, refl, sym, ap, ap₂, _∙_}
+use mathlib.Core.List.{List}
+use Prim.Native.Nat.{ℕ, _+_, _-_, _^_, _≤_, _<_}
+use lib.ListN.{length, getD, take}
+use lib.Count.{trailingZeros}
+use Rattle.gf64.specs.Field.{sum, product}
+use Rattle.poly.specs.Carrier.{gf64}
+use Rattle.poly.specs.Newton.{newtonValue, weight}
+use Rattle.coset.specs.Coset.{point, points}
+use Rattle.coset.proofs.Dependence.{point-first}
+use Rattle.coset.proofs.Points.{length-points, getD-points}
+use Rattle.reed_solomon.proofs.Values.{point-stepped}
+use Rattle.reed_solomon.proofs.NewtonSteps.{value-next, weight-next, coefficient-end}
+use borrow.Author.Needs.{needs}
+use native.Mathlib.Omega.{arith}
+use Rattle.reed_solomon.proofs.newton_coefficient.Statement.{statement}
+use Rattle.reed_solomon.proofs.newton_coefficient.Tie as tie
+
+abbrev Inv-loop : tie.InvT-loop
+Inv-loop basis known z y sums value₀ weight₀ x₀ j₀ value product x j =
+    (j ≤ length known) × (value .0 ≡ newtonValue gf64 (take j (points (x₀ .0) basis)) (take j known) (z .0))
+    × (product .0 ≡ weight gf64 (take j (points (x₀ .0) basis)) (z .0)) × (j < length known → x .0 ≡ point (x₀ .0) basis j)
+
+abbrev μ-loop : tie.MeasureT-loop
+μ-loop basis known z y sums value₀ weight₀ x₀ j₀ value product x j = length known - j
+
+prefix-sums-requires : tie.Need-prefix-sums-requires Inv-loop μ-loop
+prefix-sums-requires c κs = search needs
+
+loop-holds : tie.Need-loop-holds Inv-loop μ-loop
+unfolding newtonValue weight
+loop-holds c =
+    let a = c .before .before .before .args in
+    (search needs, refl, refl, λ h. sym (point-first (a .offset .0) (a .basis .now)))
+
+mul-t12 : tie.Need-mul-t12 Inv-loop μ-loop
+mul-t12 c = search needs
+
+shared-slice-read-t16 : tie.Need-shared-slice-read-t16 Inv-loop μ-loop
+shared-slice-read-t16 c = search needs
+
+product-requires : tie.Need-product-requires Inv-loop μ-loop
+product-requires c κs = search needs
+
+sum-requires : tie.Need-sum-requires Inv-loop μ-loop
+sum-requires c κs = search needs
+
+sum-requires-2 : tie.Need-sum-requires-2 Inv-loop μ-loop
+sum-requires-2 c κs = search needs
+
+product-requires-2 : tie.Need-product-requires-2 Inv-loop μ-loop
+product-requires-2 c κs = search needs
+
+add-j : tie.Need-add-j Inv-loop μ-loop
+add-j c = search needs
+
+slice-aggregate-stepped : tie.Need-slice-aggregate-stepped Inv-loop μ-loop
+slice-aggregate-stepped c = search needs
+
+stepped-requires : tie.Need-stepped-requires Inv-loop μ-loop
+stepped-requires c κs = search needs
+
+loop-less : tie.Need-loop-less Inv-loop μ-loop
+loop-less c = search needs
+
+loop-again : tie.Need-loop-again Inv-loop μ-loop
+loop-again c =
+    let start = c .before .before .before .before .before .before .before .before .before .before .before .before in
+    let a = start .args in
+    let l = c .before .before .before .before .before .before .before .before .loop in
+    let inside : l .j < length (a .known .now) = omega arith in
+    let below : l .j < 2 ^ length (a .basis .now) = omega (arith, start .pre .1) in
+    let among : l .j < length (points (a .offset .0) (a .basis .now)) = omega (arith, length-points (a .offset .0) (a .basis .now)) in
+    let at : l .x .0 ≡ getD (points (a .offset .0) (a .basis .now)) (l .j) 0 = l .inv .3 inside ∙ sym (getD-points (a .offset .0) (a .basis .now) (l .j) below) in (
+      search needs,
+      c .before .before .before .before .sum .ensures
+          ∙ ap (sum (l .value .0)) (c .before .before .before .before .before .product .ensures .0)
+          ∙ value-next (points (a .offset .0) (a .basis .now)) (a .known .now) (l .j) (a .z .0) (l .value .0) (l .weight .0) among inside
+          (omega (arith, c .before .before .before .before .before .before .shared-slice-known3 .given (l .j))) (l .inv .1) (l .inv .2),
+      c .before .before .product2 .ensures .0 ∙ ap (product (l .weight .0)) (c .before .before .before .sum2 .ensures ∙ ap (sum (a .z .0)) at)
+          ∙ weight-next (points (a .offset .0) (a .basis .now)) (l .j) (a .z .0) (l .weight .0) among (l .inv .2),
+      λ h. c .stepped .ensures
+          ∙ ap (λ (sums : List ℕ). sum (l .x .0) (getD sums (trailingZeros 64 (l .j + 1)) 0)) (c .before .before .before .before .before .before .before .before .before .prefix-sums .ensures)
+          ∙ point-stepped (a .offset .0) (a .basis .now) (l .j) (l .x .0) (start .pre .0) (l .inv .3 inside) (omega (arith, start .pre .1)),
+    )
+
+sum-requires-3 : tie.Need-sum-requires-3 Inv-loop μ-loop
+sum-requires-3 c κs = search needs
+
+inverse-or-zero-requires : tie.Need-inverse-or-zero-requires Inv-loop μ-loop
+inverse-or-zero-requires c κs = search needs
+
+product-requires-3 : tie.Need-product-requires-3 Inv-loop μ-loop
+product-requires-3 c κs = search needs
+
+returns : tie.Need-returns Inv-loop μ-loop
+returns c =
+    let a = c .before .before .before .before .before .before .before .before .args in
+    let l = c .before .before .before .before .loop in
+    c .product3 .ensures .0 ∙ ap₂ product (c .before .before .sum3 .ensures) (c .before .inverse-or-zero .ensures)
+    ∙ coefficient-end (points (a .offset .0) (a .basis .now)) (a .known .now) (l .j) (a .z .0) (a .y .0) (l .value .0) (l .weight .0)
+    (l .inv .0) (c .before .before .before .loop-test .left) (l .inv .1) (l .inv .2)
+
+pub newton-coefficient-spec : {M : Type 1} → statement M
+newton-coefficient-spec =
+    tie.close
+    (tie.spec
+    Inv-loop
+    μ-loop
+    prefix-sums-requires
+    loop-holds
+    mul-t12
+    shared-slice-read-t16
+    product-requires
+    sum-requires
+    sum-requires-2
+    product-requires-2
+    add-j
+    slice-aggregate-stepped
+    stepped-requires
+    loop-less
+    loop-again
+    sum-requires-3
+    inverse-or-zero-requires
+    product-requires-3
+    returns)

@@ -1,0 +1,39 @@
+-- What encoding and interpolation answer, and what the lent list holds afterwards. The dimension k is the length of the basis.
+use mathlib.Core.Bool.{Bool, cond}
+use mathlib.Core.List.{List}
+use Prim.Native.Nat.{ℕ, _^_}
+use lib.Dec.{leb, eqb}
+use lib.ListN.{length}
+use Rattle.refusal.specs.declared.Cause.the-variants.{DimensionOutOfRange, BasisDependent, WrongLength}
+use Rattle.refusal.specs.declared.Outcome.{Outcome}
+use Rattle.refusal.specs.declared.Outcome.the-variants.{Done, Refused}
+use Rattle.refusal.specs.declared.Position.{Position}
+use Rattle.refusal.specs.declared.Position.the-variants.{At, Absent}
+use Rattle.coset.specs.Span.{firstDependent}
+
+-- a dependent basis is refused at its first dependent place
+abbrev pub outcomeOfBasis : Position → Outcome
+outcomeOfBasis (At place) = Refused (BasisDependent place)
+outcomeOfBasis Absent = Done
+
+-- in the order of document 01: k over 12 (number 4); the lowest list that does not fit, 3 or 6 (13); a dependent basis (8)
+abbrev pub checked : List ℕ → Bool → Bool → Outcome
+checked basis fits3 fits6 =
+    cond (leb (length basis) 12)
+    (cond fits3 (cond fits6 (outcomeOfBasis (firstDependent basis)) (Refused (WrongLength 6))) (Refused (WrongLength 3)))
+    (Refused DimensionOutOfRange)
+
+-- at most 2^k coefficients, exactly 2^k values
+abbrev pub encodeOutcome : List ℕ → List ℕ → List ℕ → Outcome
+encodeOutcome basis coefficients values =
+    checked basis (leb (length coefficients) (2 ^ length basis)) (eqb (length values) (2 ^ length basis))
+
+-- exactly 2^k entries of the word, exactly 2^k coefficients
+abbrev pub interpolateOutcome : List ℕ → List ℕ → List ℕ → Outcome
+interpolateOutcome basis word coefficients =
+    checked basis (eqb (length word) (2 ^ length basis)) (eqb (length coefficients) (2 ^ length basis))
+
+-- what the lent list holds afterwards: what was asked for, or, after a refusal, what it held
+abbrev pub afterwards : Outcome → List ℕ → List ℕ → List ℕ
+afterwards Done wanted held = wanted
+afterwards (Refused cause) wanted held = held

@@ -1,0 +1,165 @@
+// Encoding and interpolation over a coset of at most 2^12 points, given by its offset and its basis.
+use field::Element;
+use refusal::Cause;
+use refusal::Outcome;
+use refusal::Position;
+ghost use mathlib.Core.Path.{_≡_};
+ghost use mathlib.Core.Bool.{cond};
+ghost use Prim.Native.Nat.{_^_, _≤_};
+ghost use lib.Dec.{leb};
+ghost use lib.ListN.{length, take};
+ghost use Rattle.poly.specs.Carrier.{gf64};
+ghost use Rattle.poly.specs.Newton.{newtonCoefficient, newtonCoefficients, joined, expanded};
+ghost use Rattle.coset.specs.Coset.{points};
+ghost use Rattle.coset.specs.Span.{Independent};
+ghost use Rattle.reed_solomon.specs.Codes.{encoded, interpolated};
+ghost use Rattle.reed_solomon.specs.Answers.{checked, encodeOutcome, interpolateOutcome, afterwards};
+
+// The polynomial's values at all points. Coefficients that are left off are zero.
+pub fn encode(offset: Element, basis: &[u64], coefficients: &[u64], values: &mut [u64]) -> Outcome
+    ensures answer { λ r. ⌜ r ≡ encodeOutcome (now (basis .entry)) (now (coefficients .entry)) (now (values .entry)) ⌝ }
+    ensures output { λ _. ⌜ now (values .exit) ≡ afterwards (encodeOutcome (now (basis .entry)) (now (coefficients .entry)) (now (values .entry))) (encoded (offset .0) (now (basis .entry)) (now (coefficients .entry))) (now (values .entry)) ⌝ }
+{
+    let size = size_of(basis.len());
+    let outcome = checked(basis, coefficients.len() <= size, values.len() == size);
+    match outcome {
+        Outcome::Done => {
+            fill_values(offset, basis, coefficients, values);
+            Outcome::Done
+        }
+        Outcome::Refused(cause) => Outcome::Refused(cause),
+    }
+}
+
+// The coefficients of the polynomial with the word's values at the points.
+pub fn interpolate(
+    offset: Element,
+    basis: &[u64],
+    word: &[u64],
+    coefficients: &mut [u64],
+) -> Outcome
+    ensures answer { λ r. ⌜ r ≡ interpolateOutcome (now (basis .entry)) (now (word .entry)) (now (coefficients .entry)) ⌝ }
+    ensures output { λ _. ⌜ now (coefficients .exit) ≡ afterwards (interpolateOutcome (now (basis .entry)) (now (word .entry)) (now (coefficients .entry))) (interpolated (offset .0) (now (basis .entry)) (now (word .entry))) (now (coefficients .entry)) ⌝ }
+{
+    let size = size_of(basis.len());
+    let outcome = checked(basis, word.len() == size, coefficients.len() == size);
+    match outcome {
+        Outcome::Done => {
+            fill_newton(offset, basis, word, coefficients);
+            expand(offset, basis, coefficients);
+            Outcome::Done
+        }
+        Outcome::Refused(cause) => Outcome::Refused(cause),
+    }
+}
+
+// 2^k, or 0 for a dimension that is refused.
+fn size_of(k: usize) -> usize
+    ensures { λ r. ⌜ r ≡ cond (leb k 12) (2 ^ k) 0 ⌝ }
+{
+    if k <= 12 { 1 << k } else { 0 }
+}
+
+fn checked(basis: &[u64], fits3: bool, fits6: bool) -> Outcome
+    ensures { λ r. ⌜ r ≡ checked (now (basis .entry)) fits3 fits6 ⌝ }
+{
+    if basis.len() > 12 {
+        return Outcome::Refused(Cause::DimensionOutOfRange);
+    }
+    if !fits3 {
+        return Outcome::Refused(Cause::WrongLength { list: 3 });
+    }
+    if !fits6 {
+        return Outcome::Refused(Cause::WrongLength { list: 6 });
+    }
+    let dependent = coset::first_dependent(basis);
+    match dependent {
+        Position::At(place) => Outcome::Refused(Cause::BasisDependent { place }),
+        Position::Absent => Outcome::Done,
+    }
+}
+
+fn fill_values(offset: Element, basis: &[u64], coefficients: &[u64], values: &mut [u64])
+    requires { ⌜ (length (now basis) ≤ 12) × (length (now values) ≡ 2 ^ length (now basis)) ⌝ }
+    ensures { λ _. ⌜ now (values .exit) ≡ encoded (offset .0) (now (basis .entry)) (now (coefficients .entry)) ⌝ }
+{
+    let sums = coset::prefix_sums(basis);
+    let mut x = offset;
+    let mut j: usize = 0;
+    while j < values.len() {
+        values[j] = poly::evaluate(coefficients, x).0;
+        j += 1;
+        x = coset::stepped(&sums, x, j);
+    }
+}
+
+// Newton's coefficients, each from those before it.
+fn fill_newton(offset: Element, basis: &[u64], word: &[u64], coefficients: &mut [u64])
+    requires { ⌜ (length (now basis) ≤ 12) × (length (now word) ≡ 2 ^ length (now basis)) × (length (now coefficients) ≡ 2 ^ length (now basis)) ⌝ }
+    ensures { λ _. ⌜ now (coefficients .exit) ≡ newtonCoefficients gf64 (points (offset .0) (now (basis .entry))) (now (word .entry)) ⌝ }
+{
+    let mut i: usize = 0;
+    while i < coefficients.len() {
+        let z = coset::point(offset, basis, i);
+        coefficients[i] = newton_coefficient(
+            offset,
+            basis,
+            &coefficients[..i],
+            z,
+            Element(word[i]),
+        ).0;
+        i += 1;
+    }
+}
+
+// The coefficient that gives Newton's form, of which the known ones come first, the value y at z.
+fn newton_coefficient(
+    offset: Element,
+    basis: &[u64],
+    known: &[u64],
+    z: Element,
+    y: Element,
+) -> Element
+    requires { ⌜ (length (now basis) ≤ 12) × (length (now known) ≤ 2 ^ length (now basis)) ⌝ }
+    ensures { λ r. ⌜ r .0 ≡ newtonCoefficient gf64 (take (length (now (known .entry))) (points (offset .0) (now (basis .entry)))) (now (known .entry)) (z .0) (y .0) ⌝ }
+{
+    let sums = coset::prefix_sums(basis);
+    let mut value = Element::ZERO;
+    let mut weight = Element::ONE;
+    let mut x = offset;
+    let mut j: usize = 0;
+    while j < known.len() {
+        value = value.sum(weight.product(Element(known[j])));
+        weight = weight.product(z.sum(x));
+        j += 1;
+        x = coset::stepped(&sums, x, j);
+    }
+    y.sum(value).product(weight.inverse_or_zero())
+}
+
+// From Newton's form to the polynomial, from the last point to the first.
+fn expand(offset: Element, basis: &[u64], coefficients: &mut [u64])
+    requires { ⌜ length (now coefficients) ≡ 2 ^ length (now basis) ⌝ }
+    ensures { λ _. ⌜ now (coefficients .exit) ≡ expanded gf64 (points (offset .0) (now (basis .entry))) (now (coefficients .entry)) ⌝ }
+{
+    let mut i = coefficients.len();
+    while i > 0 {
+        i -= 1;
+        let x = coset::point(offset, basis, i);
+        join(&mut coefficients[i..], x);
+    }
+}
+
+// The coefficients c, p become those of c + (X - x) · p.
+fn join(coefficients: &mut [u64], x: Element)
+    ensures { λ _. ⌜ now (coefficients .exit) ≡ joined gf64 (x .0) (now (coefficients .entry)) ⌝ }
+{
+    let mut next: usize = 1;
+    while next < coefficients.len() {
+        let j = next - 1;
+        coefficients[j] = Element(coefficients[j])
+            .sum(x.product(Element(coefficients[next])))
+            .0;
+        next += 1;
+    }
+}
