@@ -15,17 +15,76 @@ static void expect(int holds, const char *what) {
     }
 }
 
-/* The list of `length` numbers holds `answer` where it has the length of one, and the pattern otherwise. */
-static void expect_inverse(uint64_t a, size_t length, const uint64_t answer[RZ_ANSWER_LENGTH]) {
-    uint64_t list[LENGTHS];
+static void fill(uint64_t list[LENGTHS]) {
     for (size_t i = 0; i < LENGTHS; i++) {
         list[i] = PATTERN;
     }
-    rz_inverse(a, list, length);
+}
+
+/* The list holds `written` in its first `length` entries, and the pattern in the others. */
+static void expect_list(const uint64_t list[LENGTHS], const uint64_t *written, size_t length, const char *what) {
     for (size_t i = 0; i < LENGTHS; i++) {
-        int written = length == RZ_ANSWER_LENGTH && i < RZ_ANSWER_LENGTH;
-        expect(list[i] == (written ? answer[i] : PATTERN), "rz_inverse");
+        expect(list[i] == (i < length ? written[i] : PATTERN), what);
     }
+}
+
+/* A list of another length than that of an answer is left alone. */
+static void expect_answer(const uint64_t list[LENGTHS], size_t length, const uint64_t *answer, const char *what) {
+    expect_list(list, answer, length == RZ_ANSWER_LENGTH ? RZ_ANSWER_LENGTH : 0, what);
+}
+
+static void expect_inverse(uint64_t a, size_t length, const uint64_t answer[RZ_ANSWER_LENGTH]) {
+    uint64_t list[LENGTHS];
+    fill(list);
+    rz_inverse(a, list, length);
+    expect_answer(list, length, answer, "rz_inverse");
+}
+
+static const uint64_t basis[] = {1, 2};
+static const uint64_t coefficients[] = {7, 3};
+static const uint64_t word[] = {7, 4, 1, 2};
+static const uint64_t filled_in[] = {7, 3, 0, 0};
+static const uint64_t done[] = {0, RZ_NONE, RZ_NONE, 0, RZ_NONE};
+
+/* Case E there and back, with an answer's list of any length. */
+static void expect_codes(size_t length) {
+    uint64_t answer[LENGTHS], output[LENGTHS];
+    size_t written = length == RZ_ANSWER_LENGTH ? 4 : 0;
+
+    fill(answer);
+    fill(output);
+    rz_encode(0, basis, 2, coefficients, 2, output, 4, answer, length);
+    expect_answer(answer, length, done, "rz_encode: answer");
+    expect_list(output, word, written, "rz_encode: values");
+
+    fill(answer);
+    fill(output);
+    rz_interpolate(0, basis, 2, word, 4, output, 4, answer, length);
+    expect_answer(answer, length, done, "rz_interpolate: answer");
+    expect_list(output, filled_in, written, "rz_interpolate: coefficients");
+}
+
+/* Each length stands in its own place: a refusal names the list, and the output is left alone. */
+static void expect_refused(void) {
+    const uint64_t list_3[] = {13, 3, RZ_NONE, 0, RZ_NONE};
+    const uint64_t list_6[] = {13, 6, RZ_NONE, 0, RZ_NONE};
+    const uint64_t dependent[] = {8, 1, RZ_NONE, 0, RZ_NONE};
+    const uint64_t twice[] = {1, 1};
+    uint64_t answer[LENGTHS], output[LENGTHS];
+
+    fill(answer);
+    fill(output);
+    rz_encode(0, basis, 1, word, 3, output, 2, answer, RZ_ANSWER_LENGTH);
+    expect_answer(answer, RZ_ANSWER_LENGTH, list_3, "rz_encode: list 3");
+    rz_encode(0, basis, 2, word, 4, output, 5, answer, RZ_ANSWER_LENGTH);
+    expect_answer(answer, RZ_ANSWER_LENGTH, list_6, "rz_encode: list 6");
+    rz_encode(0, twice, 2, word, 4, output, 4, answer, RZ_ANSWER_LENGTH);
+    expect_answer(answer, RZ_ANSWER_LENGTH, dependent, "rz_encode: basis");
+    rz_interpolate(0, basis, 2, word, 3, output, 4, answer, RZ_ANSWER_LENGTH);
+    expect_answer(answer, RZ_ANSWER_LENGTH, list_3, "rz_interpolate: list 3");
+    rz_interpolate(0, basis, 2, word, 4, output, 3, answer, RZ_ANSWER_LENGTH);
+    expect_answer(answer, RZ_ANSWER_LENGTH, list_6, "rz_interpolate: list 6");
+    expect_list(output, word, 0, "output after a refusal");
 }
 
 int main(void) {
@@ -37,6 +96,8 @@ int main(void) {
     for (size_t length = 0; length <= LENGTHS; length++) {
         expect_inverse(2, length, of_two);
         expect_inverse(0, length, of_zero);
+        expect_codes(length);
     }
+    expect_refused();
     return failures != 0;
 }

@@ -7,7 +7,7 @@ use native.Mathlib.Omega.{arith}
 use lib.ListN.{length, set}
 use borrow.Author.Tests.{eq-eqb, ne-eqb}
 use Rattle.capi.specs.declared.Answer.{Answer}
-use Rattle.capi.specs.Answers.{numbersOf, answered}
+use Rattle.capi.specs.Answers.{numbersOf, answered, whereAnswered}
 
 pub five-stores : (l : List ℕ) (v w x y z : ℕ) → length l ≡ 5
     → set (set (set (set (set l 0 v) 1 w) 2 x) 3 y) 4 z ≡ v ∷ w ∷ x ∷ y ∷ z ∷ []
@@ -21,6 +21,12 @@ five-stores (a ∷ b ∷ c ∷ d ∷ e ∷ f ∷ l) v w x y z h = absurd (omega 
 
 pub answered-five : (a : Answer) (lent : List ℕ) → length lent ≡ 5 → numbersOf a ≡ answered a lent
 answered-five a lent h = sym (ap (λ (b : Bool). cond b (numbersOf a) lent) (eq-eqb (length lent) 5 h))
+
+pub whereAnswered-five : (lent left held : List ℕ) → length lent ≡ 5 → left ≡ whereAnswered lent left held
+whereAnswered-five lent left held h = sym (ap (λ (b : Bool). cond b left held) (eq-eqb (length lent) 5 h))
+
+pub whereAnswered-other : (lent left held : List ℕ) → (length lent ≡ 5 → ⊥) → held ≡ whereAnswered lent left held
+whereAnswered-other lent left held h = sym (ap (λ (b : Bool). cond b left held) (ne-eqb (length lent) 5 h))
 
 pub answered-other : (a : Answer) (lent : List ℕ) → (length lent ≡ 5 → ⊥) → lent ≡ answered a lent
 answered-other a lent h = sym (ap (λ (b : Bool). cond b (numbersOf a) lent) (ne-eqb (length lent) 5 h))

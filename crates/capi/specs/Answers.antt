@@ -5,6 +5,8 @@ use Prim.Native.Nat.{ℕ, _-_, _^_}
 use lib.Dec.{eqb}
 use lib.ListN.{length}
 use Rattle.refusal.specs.declared.Cause.{Cause}
+use Rattle.refusal.specs.declared.Outcome.{Outcome}
+use Rattle.refusal.specs.declared.Outcome.the-variants as outcomes
 use Rattle.refusal.specs.declared.Position.{Position}
 use Rattle.refusal.specs.declared.Position.the-variants.{At, Absent}
 use Rattle.refusal.specs.Numbers.{numberOf, placeOf, roundOf}
@@ -41,6 +43,11 @@ abbrev pub answerOfInverted : Inverted → Answer
 answerOfInverted (Value x) = answerOfValue 0 (x .0)
 answerOfInverted (Refused cause) = answerOfCause cause 0
 
+-- the answer of an operation that reads nothing and gives no value
+abbrev pub answerOfOutcome : Outcome → Answer
+answerOfOutcome outcomes.Done = answerOfValue 0 none
+answerOfOutcome (outcomes.Refused cause) = answerOfCause cause 0
+
 -- number, place, round, reads, value
 abbrev pub numbersOf : Answer → List ℕ
 numbersOf a = a .number ∷ a .place ∷ a .round ∷ a .reads ∷ a .value ∷ []
@@ -48,3 +55,7 @@ numbersOf a = a .number ∷ a .place ∷ a .round ∷ a .reads ∷ a .value ∷ 
 -- what the lent list holds afterwards: the five numbers, or what it held where its length is not 5
 abbrev pub answered : Answer → List ℕ → List ℕ
 answered a lent = cond (eqb (length lent) 5) (numbersOf a) lent
+
+-- what another lent list holds afterwards: what the operation leaves there, or what it held where the answer's list has not length 5
+abbrev pub whereAnswered : List ℕ → List ℕ → List ℕ → List ℕ
+whereAnswered lent left held = cond (eqb (length lent) 5) left held

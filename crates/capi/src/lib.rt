@@ -2,12 +2,15 @@
 use field::Element;
 use field::Inverted;
 use refusal::Cause;
+use refusal::Outcome;
 use refusal::Position;
 ghost use mathlib.Core.Path.{_≡_};
 ghost use lib.ListN.{length};
 ghost use Rattle.gf64.specs.Field.{sum, product};
 ghost use Rattle.field.specs.Answers.{invertedOf};
-ghost use Rattle.capi.specs.Answers.{orNone, answerOfValue, answerOfCause, answerOfInverted, numbersOf, answered};
+ghost use Rattle.reed_solomon.specs.Codes.{encoded, interpolated};
+ghost use Rattle.reed_solomon.specs.Answers.{encodeOutcome, interpolateOutcome, afterwards};
+ghost use Rattle.capi.specs.Answers.{orNone, answerOfValue, answerOfCause, answerOfInverted, answerOfOutcome, numbersOf, answered, whereAnswered};
 
 // The five numbers of an answer.
 pub struct Answer {
@@ -64,6 +67,15 @@ impl Answer {
         }
     }
 
+    fn of_outcome(outcome: Outcome) -> Answer
+        ensures { λ r. ⌜ r ≡ answerOfOutcome outcome ⌝ }
+    {
+        match outcome {
+            Outcome::Done => Answer::of_value(0, NONE),
+            Outcome::Refused(cause) => Answer::of_cause(cause, 0),
+        }
+    }
+
     fn write(self, lent: &mut [u64])
         requires { ⌜ length (now lent) ≡ 5 ⌝ }
         ensures { λ _. ⌜ now (lent .exit) ≡ numbersOf self ⌝ }
@@ -98,4 +110,40 @@ pub extern "C" fn rz_inverse(a: u64, answer: &mut [u64])
         return;
     }
     Answer::of_inverted(Element(a).inverse()).write(answer);
+}
+
+#[no_mangle]
+pub extern "C" fn rz_encode(
+    offset: u64,
+    basis: &[u64],
+    coefficients: &[u64],
+    values: &mut [u64],
+    answer: &mut [u64],
+)
+    ensures answer { λ _. ⌜ now (answer .exit) ≡ answered (answerOfOutcome (encodeOutcome (now (basis .entry)) (now (coefficients .entry)) (now (values .entry)))) (now (answer .entry)) ⌝ }
+    ensures output { λ _. ⌜ now (values .exit) ≡ whereAnswered (now (answer .entry)) (afterwards (encodeOutcome (now (basis .entry)) (now (coefficients .entry)) (now (values .entry))) (encoded offset (now (basis .entry)) (now (coefficients .entry))) (now (values .entry))) (now (values .entry)) ⌝ }
+{
+    if answer.len() != 5 {
+        return;
+    }
+    let outcome = reed_solomon::encode(Element(offset), basis, coefficients, values);
+    Answer::of_outcome(outcome).write(answer);
+}
+
+#[no_mangle]
+pub extern "C" fn rz_interpolate(
+    offset: u64,
+    basis: &[u64],
+    word: &[u64],
+    coefficients: &mut [u64],
+    answer: &mut [u64],
+)
+    ensures answer { λ _. ⌜ now (answer .exit) ≡ answered (answerOfOutcome (interpolateOutcome (now (basis .entry)) (now (word .entry)) (now (coefficients .entry)))) (now (answer .entry)) ⌝ }
+    ensures output { λ _. ⌜ now (coefficients .exit) ≡ whereAnswered (now (answer .entry)) (afterwards (interpolateOutcome (now (basis .entry)) (now (word .entry)) (now (coefficients .entry))) (interpolated offset (now (basis .entry)) (now (word .entry))) (now (coefficients .entry))) (now (coefficients .entry)) ⌝ }
+{
+    if answer.len() != 5 {
+        return;
+    }
+    let outcome = reed_solomon::interpolate(Element(offset), basis, word, coefficients);
+    Answer::of_outcome(outcome).write(answer);
 }

@@ -7,6 +7,7 @@ use std::hint::black_box;
 const REDUCTION: u64 = 0x1b;
 // Short pieces of work, so that some turn of each meets the machine at rest.
 const CALLS: usize = 2_000;
+const TURNS: usize = 2_000;
 const INVERSES: usize = 50;
 
 type Product = fn(u64, u64) -> u64;
@@ -15,8 +16,9 @@ pub fn report() {
     println!("\nproduct, wanted at most 0.25 of the loop and at most 1.30 of the same method:");
     compare("each factor new", independent);
     compare("each product a factor of the next", chain);
-    let squaring = least(&[work("squaring", razgwilh::product, squarings)])[0] / CALLS as f64;
-    let inverse = least(&[inverse_work()])[0] / INVERSES as f64;
+    let squaring =
+        least(&[work("squaring", razgwilh::product, squarings)], TURNS)[0] / CALLS as f64;
+    let inverse = least(&[inverse_work()], TURNS)[0] / INVERSES as f64;
     println!("\ninverse, wanted at most 80 products:");
     println!(
         "  {inverse:.0} ns, as long as {:.1} squarings in a row",
@@ -38,7 +40,7 @@ fn compare(title: &str, calls: fn(Product) -> u64) {
             calls,
         ));
     }
-    let times = least(&works);
+    let times = least(&works, TURNS);
     println!("  {title}:");
     for (work, time) in works.iter().zip(&times) {
         let each = time / CALLS as f64;
@@ -108,7 +110,7 @@ fn stepwise(mut a: u64, mut b: u64) -> u64 {
 /// The library's method: a window of four bits over halves of 32 bits, then the reduction. The sum of
 /// the mixed products has functions of its own here, which rustc compiles to the fastest code.
 #[inline(never)]
-fn windowed(a: u64, b: u64) -> u64 {
+pub fn windowed(a: u64, b: u64) -> u64 {
     let (low, high) = (window(a & 0xffff_ffff), window(a >> 32));
     let (x, y) = (b >> 32, b & 0xffff_ffff);
     let middle = mixed32(&low, &high, x, y);

@@ -1,9 +1,11 @@
 //! How long the proved library takes, as ratios to Rust in the same run. It times; it tests nothing.
 
 mod clock;
+mod codes;
 mod field;
 
 fn main() {
     println!("the least of many turns taken in rotation, and the library's time over each; both sides built for release");
     field::report();
+    codes::report();
 }

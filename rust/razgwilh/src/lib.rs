@@ -5,6 +5,28 @@ extern "C" {
     fn rz_sum(a: u64, b: u64) -> u64;
     fn rz_product(a: u64, b: u64) -> u64;
     fn rz_inverse(a: u64, answer: *mut u64, length: usize);
+    fn rz_encode(
+        offset: u64,
+        basis: *const u64,
+        basis_length: usize,
+        coefficients: *const u64,
+        coefficients_length: usize,
+        values: *mut u64,
+        values_length: usize,
+        answer: *mut u64,
+        answer_length: usize,
+    );
+    fn rz_interpolate(
+        offset: u64,
+        basis: *const u64,
+        basis_length: usize,
+        word: *const u64,
+        word_length: usize,
+        coefficients: *mut u64,
+        coefficients_length: usize,
+        answer: *mut u64,
+        answer_length: usize,
+    );
 }
 
 /// How many numbers an answer has.
@@ -27,13 +49,22 @@ impl Answer {
     /// Reads the five numbers of an operation that gives a value whenever it goes well. Such a value
     /// may be any element, 2^64 - 1 among them, so that `number` decides and not the value itself.
     fn with_value(numbers: [u64; ANSWER_LENGTH]) -> Answer {
+        let [number, .., value] = numbers;
+        Answer {
+            value: (number == 0).then_some(value),
+            ..Answer::without_value(numbers)
+        }
+    }
+
+    /// Reads the five numbers of an operation that gives no element.
+    fn without_value(numbers: [u64; ANSWER_LENGTH]) -> Answer {
         let [number, place, round, reads, value] = numbers;
         Answer {
             number,
             place: given(place),
             round: given(round),
             reads,
-            value: (number == 0).then_some(value),
+            value: given(value),
         }
     }
 }
@@ -63,4 +94,68 @@ pub fn inverse(a: u64) -> Answer {
 pub fn inverse_into(a: u64, answer: &mut [u64]) {
     // SAFETY: the pointer and the length are those of one exclusive slice.
     unsafe { rz_inverse(a, answer.as_mut_ptr(), answer.len()) }
+}
+
+/// Encodes: `values` gets the polynomial's value at each point of the coset, in point order. A refusal,
+/// number 4, 13 or 8, leaves `values` as it was.
+pub fn encode(offset: u64, basis: &[u64], coefficients: &[u64], values: &mut [u64]) -> Answer {
+    let mut numbers = [0; ANSWER_LENGTH];
+    encode_into(offset, basis, coefficients, values, &mut numbers);
+    Answer::without_value(numbers)
+}
+
+/// The same by the C convention: where `answer` has another length than 5, nothing is written or done.
+pub fn encode_into(
+    offset: u64,
+    basis: &[u64],
+    coefficients: &[u64],
+    values: &mut [u64],
+    answer: &mut [u64],
+) {
+    // SAFETY: each pointer and length are those of one slice, and the exclusive ones overlap no other.
+    unsafe {
+        rz_encode(
+            offset,
+            basis.as_ptr(),
+            basis.len(),
+            coefficients.as_ptr(),
+            coefficients.len(),
+            values.as_mut_ptr(),
+            values.len(),
+            answer.as_mut_ptr(),
+            answer.len(),
+        )
+    }
+}
+
+/// Interpolates: `coefficients` gets those of the one polynomial of degree below 2^k that has the word's
+/// values, constant first. A refusal, number 4, 13 or 8, leaves `coefficients` as it was.
+pub fn interpolate(offset: u64, basis: &[u64], word: &[u64], coefficients: &mut [u64]) -> Answer {
+    let mut numbers = [0; ANSWER_LENGTH];
+    interpolate_into(offset, basis, word, coefficients, &mut numbers);
+    Answer::without_value(numbers)
+}
+
+/// The same by the C convention: where `answer` has another length than 5, nothing is written or done.
+pub fn interpolate_into(
+    offset: u64,
+    basis: &[u64],
+    word: &[u64],
+    coefficients: &mut [u64],
+    answer: &mut [u64],
+) {
+    // SAFETY: each pointer and length are those of one slice, and the exclusive ones overlap no other.
+    unsafe {
+        rz_interpolate(
+            offset,
+            basis.as_ptr(),
+            basis.len(),
+            word.as_ptr(),
+            word.len(),
+            coefficients.as_mut_ptr(),
+            coefficients.len(),
+            answer.as_mut_ptr(),
+            answer.len(),
+        )
+    }
 }

@@ -5,6 +5,15 @@ use razgwilh::Answer;
 /// What the C interface writes for a place, round or value there is none of.
 pub const NONE: u64 = u64::MAX;
 
+/// The number for a dimension out of range.
+pub const K_OUT_OF_RANGE: u64 = 4;
+
+/// The number for a basis element that lies in the span of earlier ones.
+pub const DEPENDENT_BASIS: u64 = 8;
+
+/// The number for a lent list of the wrong length.
+pub const WRONG_LENGTH: u64 = 13;
+
 /// The number for the inverse of zero.
 pub const INVERSE_OF_ZERO: u64 = 15;
 
@@ -19,6 +28,17 @@ pub fn went_well(value: u64) -> Answer {
     }
 }
 
+/// The answer of an operation that went well and gives no element.
+pub fn done() -> Answer {
+    Answer {
+        number: 0,
+        place: None,
+        round: None,
+        reads: 0,
+        value: None,
+    }
+}
+
 /// The answer that carries nothing but the number of its cause.
 pub fn refused(number: u64) -> Answer {
     Answer {
@@ -27,6 +47,15 @@ pub fn refused(number: u64) -> Answer {
         round: None,
         reads: 0,
         value: None,
+    }
+}
+
+/// The answer that carries the number of its cause and a place: a list or the
+/// place of a basis element.
+pub fn refused_at(number: u64, place: u64) -> Answer {
+    Answer {
+        place: Some(place),
+        ..refused(number)
     }
 }
 
@@ -56,6 +85,8 @@ mod tests {
         };
         assert_eq!(raw(&answer), [11, 1, 0, 4, NONE]);
         assert_eq!(raw(&went_well(7)), [0, NONE, NONE, 0, 7]);
+        assert_eq!(raw(&done()), [0, NONE, NONE, 0, NONE]);
         assert_eq!(raw(&refused(15)), [15, NONE, NONE, 0, NONE]);
+        assert_eq!(raw(&refused_at(8, 2)), [8, 2, NONE, 0, NONE]);
     }
 }

@@ -4,6 +4,7 @@
 //! A part of the library adds a file here with its own inputs and comparisons.
 
 pub mod field;
+pub mod reed_solomon;
 
 use razgwilh::Answer;
 
@@ -233,9 +234,9 @@ fn show_numbers(numbers: &[u64]) -> String {
     shown.join(", ")
 }
 
-impl Show for Option<u64> {
+impl<A: Show> Show for Option<A> {
     fn show(&self) -> String {
-        self.map_or_else(|| "none".to_string(), |number| number.show())
+        self.as_ref().map_or_else(|| "none".to_string(), A::show)
     }
 }
 

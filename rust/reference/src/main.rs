@@ -7,15 +7,19 @@ mod answer;
 mod compare;
 mod field;
 mod random;
+mod reed_solomon;
 
 use std::process::ExitCode;
 
 fn main() -> ExitCode {
     // Each part of the library has a file of its own under `compare`.
-    let parts = [compare::field::comparisons(
-        &compare::field::RAZGWILH,
-        &compare::field::FULL,
-    )];
+    let parts = [
+        compare::field::comparisons(&compare::field::RAZGWILH, &compare::field::FULL),
+        compare::reed_solomon::comparisons(
+            &compare::reed_solomon::RAZGWILH,
+            &compare::reed_solomon::FULL,
+        ),
+    ];
     let report = compare::report(&parts.concat());
     print!("{}", report.text);
     if report.agrees {

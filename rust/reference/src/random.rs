@@ -37,6 +37,17 @@ impl Random {
     pub fn numbers<const N: usize>(&mut self) -> [u64; N] {
         std::array::from_fn(|_| self.number())
     }
+
+    /// The next numbers, as a list of this length.
+    pub fn list(&mut self, length: usize) -> Vec<u64> {
+        (0..length).map(|_| self.number()).collect()
+    }
+
+    /// A number below the bound, which is small, so that the remainder is even
+    /// enough.
+    pub fn below(&mut self, bound: usize) -> usize {
+        (self.number() % bound as u64) as usize
+    }
 }
 
 #[cfg(test)]
@@ -57,5 +68,16 @@ mod tests {
         let first: [u64; 4] = Random::named("sum").numbers();
         assert_eq!(first, Random::named("sum").numbers());
         assert_ne!(first, Random::named("product").numbers());
+        assert_eq!(first.to_vec(), Random::named("sum").list(4));
+    }
+
+    #[test]
+    fn numbers_below_a_bound_are_all_met() {
+        let mut random = Random::named("bound");
+        let mut met = [0; 5];
+        for _ in 0..1_000 {
+            met[random.below(5)] += 1;
+        }
+        assert!(met.iter().all(|&times| times > 100));
     }
 }

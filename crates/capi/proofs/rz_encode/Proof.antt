@@ -1,0 +1,58 @@
+-- `capi::rz_encode` meets its contract: where the answer's list has another length nothing is done. Assumes nothing.
+use mathlib.Core.Path.{_≡_, ap, _∙_}
+use lib.ListN.{length}
+use native.Mathlib.Omega.{arith}
+use borrow.Author.Needs.{needs}
+use Rattle.reed_solomon.specs.Codes.{encoded}
+use Rattle.reed_solomon.specs.Answers.{encodeOutcome, afterwards}
+use Rattle.capi.specs.Answers.{answerOfOutcome, numbersOf}
+use Rattle.capi.proofs.Five.{answered-five, answered-other, whereAnswered-five, whereAnswered-other}
+use Rattle.capi.proofs.rz_encode.Statement.{statement}
+use Rattle.capi.proofs.rz_encode.Tie as tie
+
+returns : tie.Need-returns
+returns c =
+    let a = c .before .before .before .before .before .args in
+    let outcome = encodeOutcome (a .basis .now) (a .coefficients .now) (a .values .now) in (
+      answered-other (answerOfOutcome outcome) (a .answer .now) (c .if1 .taken),
+      whereAnswered-other (a .answer .now) (afterwards outcome (encoded (a .offset) (a .basis .now) (a .coefficients .now)) (a .values .now)) (a .values .now) (c .if1 .taken),
+    )
+
+encode-requires : tie.Need-encode-requires
+encode-requires c κs = search needs
+
+of-outcome-requires : tie.Need-of-outcome-requires
+of-outcome-requires c κs = search needs
+
+write-requires : tie.Need-write-requires
+write-requires c κs = search needs
+
+same-length : tie.Need-same-length
+same-length c = search needs
+
+same-length-2 : tie.Need-same-length-2
+same-length-2 c = search needs
+
+returns-2 : tie.Need-returns-2
+returns-2 c =
+    let a = c .before .before .before .before .before .before .before .before .before .before .before .before .before .before .args in
+    let outcome = encodeOutcome (a .basis .now) (a .coefficients .now) (a .values .now) in
+    let five : length (a .answer .now) ≡ 5 = omega (arith, c .before .before .before .before .before .before .before .before .before .if1 .left) in (
+      c .before .before .write .ensures
+          ∙ ap numbersOf (c .before .before .before .before .of-outcome .ensures ∙ ap answerOfOutcome (c .before .before .before .before .before .before .before .encode .ensures .0))
+          ∙ answered-five (answerOfOutcome outcome) (a .answer .now) five,
+      c .before .before .before .before .before .before .before .encode .ensures .1
+          ∙ whereAnswered-five (a .answer .now) (afterwards outcome (encoded (a .offset) (a .basis .now) (a .coefficients .now)) (a .values .now)) (a .values .now) five,
+    )
+
+pub rz-encode-spec : {M : Type 1} → statement M
+rz-encode-spec =
+    tie.close
+    (tie.spec
+    returns
+    encode-requires
+    of-outcome-requires
+    write-requires
+    same-length
+    same-length-2
+    returns-2)
