@@ -6,10 +6,9 @@ use lib.Dec.{eqb}
 use lib.ListN.{length}
 use Rattle.refusal.specs.declared.Cause.{Cause}
 use Rattle.refusal.specs.declared.Outcome.{Outcome}
-use Rattle.refusal.specs.declared.Outcome.the-variants as outcomes
 use Rattle.refusal.specs.declared.Position.{Position}
 use Rattle.refusal.specs.declared.Position.the-variants.{At, Absent}
-use Rattle.refusal.specs.Numbers.{numberOf, placeOf, roundOf}
+use Rattle.refusal.specs.Numbers.{numberOf, placeOf, roundOf, numberOfOutcome, placeOfOutcome, roundOfOutcome}
 use Rattle.field.specs.declared.Inverted.{Inverted}
 use Rattle.field.specs.declared.Inverted.the-variants.{Value, Refused}
 use Rattle.capi.specs.declared.Answer.{Answer}
@@ -45,8 +44,14 @@ answerOfInverted (Refused cause) = answerOfCause cause 0
 
 -- the answer of an operation that reads nothing and gives no value
 abbrev pub answerOfOutcome : Outcome → Answer
-answerOfOutcome outcomes.Done = answerOfValue 0 none
-answerOfOutcome (outcomes.Refused cause) = answerOfCause cause 0
+answerOfOutcome outcome =
+    record {
+      number = numberOfOutcome outcome;
+      place = orNone (placeOfOutcome outcome);
+      round = orNone (roundOfOutcome outcome);
+      reads = 0;
+      value = none;
+    }
 
 -- number, place, round, reads, value
 abbrev pub numbersOf : Answer → List ℕ

@@ -21,6 +21,9 @@ pub struct Answer {
     pub value: u64,
 }
 
+// How many numbers an answer has.
+const ANSWER_LENGTH: usize = 5;
+
 // Stands for a place, a round or a value that there is none of.
 const NONE: u64 = 18446744073709551615;
 
@@ -106,7 +109,7 @@ pub extern "C" fn rz_product(a: u64, b: u64) -> u64
 pub extern "C" fn rz_inverse(a: u64, answer: &mut [u64])
     ensures { λ _. ⌜ now (answer .exit) ≡ answered (answerOfInverted (invertedOf a)) (now (answer .entry)) ⌝ }
 {
-    if answer.len() != 5 {
+    if answer.len() != ANSWER_LENGTH {
         return;
     }
     Answer::of_inverted(Element(a).inverse()).write(answer);
@@ -123,7 +126,7 @@ pub extern "C" fn rz_encode(
     ensures answer { λ _. ⌜ now (answer .exit) ≡ answered (answerOfOutcome (encodeOutcome (now (basis .entry)) (now (coefficients .entry)) (now (values .entry)))) (now (answer .entry)) ⌝ }
     ensures output { λ _. ⌜ now (values .exit) ≡ whereAnswered (now (answer .entry)) (afterwards (encodeOutcome (now (basis .entry)) (now (coefficients .entry)) (now (values .entry))) (encoded offset (now (basis .entry)) (now (coefficients .entry))) (now (values .entry))) (now (values .entry)) ⌝ }
 {
-    if answer.len() != 5 {
+    if answer.len() != ANSWER_LENGTH {
         return;
     }
     let outcome = reed_solomon::encode(Element(offset), basis, coefficients, values);
@@ -141,7 +144,7 @@ pub extern "C" fn rz_interpolate(
     ensures answer { λ _. ⌜ now (answer .exit) ≡ answered (answerOfOutcome (interpolateOutcome (now (basis .entry)) (now (word .entry)) (now (coefficients .entry)))) (now (answer .entry)) ⌝ }
     ensures output { λ _. ⌜ now (coefficients .exit) ≡ whereAnswered (now (answer .entry)) (afterwards (interpolateOutcome (now (basis .entry)) (now (word .entry)) (now (coefficients .entry))) (interpolated offset (now (basis .entry)) (now (word .entry))) (now (coefficients .entry))) (now (coefficients .entry)) ⌝ }
 {
-    if answer.len() != 5 {
+    if answer.len() != ANSWER_LENGTH {
         return;
     }
     let outcome = reed_solomon::interpolate(Element(offset), basis, word, coefficients);

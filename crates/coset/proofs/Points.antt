@@ -14,7 +14,7 @@ use Rattle.gf64.proofs.Xor.{xor-cancel, by-bit, halves-eq}
 use Rattle.gf64.proofs.Additive.{Additive, additive-zero}
 use Rattle.refusal.specs.declared.Position.the-variants.{At, Absent}
 use Rattle.poly.specs.Polynomial.{All, Distinct}
-use Rattle.coset.specs.Coset.{point, listed, points}
+use Rattle.coset.specs.Coset.{point, tabulated, points}
 use Rattle.coset.specs.Span.{inSpan, firstDependentAfter, firstDependent, Independent}
 use Rattle.coset.specs.Elimination.{cleared}
 use Rattle.coset.proofs.Span.{first-image}
@@ -112,31 +112,31 @@ point-injective offset basis i j d hi hj e = injective-of (length basis) offset 
 
 -- ---- the list of points
 
-pub length-listed : (f : ℕ → ℕ) (start count : ℕ) → length (listed f start count) ≡ count
-unfolding listed
-length-listed f start zero = refl
-length-listed f start (suc count) = ap suc (length-listed f (suc start) count)
+pub length-tabulated : (f : ℕ → ℕ) (start count : ℕ) → length (tabulated f start count) ≡ count
+unfolding tabulated
+length-tabulated f start zero = refl
+length-tabulated f start (suc count) = ap suc (length-tabulated f (suc start) count)
 
-pub getD-listed : (f : ℕ → ℕ) (start count j : ℕ) → j < count → getD (listed f start count) j 0 ≡ f (start + j)
-unfolding listed
-getD-listed f start zero j h = absurd (omega arith)
-getD-listed f start (suc count) zero h = ap f (sym (add-zero start))
-getD-listed f start (suc count) (suc j) h =
-    getD-listed f (suc start) count j (omega arith) ∙ ap f (suc-add start j ∙ sym (add-suc start j))
+pub getD-tabulated : (f : ℕ → ℕ) (start count j : ℕ) → j < count → getD (tabulated f start count) j 0 ≡ f (start + j)
+unfolding tabulated
+getD-tabulated f start zero j h = absurd (omega arith)
+getD-tabulated f start (suc count) zero h = ap f (sym (add-zero start))
+getD-tabulated f start (suc count) (suc j) h =
+    getD-tabulated f (suc start) count j (omega arith) ∙ ap f (suc-add start j ∙ sym (add-suc start j))
 
-all-listed : (P : ℕ → Type 0) (f : ℕ → ℕ) (start count : ℕ) → ((j : ℕ) → start ≤ j → j < start + count → P (f j)) → All P (listed f start count)
-unfolding listed
-all-listed P f start zero h = record {}
-all-listed P f start (suc count) h =
-    (h start (omega arith) (omega arith), all-listed P f (suc start) count (λ j l u. h j (omega arith) (omega arith)))
+all-tabulated : (P : ℕ → Type 0) (f : ℕ → ℕ) (start count : ℕ) → ((j : ℕ) → start ≤ j → j < start + count → P (f j)) → All P (tabulated f start count)
+unfolding tabulated
+all-tabulated P f start zero h = record {}
+all-tabulated P f start (suc count) h =
+    (h start (omega arith) (omega arith), all-tabulated P f (suc start) count (λ j l u. h j (omega arith) (omega arith)))
 
-distinct-listed : (f : ℕ → ℕ) (start count : ℕ)
-    → ((i j : ℕ) → i < start + count → j < start + count → f i ≡ f j → i ≡ j) → Distinct (listed f start count)
-unfolding listed
-distinct-listed f start zero h = record {}
-distinct-listed f start (suc count) h = (
-  all-listed (λ y. y ≢ f start) f (suc start) count (λ j l u e. later-differs j l (h j start (omega arith) (omega arith) e)),
-  distinct-listed f (suc start) count (λ i j hi hj e. h i j (omega arith) (omega arith) e),
+distinct-tabulated : (f : ℕ → ℕ) (start count : ℕ)
+    → ((i j : ℕ) → i < start + count → j < start + count → f i ≡ f j → i ≡ j) → Distinct (tabulated f start count)
+unfolding tabulated
+distinct-tabulated f start zero h = record {}
+distinct-tabulated f start (suc count) h = (
+  all-tabulated (λ y. y ≢ f start) f (suc start) count (λ j l u e. later-differs j l (h j start (omega arith) (omega arith) e)),
+  distinct-tabulated f (suc start) count (λ i j hi hj e. h i j (omega arith) (omega arith) e),
 )
   where
     later-differs : (j : ℕ) → suc start ≤ j → j ≡ start → ⊥
@@ -144,21 +144,26 @@ distinct-listed f start (suc count) h = (
 
 pub length-points : (offset : ℕ) (basis : List ℕ) → length (points offset basis) ≡ 2 ^ length basis
 unfolding points
-length-points offset basis = length-listed (point offset basis) 0 (2 ^ length basis)
+length-points offset basis = length-tabulated (point offset basis) 0 (2 ^ length basis)
 
 pub getD-points : (offset : ℕ) (basis : List ℕ) (j : ℕ) → j < 2 ^ length basis → getD (points offset basis) j 0 ≡ point offset basis j
 unfolding points
 getD-points offset basis j h =
-    getD-listed (point offset basis) 0 (2 ^ length basis) j h ∙ ap (point offset basis) (zero-add j)
+    getD-tabulated (point offset basis) 0 (2 ^ length basis) j h ∙ ap (point offset basis) (zero-add j)
 
 -- the points over an independent basis are pairwise distinct
 pub points-distinct : (offset : ℕ) (basis : List ℕ) → Independent basis → Distinct (points offset basis)
 unfolding points
 points-distinct offset basis d =
-    distinct-listed (point offset basis) 0 (2 ^ length basis)
+    distinct-tabulated (point offset basis) 0 (2 ^ length basis)
     (λ i j hi hj e. point-injective offset basis i j d (omega arith) (omega arith) e)
 
 -- ---- elements
+
+-- a list of 64-bit numbers is a list of elements
+pub all-elements : (xs : List ℕ) → ((i : ℕ) → getD xs i 0 < 2 ^ 64) → All IsElement xs
+all-elements [] h = record {}
+all-elements (x ∷ xs) h = (h 0, all-elements xs (λ i. h (suc i)))
 
 bit-element : (j b : ℕ) → IsElement b → IsElement (j % 2 * b)
 bit-element j b h =
@@ -174,4 +179,4 @@ point-element offset (b ∷ basis) j eo eb =
 pub points-elements : (offset : ℕ) (basis : List ℕ) → IsElement offset → All IsElement basis → All IsElement (points offset basis)
 unfolding points
 points-elements offset basis eo eb =
-    all-listed IsElement (point offset basis) 0 (2 ^ length basis) (λ j l u. point-element offset basis j eo eb)
+    all-tabulated IsElement (point offset basis) 0 (2 ^ length basis) (λ j l u. point-element offset basis j eo eb)

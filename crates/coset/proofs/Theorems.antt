@@ -3,6 +3,8 @@ use mathlib.Core.Path.{_∙_, sym, ap}
 use Rattle.coset.specs.Span.{inSpan}
 use Rattle.coset.specs.Theorems.{Cosets, FirstDependent}
 use Rattle.coset.proofs.Points.{length-points, getD-points, points-distinct}
+use Rattle.coset.proofs.Sequence.{point-next}
+use Rattle.coset.proofs.Dimension.{independent-short}
 use Rattle.coset.proofs.Dependence.{point-shifted, reached-of-span, span-of-point, first-found, first-before, none-dependent}
 
 pub cosets : Cosets
@@ -13,7 +15,8 @@ cosets =
       count = length-points;
       in-order = getD-points;
       distinct = points-distinct;
+      next = point-next;
     }
 
 pub first-dependent : FirstDependent
-first-dependent = record { found = first-found; first = first-before; none = none-dependent }
+first-dependent = record { found = first-found; first = first-before; none = none-dependent; short = independent-short }

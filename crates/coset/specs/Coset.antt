@@ -10,10 +10,10 @@ point offset [] j = offset
 point offset (b ∷ basis) j = sum ((j % 2) * b) (point offset basis (j / 2))
 
 -- f at start, start + 1, .. , count of them
-unfoldable pub listed : (ℕ → ℕ) → ℕ → ℕ → List ℕ
-listed f start zero = []
-listed f start (suc count) = f start ∷ listed f (suc start) count
+unfoldable pub tabulated : (ℕ → ℕ) → ℕ → ℕ → List ℕ
+tabulated f start zero = []
+tabulated f start (suc count) = f start ∷ tabulated f (suc start) count
 
 -- all 2^k points in point order
 unfoldable pub points : ℕ → List ℕ → List ℕ
-points offset basis = listed (point offset basis) 0 (2 ^ length basis)
+points offset basis = tabulated (point offset basis) 0 (2 ^ length basis)

@@ -1,4 +1,4 @@
--- How point j + 1 is got from point j by one sum; only inner functions cite this.
+-- How point j + 1 is got from point j by one sum: `Theorems.antt` has the law, `Cosets.next`.
 use mathlib.Core.List.{List, [], _∷_}
 use Prim.Native.Nat.{ℕ}
 use Rattle.gf64.specs.Field.{sum}

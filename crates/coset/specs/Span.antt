@@ -13,8 +13,7 @@ unfoldable pub inSpan : List ℕ → ℕ → Bool
 inSpan [] a = eqb a 0
 inSpan (b ∷ elements) a = inSpan elements a || inSpan elements (sum a b)
 
--- the place of the first of the elements that lies in the span of those before it, where `earlier` stand before them all and the
--- first has this place
+-- the first of the elements that lies in the span of those before it, `earlier` ones included; the first element has the place given
 unfoldable pub firstDependentAfter : List ℕ → List ℕ → ℕ → Position
 firstDependentAfter earlier [] place = Absent
 firstDependentAfter earlier (b ∷ elements) place =
@@ -24,5 +23,6 @@ firstDependentAfter earlier (b ∷ elements) place =
 unfoldable pub firstDependent : List ℕ → Position
 firstDependent basis = firstDependentAfter [] basis 0
 
+-- no element lies in the span of earlier ones
 abbrev pub Independent : List ℕ → Type 0
 Independent basis = firstDependent basis ≡ Absent

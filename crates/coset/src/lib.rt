@@ -14,12 +14,29 @@ ghost use Rattle.coset.specs.Span.{firstDependent};
 ghost use Rattle.coset.specs.Elimination.{cleared};
 ghost use Rattle.coset.specs.Sequence.{prefixSums};
 
-// The first place whose element lies in the span of the earlier ones, among the first 20 elements: no basis has more.
+// The first place whose element lies in the span of the earlier ones.
 pub fn first_dependent(basis: &[u64]) -> Position
-    ensures { λ r. ⌜ r ≡ firstDependent (take 20 (now (basis .entry))) ⌝ }
+    ensures { λ r. ⌜ r ≡ firstDependent (now (basis .entry)) ⌝ }
 {
-    let count = at_most_20(basis.len());
-    let mut rows = [0u64; 20];
+    let first = first_among_64(basis);
+    match first {
+        Position::At(place) => Position::At(place),
+        Position::Absent => {
+            // More than 64 elements of 64 bits are never independent.
+            if basis.len() > 64 {
+                return Position::At(64);
+            }
+            Position::Absent
+        }
+    }
+}
+
+// The same among the first 64 elements.
+fn first_among_64(basis: &[u64]) -> Position
+    ensures { λ r. ⌜ r ≡ firstDependent (take 64 (now (basis .entry))) ⌝ }
+{
+    let count = lesser(basis.len(), 64);
+    let mut rows = [0u64; 64];
     let mut i: usize = 0;
     while i < count {
         rows[i] = basis[i];
@@ -28,13 +45,13 @@ pub fn first_dependent(basis: &[u64]) -> Position
     first_dependent_of(&mut rows[..count])
 }
 
-fn at_most_20(length: usize) -> usize
-    ensures { λ r. ⌜ r ≡ min length 20 ⌝ }
+fn lesser(a: usize, b: usize) -> usize
+    ensures { λ r. ⌜ r ≡ min a b ⌝ }
 {
-    if length < 20 { length } else { 20 }
+    if a < b { a } else { b }
 }
 
-// The same of any list, by elimination in the list itself.
+// The same of a list by elimination in the list itself, of which rubbish is left.
 fn first_dependent_of(rows: &mut [u64]) -> Position
     ensures { λ r. ⌜ r ≡ firstDependent (now (rows .entry)) ⌝ }
 {
@@ -84,11 +101,11 @@ pub fn point(offset: Element, basis: &[u64], j: usize) -> Element
     point
 }
 
-// Entry t is the sum of the first t + 1 elements of a basis of at most 20: `stepped` goes from point to point by them.
+// The sums of the first one, two, .. elements of a basis of at most 20, and zeros: `stepped` goes from point to point by them.
 pub fn prefix_sums(basis: &[u64]) -> [u64; 20]
     ensures { λ r. ⌜ r ≡ padded gf64 20 (prefixSums 0 (take 20 (now (basis .entry)))) ⌝ }
 {
-    let count = at_most_20(basis.len());
+    let count = lesser(basis.len(), 20);
     let mut sums = [0u64; 20];
     let mut sum: u64 = 0;
     let mut t: usize = 0;
@@ -100,7 +117,7 @@ pub fn prefix_sums(basis: &[u64]) -> [u64; 20]
     sums
 }
 
-// From point j of a coset to point j + 1, where next is j + 1.
+// From point j of a coset to point j + 1, where next is j + 1 and a point's index, and sums are the basis's prefix sums.
 pub fn stepped(sums: &[u64], point: Element, next: usize) -> Element
     ensures { λ r. ⌜ r .0 ≡ sum (point .0) (getD (now (sums .entry)) (trailingZeros 64 next) 0) ⌝ }
 {

@@ -10,8 +10,8 @@ use Rattle.gf64.proofs.Xor.{xor-assoc}
 use Rattle.gf64.proofs.Ring.{product-lt, product-comm, product-assoc, product-add-r, product-one-l}
 use Rattle.gf64.proofs.Inverse.{inverse-lt, inverse-right}
 use Rattle.poly.specs.Carrier.{Laws, gf64}
-use Rattle.poly.specs.Theorems.{Roots, Interpolation, Division}
-use Rattle.poly.proofs.Theorems as over-carriers
+use Rattle.poly.specs.Theorems.{AtField}
+use Rattle.poly.proofs.Theorems.{over-every-carrier}
 
 one-not-zero : _≢_ {A = ℕ} 1 0
 one-not-zero e = omega arith
@@ -22,26 +22,26 @@ gf64-laws =
     record {
       sum-commutative = xor-comm;
       sum-associative = xor-assoc;
-      sum-nought = λ a. refl;
+      sum-zero = λ a. refl;
       sum-self = xor-self;
       product-commutative = product-comm;
       product-associative = product-assoc;
       distributive = product-add-r;
-      nought-element = le-by-compare 1 (2 ^ 64) tt;
+      zero-element = le-by-compare 1 (2 ^ 64) tt;
       one-element = le-by-compare 2 (2 ^ 64) tt;
       sum-element = xor-lt 64;
       product-element = λ a b ea eb. product-lt a b;
       inverse-element = λ a ea. inverse-lt a;
-      one-not-nought = one-not-zero;
+      one-not-zero = one-not-zero;
       one-neutral = product-one-l;
-      inverse-divides = inverse-right;
+      inverts = inverse-right;
     }
 
-pub roots : Roots ℕ gf64 IsElement
-roots = over-carriers.roots gf64 IsElement gf64-laws
-
-pub interpolation : Interpolation ℕ gf64 IsElement
-interpolation = over-carriers.interpolation gf64 IsElement gf64-laws
-
-pub division : Division ℕ gf64 IsElement
-division = over-carriers.division gf64 IsElement gf64-laws
+pub at-field : AtField
+at-field =
+    record {
+      laws = gf64-laws;
+      roots = over-every-carrier .roots ℕ gf64 IsElement gf64-laws;
+      interpolation = over-every-carrier .interpolation ℕ gf64 IsElement gf64-laws;
+      row-division = over-every-carrier .row-division ℕ gf64 IsElement gf64-laws;
+    }

@@ -9,8 +9,8 @@ use lib.ListN.{length, drop, replicate, length-replicate, drop-of-length-le}
 use Rattle.poly.specs.Carrier.{Operations, Laws}
 use Rattle.poly.specs.Polynomial.{All, Zeros, evaluate, plus, scale}
 use Rattle.poly.specs.Rows.{monic, butLast, last, remainderBy, quotientBy}
-use Rattle.poly.proofs.Sums.{sum-nought-r, sum-cancel, product-nought-r, product-nought-l, product-left-comm, distributive-l}
-use Rattle.poly.proofs.Evaluation.{evaluate-plus, evaluate-scale, evaluate-noughts, plus-elements, scale-elements, length-plus, length-scale}
+use Rattle.poly.proofs.Sums.{sum-zero-r, sum-cancel, product-zero-r, product-zero-l, product-left-comm, distributive-l}
+use Rattle.poly.proofs.Evaluation.{evaluate-plus, evaluate-scale, evaluate-replicated, plus-elements, scale-elements, length-plus, length-scale}
 
 -- ---- lengths
 
@@ -31,7 +31,7 @@ length-reduced F q c r h =
 
 pub length-remainder : {A : Type 0} (F : Operations A) (q p : List A) → length (remainderBy F q p) ≡ length q
 unfolding remainderBy reduced
-length-remainder F q [] = length-replicate (length q) (F .nought)
+length-remainder F q [] = length-replicate (length q) (F .zero)
 length-remainder F q (c ∷ p) = length-reduced F q c (remainderBy F q p) (length-remainder F q p)
 
 pub length-quotient : {A : Type 0} (F : Operations A) (q p : List A) → length (quotientBy F q p) ≡ length p
@@ -40,7 +40,7 @@ length-quotient F q [] = refl
 length-quotient F q (c ∷ p) = ap suc (length-quotient F q p)
 
 module _ {A : Type 0} (F : Operations A) (Element : A → Type 0) (L : Laws A F Element) where
-  open Operations F using (nought as 𝟘, one as 𝟙, sum as _⊕_, product as _⊗_)
+  open Operations F using (zero as 𝟘, one as 𝟙, sum as _⊕_, product as _⊗_)
 
   infixl 60 _⊕_
   infixl 70 _⊗_
@@ -56,13 +56,13 @@ module _ {A : Type 0} (F : Operations A) (Element : A → Type 0) (L : Laws A F 
   last-element c [] ec er = ec
   last-element c (d ∷ r) ec er = last-element d r (er .0) (er .1)
 
-  noughts-elements : (n : ℕ) → All Element (replicate n 𝟘)
-  noughts-elements zero = record {}
-  noughts-elements (suc n) = (L .nought-element, noughts-elements n)
+  replicated-elements : (n : ℕ) → All Element (replicate n 𝟘)
+  replicated-elements zero = record {}
+  replicated-elements (suc n) = (L .zero-element, replicated-elements n)
 
   pub remainder-elements : (q p : List A) → All Element q → All Element p → All Element (remainderBy F q p)
   unfolding remainderBy
-  remainder-elements q [] eq ep = noughts-elements (length q)
+  remainder-elements q [] eq ep = replicated-elements (length q)
   remainder-elements q (c ∷ p) eq ep = step (remainderBy F q p) (remainder-elements q p eq (ep .1))
     where
       step : (r : List A) → All Element r → All Element (plus F (butLast c r) (scale F (last c r) q))
@@ -87,7 +87,7 @@ module _ {A : Type 0} (F : Operations A) (Element : A → Type 0) (L : Laws A F 
       → evaluate F (c ∷ r) x ≡ evaluate F (butLast c r) x ⊕ raised x (length r) (last c r)
   unfolding evaluate butLast last raised
   evaluate-last c [] x =
-      ap (λ (v : A). c ⊕ v) (product-nought-r F Element L x) ∙ L .sum-commutative c 𝟘
+      ap (λ (v : A). c ⊕ v) (product-zero-r F Element L x) ∙ L .sum-commutative c 𝟘
   evaluate-last c (d ∷ r) x =
       ap (λ (v : A). c ⊕ x ⊗ v) (evaluate-last d r x)
       ∙ ap (λ (v : A). c ⊕ v) (L .distributive x (evaluate F (butLast d r) x) (raised x (length r) (last d r)))
@@ -107,8 +107,8 @@ module _ {A : Type 0} (F : Operations A) (Element : A → Type 0) (L : Laws A F 
       → evaluate F (monic F q) x ⊗ v ≡ evaluate F q x ⊗ v ⊕ raised x (length q) v
   unfolding evaluate monic raised
   evaluate-monic [] x v ev =
-      ap (λ (s : A). s ⊗ v) (ap (λ (s : A). 𝟙 ⊕ s) (product-nought-r F Element L x) ∙ sum-nought-r F Element L 𝟙)
-      ∙ L .one-neutral v ev ∙ sym (L .sum-nought v) ∙ ap (λ (s : A). s ⊕ v) (sym (product-nought-l F Element L v))
+      ap (λ (s : A). s ⊗ v) (ap (λ (s : A). 𝟙 ⊕ s) (product-zero-r F Element L x) ∙ sum-zero-r F Element L 𝟙)
+      ∙ L .one-neutral v ev ∙ sym (L .sum-zero v) ∙ ap (λ (s : A). s ⊕ v) (sym (product-zero-l F Element L v))
   evaluate-monic (c ∷ q) x v ev =
       monic-step c x (evaluate F (monic F q) x) (evaluate F q x) (raised x (length q) v) v (evaluate-monic q x v ev)
 
@@ -159,17 +159,17 @@ module _ {A : Type 0} (F : Operations A) (Element : A → Type 0) (L : Laws A F 
   unfolding evaluate remainderBy quotientBy reduced
   division q [] x eq ep =
       sym
-      (ap₂ _⊕_ (evaluate-noughts F Element L (length q) x) (product-nought-r F Element L (evaluate F (monic F q) x))
-      ∙ L .sum-nought 𝟘)
+      (ap₂ _⊕_ (evaluate-replicated F Element L (length q) x) (product-zero-r F Element L (evaluate F (monic F q) x))
+      ∙ L .sum-zero 𝟘)
   division q (c ∷ p) x eq ep =
       division-cons q c (remainderBy F q p) x (evaluate F p x) (evaluate F (quotientBy F q p) x) (length-remainder F q p)
       (last-element c (remainderBy F q p) (ep .0) (remainder-elements q p eq (ep .1))) (division q p x eq (ep .1))
 
   -- ---- degrees: Zeros (drop n p) says that the coefficients from n on are zero
 
-  zeros-noughts : (n : ℕ) → Zeros F (replicate n 𝟘)
-  zeros-noughts zero = record {}
-  zeros-noughts (suc n) = (refl, zeros-noughts n)
+  zeros-replicated : (n : ℕ) → Zeros F (replicate n 𝟘)
+  zeros-replicated zero = record {}
+  zeros-replicated (suc n) = (refl, zeros-replicated n)
 
   pub zeros-drop : (n : ℕ) (p : List A) → Zeros F p → Zeros F (drop n p)
   zeros-drop zero p z = z
@@ -179,7 +179,7 @@ module _ {A : Type 0} (F : Operations A) (Element : A → Type 0) (L : Laws A F 
   zeros-scale : (t : A) (q : List A) → t ≡ 𝟘 → Zeros F (scale F t q)
   unfolding scale
   zeros-scale t [] e = record {}
-  zeros-scale t (c ∷ q) e = (ap (λ (s : A). s ⊗ c) e ∙ product-nought-l F Element L c, zeros-scale t q e)
+  zeros-scale t (c ∷ q) e = (ap (λ (s : A). s ⊗ c) e ∙ product-zero-l F Element L c, zeros-scale t q e)
 
   plus-zeros : (p q : List A) → length q ≤ length p → Zeros F q → plus F p q ≡ p
   unfolding plus
@@ -187,7 +187,7 @@ module _ {A : Type 0} (F : Operations A) (Element : A → Type 0) (L : Laws A F 
   plus-zeros [] (d ∷ q) h z = absurd (omega arith)
   plus-zeros (c ∷ p) [] h z = refl
   plus-zeros (c ∷ p) (d ∷ q) h z =
-      ap₂ (λ (a : A) (s : List A). a ∷ s) (ap (λ (s : A). c ⊕ s) (z .0) ∙ sum-nought-r F Element L c) (plus-zeros p q (omega arith) (z .1))
+      ap₂ (λ (a : A) (s : List A). a ∷ s) (ap (λ (s : A). c ⊕ s) (z .0) ∙ sum-zero-r F Element L c) (plus-zeros p q (omega arith) (z .1))
 
   -- where the leading coefficient is zero nothing is taken off
   reduced-same : (q : List A) (c : A) (r : List A) → length r ≡ length q → last c r ≡ 𝟘 → reduced F q c r ≡ butLast c r
@@ -229,7 +229,7 @@ module _ {A : Type 0} (F : Operations A) (Element : A → Type 0) (L : Laws A F 
 
   within : (q p : List A) (i : ℕ) → i ≤ length q → Zeros F (drop i p) → Within q p i
   unfolding Within remainderBy quotientBy
-  within q [] i h z = (zeros-drop i (replicate (length q) 𝟘) (zeros-noughts (length q)), record {})
+  within q [] i h z = (zeros-drop i (replicate (length q) 𝟘) (zeros-replicated (length q)), record {})
   within q (c ∷ p) zero h z =
       let rest = within q p zero h (z .1) in
       within-cons q c p zero h (z .0, rest .0) (rest .1)

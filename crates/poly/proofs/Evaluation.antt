@@ -6,7 +6,7 @@ use native.Mathlib.Omega.{arith}
 use lib.ListN.{length, replicate, length-map, length-append, length-replicate}
 use Rattle.poly.specs.Carrier.{Operations, Laws}
 use Rattle.poly.specs.Polynomial.{All, evaluate, plus, scale, padded, timesLinear}
-use Rattle.poly.proofs.Sums.{sum-nought-r, sum-swap, product-nought-r, product-left-comm, distributive-l}
+use Rattle.poly.proofs.Sums.{sum-zero-r, sum-swap, product-zero-r, product-left-comm, distributive-l}
 
 -- ---- lengths
 
@@ -28,10 +28,10 @@ length-timesLinear F c x p = length-plus F (c ∷ p) (scale F x p) (omega (arith
 pub length-padded : {A : Type 0} (F : Operations A) (n : ℕ) (p : List A) → length p ≤ n → length (padded F n p) ≡ n
 unfolding padded
 length-padded F n p h =
-    length-append p (replicate (n - length p) (F .nought)) ∙ ap (λ (m : ℕ). length p + m) (length-replicate (n - length p) (F .nought)) ∙ omega arith
+    length-append p (replicate (n - length p) (F .zero)) ∙ ap (λ (m : ℕ). length p + m) (length-replicate (n - length p) (F .zero)) ∙ omega arith
 
 module _ {A : Type 0} (F : Operations A) (Element : A → Type 0) (L : Laws A F Element) where
-  open Operations F using (nought as 𝟘, sum as _⊕_, product as _⊗_)
+  open Operations F using (zero as 𝟘, sum as _⊕_, product as _⊗_)
 
   infixl 60 _⊕_
   infixl 70 _⊗_
@@ -43,14 +43,14 @@ module _ {A : Type 0} (F : Operations A) (Element : A → Type 0) (L : Laws A F 
 
   pub evaluate-plus : (p q : List A) (x : A) → evaluate F (plus F p q) x ≡ evaluate F p x ⊕ evaluate F q x
   unfolding evaluate plus
-  evaluate-plus [] q x = sym (L .sum-nought (evaluate F q x))
-  evaluate-plus (c ∷ p) [] x = sym (sum-nought-r F Element L (evaluate F (c ∷ p) x))
+  evaluate-plus [] q x = sym (L .sum-zero (evaluate F q x))
+  evaluate-plus (c ∷ p) [] x = sym (sum-zero-r F Element L (evaluate F (c ∷ p) x))
   evaluate-plus (c ∷ p) (d ∷ q) x =
       ap (λ (v : A). (c ⊕ d) ⊕ x ⊗ v) (evaluate-plus p q x) ∙ horner-plus c d x (evaluate F p x) (evaluate F q x)
 
   pub evaluate-scale : (a : A) (p : List A) (x : A) → evaluate F (scale F a p) x ≡ a ⊗ evaluate F p x
   unfolding evaluate scale
-  evaluate-scale a [] x = sym (product-nought-r F Element L a)
+  evaluate-scale a [] x = sym (product-zero-r F Element L a)
   evaluate-scale a (c ∷ p) x =
       ap (λ (v : A). a ⊗ c ⊕ x ⊗ v) (evaluate-scale a p x)
       ∙ ap (λ (v : A). a ⊗ c ⊕ v) (product-left-comm F Element L x a (evaluate F p x))
@@ -65,15 +65,15 @@ module _ {A : Type 0} (F : Operations A) (Element : A → Type 0) (L : Laws A F 
       ∙ L .sum-associative c (z ⊗ evaluate F p z) (x ⊗ evaluate F p z)
       ∙ ap (λ (v : A). c ⊕ v) (sym (distributive-l F Element L z x (evaluate F p z)))
 
-  pub evaluate-noughts : (n : ℕ) (x : A) → evaluate F (replicate n 𝟘) x ≡ 𝟘
+  pub evaluate-replicated : (n : ℕ) (x : A) → evaluate F (replicate n 𝟘) x ≡ 𝟘
   unfolding evaluate
-  evaluate-noughts zero x = refl
-  evaluate-noughts (suc n) x =
-      L .sum-nought (x ⊗ evaluate F (replicate n 𝟘) x) ∙ ap (λ (v : A). x ⊗ v) (evaluate-noughts n x) ∙ product-nought-r F Element L x
+  evaluate-replicated zero x = refl
+  evaluate-replicated (suc n) x =
+      L .sum-zero (x ⊗ evaluate F (replicate n 𝟘) x) ∙ ap (λ (v : A). x ⊗ v) (evaluate-replicated n x) ∙ product-zero-r F Element L x
 
   evaluate-followed : (p : List A) (n : ℕ) (x : A) → evaluate F (p ++ replicate n 𝟘) x ≡ evaluate F p x
   unfolding evaluate
-  evaluate-followed [] n x = evaluate-noughts n x
+  evaluate-followed [] n x = evaluate-replicated n x
   evaluate-followed (c ∷ p) n x = ap (λ (v : A). c ⊕ x ⊗ v) (evaluate-followed p n x)
 
   pub evaluate-padded : (n : ℕ) (p : List A) (x : A) → evaluate F (padded F n p) x ≡ evaluate F p x
@@ -84,7 +84,7 @@ module _ {A : Type 0} (F : Operations A) (Element : A → Type 0) (L : Laws A F 
 
   pub evaluate-element : (p : List A) (x : A) → All Element p → Element x → Element (evaluate F p x)
   unfolding evaluate
-  evaluate-element [] x ep ex = L .nought-element
+  evaluate-element [] x ep ex = L .zero-element
   evaluate-element (c ∷ p) x ep ex =
       L .sum-element c (x ⊗ evaluate F p x) (ep .0) (L .product-element x (evaluate F p x) ex (evaluate-element p x (ep .1) ex))
 
@@ -105,7 +105,7 @@ module _ {A : Type 0} (F : Operations A) (Element : A → Type 0) (L : Laws A F 
 
   followed-elements : (p : List A) (n : ℕ) → All Element p → All Element (p ++ replicate n 𝟘)
   followed-elements [] zero ep = record {}
-  followed-elements [] (suc n) ep = (L .nought-element, followed-elements [] n ep)
+  followed-elements [] (suc n) ep = (L .zero-element, followed-elements [] n ep)
   followed-elements (c ∷ p) n ep = (ep .0, followed-elements p n (ep .1))
 
   pub padded-elements : (n : ℕ) (p : List A) → All Element p → All Element (padded F n p)

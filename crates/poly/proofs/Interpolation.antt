@@ -7,17 +7,17 @@ use Prim.Native.Nat.{ℕ, suc, _≤_}
 use native.Mathlib.Omega.{arith}
 use lib.ListN.{length, length-map}
 use Rattle.poly.specs.Carrier.{Operations, Laws}
-use Rattle.poly.specs.Polynomial.{All, Distinct, evaluate, padded, timesLinear, slopes, interpolant}
-use Rattle.poly.proofs.Sums.{sum-nought-r, sum-cancel, sum-not-nought, product-nought-l, divides}
+use Rattle.poly.specs.Polynomial.{All, Distinct, evaluate, padded, timesLinear, dividedDifferences, interpolant}
+use Rattle.poly.proofs.Sums.{sum-zero-r, sum-cancel, sum-not-zero, product-zero-l, divides}
 use Rattle.poly.proofs.Evaluation.{evaluate-timesLinear, evaluate-padded, evaluate-element, length-timesLinear, length-padded, timesLinear-elements, padded-elements}
 use Rattle.poly.proofs.Roots.{unique}
 
-length-slopes : {A : Type 0} (F : Operations A) (x y : A) (points values : List A)
-    → length points ≡ length values → length (slopes F x y points values) ≡ length points
-unfolding slopes
-length-slopes F x y [] values h = refl
-length-slopes F x y (x′ ∷ points) [] h = absurd (omega arith)
-length-slopes F x y (x′ ∷ points) (y′ ∷ values) h = ap suc (length-slopes F x y points values (omega arith))
+length-dividedDifferences : {A : Type 0} (F : Operations A) (x y : A) (points values : List A)
+    → length points ≡ length values → length (dividedDifferences F x y points values) ≡ length points
+unfolding dividedDifferences
+length-dividedDifferences F x y [] values h = refl
+length-dividedDifferences F x y (x′ ∷ points) [] h = absurd (omega arith)
+length-dividedDifferences F x y (x′ ∷ points) (y′ ∷ values) h = ap suc (length-dividedDifferences F x y points values (omega arith))
 
 pub length-interpolant : {A : Type 0} (F : Operations A) (points values : List A)
     → length points ≡ length values → length (interpolant F points values) ≡ length points
@@ -25,22 +25,22 @@ unfolding interpolant
 length-interpolant F [] values h = refl
 length-interpolant F (x ∷ points) [] h = absurd (omega arith)
 length-interpolant F (x ∷ points) (y ∷ values) h =
-    length-timesLinear F y x (interpolant F points (slopes F x y points values))
-    ∙ ap suc (length-interpolant F points (slopes F x y points values) (sym (length-slopes F x y points values (omega arith))))
+    length-timesLinear F y x (interpolant F points (dividedDifferences F x y points values))
+    ∙ ap suc (length-interpolant F points (dividedDifferences F x y points values) (sym (length-dividedDifferences F x y points values (omega arith))))
 
 module _ {A : Type 0} (F : Operations A) (Element : A → Type 0) (L : Laws A F Element) where
-  open Operations F using (nought as 𝟘, sum as _⊕_, product as _⊗_)
+  open Operations F using (zero as 𝟘, sum as _⊕_, product as _⊗_)
 
   infixl 60 _⊕_
   infixl 70 _⊗_
-  slopes-elements : (x y : A) (points values : List A) → Element x → Element y → All Element points → All Element values
-      → All Element (slopes F x y points values)
-  unfolding slopes
-  slopes-elements x y [] values ex ey ep ev = record {}
-  slopes-elements x y (x′ ∷ points) [] ex ey ep ev = record {}
-  slopes-elements x y (x′ ∷ points) (y′ ∷ values) ex ey ep ev = (
+  dividedDifferences-elements : (x y : A) (points values : List A) → Element x → Element y → All Element points → All Element values
+      → All Element (dividedDifferences F x y points values)
+  unfolding dividedDifferences
+  dividedDifferences-elements x y [] values ex ey ep ev = record {}
+  dividedDifferences-elements x y (x′ ∷ points) [] ex ey ep ev = record {}
+  dividedDifferences-elements x y (x′ ∷ points) (y′ ∷ values) ex ey ep ev = (
     L .product-element (F .inverse (x′ ⊕ x)) (y′ ⊕ y) (L .inverse-element (x′ ⊕ x) (L .sum-element x′ x (ep .0) ex)) (L .sum-element y′ y (ev .0) ey),
-    slopes-elements x y points values ex ey (ep .1) (ev .1),
+    dividedDifferences-elements x y points values ex ey (ep .1) (ev .1),
   )
 
   pub interpolant-elements : (points values : List A) → All Element points → All Element values
@@ -49,15 +49,15 @@ module _ {A : Type 0} (F : Operations A) (Element : A → Type 0) (L : Laws A F 
   interpolant-elements [] values ep ev = record {}
   interpolant-elements (x ∷ points) [] ep ev = record {}
   interpolant-elements (x ∷ points) (y ∷ values) ep ev =
-      timesLinear-elements F Element L y x (interpolant F points (slopes F x y points values)) (ev .0) (ep .0)
-      (interpolant-elements points (slopes F x y points values) (ep .1) (slopes-elements x y points values (ep .0) (ev .0) (ep .1) (ev .1)))
+      timesLinear-elements F Element L y x (interpolant F points (dividedDifferences F x y points values)) (ev .0) (ep .0)
+      (interpolant-elements points (dividedDifferences F x y points values) (ep .1) (dividedDifferences-elements x y points values (ep .0) (ev .0) (ep .1) (ev .1)))
 
   -- y + (x + x) · q is y
   at-own-point : (x y : A) (q : List A) → evaluate F (timesLinear F y x q) x ≡ y
   at-own-point x y q =
       evaluate-timesLinear F Element L y x q x
-      ∙ ap (λ (v : A). y ⊕ v) (ap (λ (v : A). v ⊗ evaluate F q x) (L .sum-self x) ∙ product-nought-l F Element L (evaluate F q x))
-      ∙ sum-nought-r F Element L y
+      ∙ ap (λ (v : A). y ⊕ v) (ap (λ (v : A). v ⊗ evaluate F q x) (L .sum-self x) ∙ product-zero-l F Element L (evaluate F q x))
+      ∙ sum-zero-r F Element L y
 
   -- where q has the slope for its value, y + (x′ + x) · q is y′
   at-other-point : (x y x′ y′ : A) (q : List A) → Element x → Element y → Element x′ → Element y′ → x′ ≢ x
@@ -66,14 +66,14 @@ module _ {A : Type 0} (F : Operations A) (Element : A → Type 0) (L : Laws A F 
       evaluate-timesLinear F Element L y x q x′
       ∙ ap (λ (v : A). y ⊕ v)
       (ap (λ (v : A). (x′ ⊕ x) ⊗ v) e
-      ∙ divides F Element L (x′ ⊕ x) (y′ ⊕ y) (L .sum-element x′ x ex′ ex) (sum-not-nought F Element L x′ x ne) (L .sum-element y′ y ey′ ey)
+      ∙ divides F Element L (x′ ⊕ x) (y′ ⊕ y) (L .sum-element x′ x ex′ ex) (sum-not-zero F Element L x′ x ne) (L .sum-element y′ y ey′ ey)
       ∙ L .sum-commutative y′ y)
       ∙ sum-cancel F Element L y y′
 
   at-other-points : (x y : A) (q : List A) → Element x → Element y → (points values : List A) → All Element points → All Element values
       → All (λ x′. x′ ≢ x) points → length points ≡ length values
-      → map (evaluate F q) points ≡ slopes F x y points values → map (evaluate F (timesLinear F y x q)) points ≡ values
-  unfolding slopes
+      → map (evaluate F q) points ≡ dividedDifferences F x y points values → map (evaluate F (timesLinear F y x q)) points ≡ values
+  unfolding dividedDifferences
   at-other-points x y q ex ey [] [] ep ev d h e = refl
   at-other-points x y q ex ey [] (y′ ∷ values) ep ev d h e = absurd (omega arith)
   at-other-points x y q ex ey (x′ ∷ points) [] ep ev d h e = absurd (omega arith)
@@ -90,10 +90,10 @@ module _ {A : Type 0} (F : Operations A) (Element : A → Type 0) (L : Laws A F 
   interpolant-agrees [] (y ∷ values) ep ev d h = absurd (omega arith)
   interpolant-agrees (x ∷ points) [] ep ev d h = absurd (omega arith)
   interpolant-agrees (x ∷ points) (y ∷ values) ep ev d h =
-      ap₂ (λ (a : A) (s : List A). a ∷ s) (at-own-point x y (interpolant F points (slopes F x y points values)))
-      (at-other-points x y (interpolant F points (slopes F x y points values)) (ep .0) (ev .0) points values (ep .1) (ev .1) (d .0) (omega arith)
-      (interpolant-agrees points (slopes F x y points values) (ep .1) (slopes-elements x y points values (ep .0) (ev .0) (ep .1) (ev .1)) (d .1)
-      (sym (length-slopes F x y points values (omega arith)))))
+      ap₂ (λ (a : A) (s : List A). a ∷ s) (at-own-point x y (interpolant F points (dividedDifferences F x y points values)))
+      (at-other-points x y (interpolant F points (dividedDifferences F x y points values)) (ep .0) (ev .0) points values (ep .1) (ev .1) (d .0) (omega arith)
+      (interpolant-agrees points (dividedDifferences F x y points values) (ep .1) (dividedDifferences-elements x y points values (ep .0) (ev .0) (ep .1) (ev .1)) (d .1)
+      (sym (length-dividedDifferences F x y points values (omega arith)))))
 
   -- whatever has as many coefficients as there are points, and the values at them, is the interpolant
   pub interpolant-unique : (p points values : List A) → All Element p → All Element points → All Element values → Distinct points

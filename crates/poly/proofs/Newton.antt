@@ -8,8 +8,8 @@ use native.Mathlib.Omega.{arith}
 use lib.ListN.{length, getD, take, length-append}
 use Rattle.poly.specs.Carrier.{Operations, Laws}
 use Rattle.poly.specs.Polynomial.{All, Distinct, evaluate, plus, scale, timesLinear, interpolant}
-use Rattle.poly.specs.Newton.{newtonValue, weight, newtonCoefficient, newtonAfter, newtonCoefficients, joined, expanded}
-use Rattle.poly.proofs.Sums.{sum-nought-r, sum-cancel, sum-not-nought, product-nought-l, divides, no-zero-divisors}
+use Rattle.poly.specs.Newton.{newtonValue, vanishing, newtonCoefficient, newtonAfter, newtonCoefficients, joined, expanded}
+use Rattle.poly.proofs.Sums.{sum-zero-r, sum-cancel, sum-not-zero, product-zero-l, divides, no-zero-divisors}
 use Rattle.poly.proofs.Evaluation.{evaluate-timesLinear, length-timesLinear, timesLinear-elements}
 use Rattle.poly.proofs.Interpolation.{interpolant-unique}
 
@@ -37,7 +37,7 @@ length-expanded F (x ∷ points) (c ∷ cs) h =
     length-joined F x (c ∷ expanded F points cs) ∙ ap suc (length-expanded F points cs (omega arith))
 
 module _ {A : Type 0} (F : Operations A) (Element : A → Type 0) (L : Laws A F Element) where
-  open Operations F using (nought as 𝟘, one as 𝟙, sum as _⊕_, product as _⊗_)
+  open Operations F using (zero as 𝟘, one as 𝟙, sum as _⊕_, product as _⊗_)
 
   infixl 60 _⊕_
   infixl 70 _⊗_
@@ -49,54 +49,54 @@ module _ {A : Type 0} (F : Operations A) (Element : A → Type 0) (L : Laws A F 
       ∙ ap (λ (s : A). (c ⊕ d ⊗ n) ⊕ s) (sym (L .product-associative d w r))
 
   pub newton-split : (points cs points′ cs′ : List A) (z : A) → length points ≡ length cs → Element (newtonValue F points′ cs′ z)
-      → newtonValue F (points ++ points′) (cs ++ cs′) z ≡ newtonValue F points cs z ⊕ weight F points z ⊗ newtonValue F points′ cs′ z
-  unfolding newtonValue weight
+      → newtonValue F (points ++ points′) (cs ++ cs′) z ≡ newtonValue F points cs z ⊕ vanishing F points z ⊗ newtonValue F points′ cs′ z
+  unfolding newtonValue vanishing
   newton-split [] [] points′ cs′ z h e =
-      sym (L .sum-nought (𝟙 ⊗ newtonValue F points′ cs′ z) ∙ L .one-neutral (newtonValue F points′ cs′ z) e)
+      sym (L .sum-zero (𝟙 ⊗ newtonValue F points′ cs′ z) ∙ L .one-neutral (newtonValue F points′ cs′ z) e)
   newton-split [] (c ∷ cs) points′ cs′ z h e = absurd (omega arith)
   newton-split (x ∷ points) [] points′ cs′ z h e = absurd (omega arith)
   newton-split (x ∷ points) (c ∷ cs) points′ cs′ z h e =
       ap (λ (s : A). c ⊕ (z ⊕ x) ⊗ s) (newton-split points cs points′ cs′ z (omega arith) e)
-      ∙ split-step c (z ⊕ x) (newtonValue F points cs z) (weight F points z) (newtonValue F points′ cs′ z)
+      ∙ split-step c (z ⊕ x) (newtonValue F points cs z) (vanishing F points z) (newtonValue F points′ cs′ z)
 
-  pub weight-last : (points : List A) (x z : A) → weight F (points ++ (x ∷ [])) z ≡ weight F points z ⊗ (z ⊕ x)
-  unfolding weight
-  weight-last [] x z = L .product-commutative (z ⊕ x) 𝟙
-  weight-last (y ∷ points) x z =
-      ap (λ (s : A). (z ⊕ y) ⊗ s) (weight-last points x z) ∙ sym (L .product-associative (z ⊕ y) (weight F points z) (z ⊕ x))
+  pub vanishing-last : (points : List A) (x z : A) → vanishing F (points ++ (x ∷ [])) z ≡ vanishing F points z ⊗ (z ⊕ x)
+  unfolding vanishing
+  vanishing-last [] x z = L .product-commutative (z ⊕ x) 𝟙
+  vanishing-last (y ∷ points) x z =
+      ap (λ (s : A). (z ⊕ y) ⊗ s) (vanishing-last points x z) ∙ sym (L .product-associative (z ⊕ y) (vanishing F points z) (z ⊕ x))
 
   -- ---- elements
 
   pub newtonValue-element : (points cs : List A) (z : A) → All Element points → All Element cs → Element z → Element (newtonValue F points cs z)
   unfolding newtonValue
-  newtonValue-element [] cs z ep ec ez = L .nought-element
-  newtonValue-element (x ∷ points) [] z ep ec ez = L .nought-element
+  newtonValue-element [] cs z ep ec ez = L .zero-element
+  newtonValue-element (x ∷ points) [] z ep ec ez = L .zero-element
   newtonValue-element (x ∷ points) (c ∷ cs) z ep ec ez =
       L .sum-element c ((z ⊕ x) ⊗ newtonValue F points cs z) (ec .0)
       (L .product-element (z ⊕ x) (newtonValue F points cs z) (L .sum-element z x ez (ep .0)) (newtonValue-element points cs z (ep .1) (ec .1) ez))
 
-  pub weight-element : (points : List A) (z : A) → All Element points → Element z → Element (weight F points z)
-  unfolding weight
-  weight-element [] z ep ez = L .one-element
-  weight-element (x ∷ points) z ep ez =
-      L .product-element (z ⊕ x) (weight F points z) (L .sum-element z x ez (ep .0)) (weight-element points z (ep .1) ez)
+  pub vanishing-element : (points : List A) (z : A) → All Element points → Element z → Element (vanishing F points z)
+  unfolding vanishing
+  vanishing-element [] z ep ez = L .one-element
+  vanishing-element (x ∷ points) z ep ez =
+      L .product-element (z ⊕ x) (vanishing F points z) (L .sum-element z x ez (ep .0)) (vanishing-element points z (ep .1) ez)
 
   -- no point is z: so no difference is zero, nor is their product
-  pub weight-not-nought : (points : List A) (z : A) → All Element points → Element z → All (λ x. z ≢ x) points → weight F points z ≢ 𝟘
-  unfolding weight
-  weight-not-nought [] z ep ez d e = L .one-not-nought e
-  weight-not-nought (x ∷ points) z ep ez d e =
-      weight-not-nought points z (ep .1) ez (d .1)
-      (no-zero-divisors F Element L (z ⊕ x) (weight F points z) (L .sum-element z x ez (ep .0)) (sum-not-nought F Element L z x (d .0))
-      (weight-element points z (ep .1) ez) e)
+  pub vanishing-not-zero : (points : List A) (z : A) → All Element points → Element z → All (λ x. z ≢ x) points → vanishing F points z ≢ 𝟘
+  unfolding vanishing
+  vanishing-not-zero [] z ep ez d e = L .one-not-zero e
+  vanishing-not-zero (x ∷ points) z ep ez d e =
+      vanishing-not-zero points z (ep .1) ez (d .1)
+      (no-zero-divisors F Element L (z ⊕ x) (vanishing F points z) (L .sum-element z x ez (ep .0)) (sum-not-zero F Element L z x (d .0))
+      (vanishing-element points z (ep .1) ez) e)
 
   newtonCoefficient-element : (points cs : List A) (z y : A) → All Element points → All Element cs → Element z → Element y
       → Element (newtonCoefficient F points cs z y)
   unfolding newtonCoefficient
   newtonCoefficient-element points cs z y ep ec ez ey =
-      L .product-element (y ⊕ newtonValue F points cs z) (F .inverse (weight F points z))
+      L .product-element (y ⊕ newtonValue F points cs z) (F .inverse (vanishing F points z))
       (L .sum-element y (newtonValue F points cs z) ey (newtonValue-element points cs z ep ec ez))
-      (L .inverse-element (weight F points z) (weight-element points z ep ez))
+      (L .inverse-element (vanishing F points z) (vanishing-element points z ep ez))
 
   all-append : (P : A → Type 0) (xs ys : List A) → All P xs → All P ys → All P (xs ++ ys)
   all-append P [] ys hx hy = hy
@@ -109,8 +109,8 @@ module _ {A : Type 0} (F : Operations A) (Element : A → Type 0) (L : Laws A F 
   unfolding newtonValue
   own-point x c points cs =
       ap (λ (s : A). c ⊕ s)
-      (ap (λ (s : A). s ⊗ newtonValue F points cs x) (L .sum-self x) ∙ product-nought-l F Element L (newtonValue F points cs x))
-      ∙ sum-nought-r F Element L c
+      (ap (λ (s : A). s ⊗ newtonValue F points cs x) (L .sum-self x) ∙ product-zero-l F Element L (newtonValue F points cs x))
+      ∙ sum-zero-r F Element L c
 
   -- with its coefficient the form has the value y at the new point x, whatever follows
   at-new-point : (earlier known : List A) (x y : A) (points cs : List A) → length earlier ≡ length known
@@ -120,14 +120,14 @@ module _ {A : Type 0} (F : Operations A) (Element : A → Type 0) (L : Laws A F 
   at-new-point earlier known x y points cs h ee ek ex ey ep ec d =
       newton-split earlier known (x ∷ points) (c ∷ cs) x h (newtonValue-element (x ∷ points) (c ∷ cs) x (ex, ep) (element-c, ec) ex)
       ∙ ap (λ (s : A). n ⊕ w ⊗ s) (own-point x c points cs)
-      ∙ ap (λ (s : A). n ⊕ s) (filled-in n w y (weight-element earlier x ee ex) (weight-not-nought earlier x ee ex d) (L .sum-element y n ey element-n))
+      ∙ ap (λ (s : A). n ⊕ s) (filled-in n w y (vanishing-element earlier x ee ex) (vanishing-not-zero earlier x ee ex d) (L .sum-element y n ey element-n))
       ∙ ap (λ (s : A). n ⊕ s) (L .sum-commutative y n) ∙ sum-cancel F Element L n y
     where
       n : A
       n = newtonValue F earlier known x
 
       w : A
-      w = weight F earlier x
+      w = vanishing F earlier x
 
       c : A
       c = newtonCoefficient F earlier known x y

@@ -3,13 +3,13 @@
 use mathlib.Core.Path.{_≡_, refl, sym, ap, ap₂, _∙_}
 use mathlib.Core.Logic.{_≢_}
 use mathlib.Core.List.{List, [], _∷_, map}
-use Prim.Native.Nat.{zero, suc, _≤_}
+use Prim.Native.Nat.{ℕ, zero, suc, _≤_}
 use native.Mathlib.Nat.{le-of-eq}
 use native.Mathlib.Omega.{arith}
-use lib.ListN.{length}
+use lib.ListN.{length, take, drop, length-take}
 use Rattle.poly.specs.Carrier.{Operations, Laws}
-use Rattle.poly.specs.Polynomial.{All, Distinct, Zeros, evaluate, plus}
-use Rattle.poly.proofs.Sums.{sum-nought-r, sum-cancel, equal-of-sum, sum-not-nought, product-nought-r, distributive-l, product-left-comm, no-zero-divisors}
+use Rattle.poly.specs.Polynomial.{All, Distinct, Zeros, DegreeBelow, evaluate, plus}
+use Rattle.poly.proofs.Sums.{sum-zero-r, sum-cancel, equal-of-sum, sum-not-zero, product-zero-r, distributive-l, product-left-comm, no-zero-divisors}
 use Rattle.poly.proofs.Evaluation.{evaluate-plus, evaluate-element, plus-elements, length-plus}
 
 -- the quotient of c ∷ p by X + a, whatever c
@@ -23,7 +23,7 @@ length-divided F a [] = refl
 length-divided F a (d ∷ p) = ap suc (length-divided F a p)
 
 module _ {A : Type 0} (F : Operations A) (Element : A → Type 0) (L : Laws A F Element) where
-  open Operations F using (nought as 𝟘, sum as _⊕_, product as _⊗_)
+  open Operations F using (zero as 𝟘, sum as _⊕_, product as _⊗_)
 
   infixl 60 _⊕_
   infixl 70 _⊗_
@@ -52,8 +52,8 @@ module _ {A : Type 0} (F : Operations A) (Element : A → Type 0) (L : Laws A F 
       → evaluate F (c ∷ p) x ≡ evaluate F (c ∷ p) a ⊕ (x ⊕ a) ⊗ evaluate F (divided F a p) x
   unfolding evaluate divided
   division c [] a x =
-      ap (λ (v : A). c ⊕ v) (product-nought-r F Element L x ∙ sym (product-nought-r F Element L a))
-      ∙ sym (sum-nought-r F Element L (c ⊕ a ⊗ 𝟘)) ∙ ap (λ (v : A). (c ⊕ a ⊗ 𝟘) ⊕ v) (sym (product-nought-r F Element L (x ⊕ a)))
+      ap (λ (v : A). c ⊕ v) (product-zero-r F Element L x ∙ sym (product-zero-r F Element L a))
+      ∙ sym (sum-zero-r F Element L (c ⊕ a ⊗ 𝟘)) ∙ ap (λ (v : A). (c ⊕ a ⊗ 𝟘) ⊕ v) (sym (product-zero-r F Element L (x ⊕ a)))
   division c (d ∷ p) a x =
       ap (λ (v : A). c ⊕ x ⊗ v) (division d p a x)
       ∙ division-step c x a (evaluate F (d ∷ p) a) (evaluate F (divided F a p) x)
@@ -62,9 +62,9 @@ module _ {A : Type 0} (F : Operations A) (Element : A → Type 0) (L : Laws A F 
   root-of-divided : (c : A) (p : List A) (a x : A) → Element a → Element x → All Element p → x ≢ a
       → evaluate F (c ∷ p) a ≡ 𝟘 → evaluate F (c ∷ p) x ≡ 𝟘 → evaluate F (divided F a p) x ≡ 𝟘
   root-of-divided c p a x ea ex ep ne ra rx =
-      no-zero-divisors F Element L (x ⊕ a) s (L .sum-element x a ex ea) (sum-not-nought F Element L x a ne)
+      no-zero-divisors F Element L (x ⊕ a) s (L .sum-element x a ex ea) (sum-not-zero F Element L x a ne)
       (evaluate-element F Element L (divided F a p) x (divided-elements a p ea ep) ex)
-      (sym (L .sum-nought ((x ⊕ a) ⊗ s)) ∙ ap (λ (v : A). v ⊕ (x ⊕ a) ⊗ s) (sym ra) ∙ sym (division c p a x) ∙ rx)
+      (sym (L .sum-zero ((x ⊕ a) ⊗ s)) ∙ ap (λ (v : A). v ⊕ (x ⊕ a) ⊗ s) (sym ra) ∙ sym (division c p a x) ∙ rx)
     where
       s : A
       s = evaluate F (divided F a p) x
@@ -73,14 +73,14 @@ module _ {A : Type 0} (F : Operations A) (Element : A → Type 0) (L : Laws A F 
   unfolding evaluate
   evaluate-zeros [] x z = refl
   evaluate-zeros (c ∷ p) x z =
-      ap₂ (λ (b v : A). b ⊕ x ⊗ v) (z .0) (evaluate-zeros p x (z .1)) ∙ L .sum-nought (x ⊗ 𝟘) ∙ product-nought-r F Element L x
+      ap₂ (λ (b v : A). b ⊕ x ⊗ v) (z .0) (evaluate-zeros p x (z .1)) ∙ L .sum-zero (x ⊗ 𝟘) ∙ product-zero-r F Element L x
 
   -- the constant is the value less what the rest contributes
   constant-zero : (c : A) (p : List A) (a : A) → Zeros F p → evaluate F (c ∷ p) a ≡ 𝟘 → c ≡ 𝟘
   unfolding evaluate
   constant-zero c p a z e =
-      sym (sum-nought-r F Element L c)
-      ∙ ap (λ (v : A). c ⊕ v) (sym (product-nought-r F Element L a) ∙ ap (λ (v : A). a ⊗ v) (sym (evaluate-zeros p a z))) ∙ e
+      sym (sum-zero-r F Element L c)
+      ∙ ap (λ (v : A). c ⊕ v) (sym (product-zero-r F Element L a) ∙ ap (λ (v : A). a ⊗ v) (sym (evaluate-zeros p a z))) ∙ e
 
   zeros-cons : (c : A) (p : List A) (a : A) → evaluate F (c ∷ p) a ≡ 𝟘 → Zeros F p → Zeros F (c ∷ p)
   zeros-cons c p a e z = (constant-zero c p a z e, z)
@@ -112,6 +112,35 @@ module _ {A : Type 0} (F : Operations A) (Element : A → Type 0) (L : Laws A F 
   pub root-bound : (p roots : List A) → All Element p → All Element roots → Distinct roots
       → All (λ x. evaluate F p x ≡ 𝟘) roots → length p ≤ length roots → Zeros F p
   root-bound p roots ep er d r h = root-bound-by roots p er d ep r h
+
+  -- ---- the same by the degree
+
+  evaluate-take : (n : ℕ) (p : List A) (x : A) → Zeros F (drop n p) → evaluate F (take n p) x ≡ evaluate F p x
+  unfolding evaluate
+  evaluate-take zero p x z = sym (evaluate-zeros p x z)
+  evaluate-take (suc n) [] x z = refl
+  evaluate-take (suc n) (c ∷ p) x z = ap (λ (v : A). c ⊕ x ⊗ v) (evaluate-take n p x z)
+
+  take-elements : (n : ℕ) (p : List A) → All Element p → All Element (take n p)
+  take-elements zero p e = record {}
+  take-elements (suc n) [] e = record {}
+  take-elements (suc n) (c ∷ p) e = (e .0, take-elements n p (e .1))
+
+  roots-of-take : (n : ℕ) (p roots : List A) → Zeros F (drop n p) → All (λ x. evaluate F p x ≡ 𝟘) roots → All (λ x. evaluate F (take n p) x ≡ 𝟘) roots
+  roots-of-take n p [] z r = record {}
+  roots-of-take n p (x ∷ roots) z r = (evaluate-take n p x z ∙ r .0, roots-of-take n p roots z (r .1))
+
+  zeros-of-parts : (n : ℕ) (p : List A) → Zeros F (take n p) → Zeros F (drop n p) → Zeros F p
+  zeros-of-parts zero p t d = d
+  zeros-of-parts (suc n) [] t d = record {}
+  zeros-of-parts (suc n) (c ∷ p) t d = (t .0, zeros-of-parts n p (t .1) d)
+
+  -- a polynomial of degree below n with n distinct roots is zero
+  pub root-bound-degree : (n : ℕ) (p roots : List A) → All Element p → All Element roots → Distinct roots
+      → All (λ x. evaluate F p x ≡ 𝟘) roots → DegreeBelow F n p → n ≤ length roots → Zeros F p
+  root-bound-degree n p roots ep er d r z h =
+      zeros-of-parts n p
+      (root-bound (take n p) roots (take-elements n p ep) er d (roots-of-take n p roots z r) (omega (arith, length-take n p))) z
 
   -- ---- uniqueness
 

@@ -23,7 +23,7 @@ rows-lengths F q zero p = record {}
 rows-lengths F q (suc n) p = (length-remainder F q p, rows-lengths F q n (quotientBy F q p))
 
 module _ {A : Type 0} (F : Operations A) (Element : A → Type 0) (L : Laws A F Element) where
-  open Operations F using (nought as 𝟘, sum as _⊕_, product as _⊗_)
+  open Operations F using (zero as 𝟘, sum as _⊕_, product as _⊗_)
 
   infixl 60 _⊕_
   infixl 70 _⊗_

@@ -1,28 +1,32 @@
--- The statements of specs/Theorems.antt, proved over every carrier with the laws. Assumes nothing.
+-- The statements of specs/Theorems.antt over every carrier with the laws, proved. Assumes nothing.
 use Rattle.poly.specs.Carrier.{Operations, Laws}
-use Rattle.poly.specs.Theorems.{Roots, Interpolation, Division}
-use Rattle.poly.proofs.Roots.{root-bound, unique}
+use Rattle.poly.specs.Theorems.{Roots, Interpolation, RowDivision, OverEveryCarrier}
+use Rattle.poly.proofs.Evaluation.{evaluate-padded}
+use Rattle.poly.proofs.Roots.{root-bound-degree, unique}
 use Rattle.poly.proofs.Interpolation.{length-interpolant, interpolant-elements, interpolant-agrees, interpolant-recovers}
 use Rattle.poly.proofs.Rows.{length-rows, rows-lengths, rows-evaluate, rows-degree, degree-of-rows}
 
-module _ {A : Type 0} (F : Operations A) (Element : A → Type 0) (L : Laws A F Element) where
-  pub roots : Roots A F Element
-  roots = record { bound = root-bound F Element L; unique = unique F Element L }
+roots : (A : Type 0) (F : Operations A) (Element : A → Type 0) → Laws A F Element → Roots A F Element
+roots A F Element L = record { bound = root-bound-degree F Element L; unique = unique F Element L }
 
-  pub interpolation : Interpolation A F Element
-  interpolation =
-      record {
-        elements = interpolant-elements F Element L;
-        count = length-interpolant F;
-        agrees = interpolant-agrees F Element L;
-        recovers = interpolant-recovers F Element L;
-      }
+interpolation : (A : Type 0) (F : Operations A) (Element : A → Type 0) → Laws A F Element → Interpolation A F Element
+interpolation A F Element L =
+    record {
+      elements = interpolant-elements F Element L;
+      count = length-interpolant F;
+      agrees = interpolant-agrees F Element L;
+      padding = evaluate-padded F Element L;
+      recovers = interpolant-recovers F Element L;
+    }
 
-  pub division : Division A F Element
-  division =
-      record {
-        count = length-rows F;
-        counts = rows-lengths F;
-        values = rows-evaluate F Element L;
-        degrees = λ N q n p whole. (rows-degree F Element L N q n p, degree-of-rows F Element L N q n p whole);
-      }
+row-division : (A : Type 0) (F : Operations A) (Element : A → Type 0) → Laws A F Element → RowDivision A F Element
+row-division A F Element L =
+    record {
+      count = length-rows F;
+      counts = rows-lengths F;
+      values = rows-evaluate F Element L;
+      degrees = λ N q n p whole. (rows-degree F Element L N q n p, degree-of-rows F Element L N q n p whole);
+    }
+
+pub over-every-carrier : OverEveryCarrier
+over-every-carrier = record { roots = roots; interpolation = interpolation; row-division = row-division }

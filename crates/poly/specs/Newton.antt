@@ -5,18 +5,18 @@ use Rattle.poly.specs.Polynomial.{timesLinear}
 
 -- its value at z
 unfoldable pub newtonValue : {A : Type 0} → Operations A → List A → List A → A → A
-newtonValue F [] cs z = F .nought
-newtonValue F (x ∷ points) [] z = F .nought
+newtonValue F [] cs z = F .zero
+newtonValue F (x ∷ points) [] z = F .zero
 newtonValue F (x ∷ points) (c ∷ cs) z = F .sum c (F .product (F .sum z x) (newtonValue F points cs z))
 
--- the product of the differences of z and the points
-unfoldable pub weight : {A : Type 0} → Operations A → List A → A → A
-weight F [] z = F .one
-weight F (x ∷ points) z = F .product (F .sum z x) (weight F points z)
+-- the value at z of the polynomial that vanishes at the points: the product of the differences of z and each
+unfoldable pub vanishing : {A : Type 0} → Operations A → List A → A → A
+vanishing F [] z = F .one
+vanishing F (x ∷ points) z = F .product (F .sum z x) (vanishing F points z)
 
 -- the next coefficient: with it the form has the value y at z
 unfoldable pub newtonCoefficient : {A : Type 0} → Operations A → List A → List A → A → A → A
-newtonCoefficient F points cs z y = F .product (F .sum y (newtonValue F points cs z)) (F .inverse (weight F points z))
+newtonCoefficient F points cs z y = F .product (F .sum y (newtonValue F points cs z)) (F .inverse (vanishing F points z))
 
 -- the coefficients for further points and values, where those for earlier points are known
 unfoldable pub newtonAfter : {A : Type 0} → Operations A → List A → List A → List A → List A → List A

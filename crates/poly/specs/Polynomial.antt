@@ -18,7 +18,7 @@ Distinct (x ∷ xs) = All (λ y. y ≢ x) xs × Distinct xs
 
 -- every coefficient is zero
 abbrev pub Zeros : {A : Type 0} → Operations A → List A → Type 0
-Zeros F p = All (λ c. c ≡ F .nought) p
+Zeros F p = All (λ c. c ≡ F .zero) p
 
 -- the degree is below n: every coefficient from n on is zero, so that zero is below every bound
 abbrev pub DegreeBelow : {A : Type 0} → Operations A → ℕ → List A → Type 0
@@ -26,7 +26,7 @@ DegreeBelow F n p = Zeros F (drop n p)
 
 -- the value at x, by Horner: the constant plus x times the rest's value
 unfoldable pub evaluate : {A : Type 0} → Operations A → List A → A → A
-evaluate F [] x = F .nought
+evaluate F [] x = F .zero
 evaluate F (c ∷ p) x = F .sum c (F .product x (evaluate F p x))
 
 -- p + q
@@ -41,21 +41,21 @@ scale F a p = map (F .product a) p
 
 -- p with zeros up to n coefficients
 unfoldable pub padded : {A : Type 0} → Operations A → ℕ → List A → List A
-padded F n p = p ++ replicate (n - length p) (F .nought)
+padded F n p = p ++ replicate (n - length p) (F .zero)
 
--- c + (X + x) · p
+-- c + (X - x) · p: a difference is a sum
 unfoldable pub timesLinear : {A : Type 0} → Operations A → A → A → List A → List A
 timesLinear F c x p = plus F (c ∷ p) (scale F x p)
 
--- the slopes from the point x with value y to the others: (y′ - y) / (x′ - x) for each
-unfoldable pub slopes : {A : Type 0} → Operations A → A → A → List A → List A → List A
-slopes F x y [] values = []
-slopes F x y (x′ ∷ points) [] = []
-slopes F x y (x′ ∷ points) (y′ ∷ values) =
-    F .product (F .inverse (F .sum x′ x)) (F .sum y′ y) ∷ slopes F x y points values
+-- the divided differences of the point x with value y and the others: (y′ - y) / (x′ - x) for each
+unfoldable pub dividedDifferences : {A : Type 0} → Operations A → A → A → List A → List A → List A
+dividedDifferences F x y [] values = []
+dividedDifferences F x y (x′ ∷ points) [] = []
+dividedDifferences F x y (x′ ∷ points) (y′ ∷ values) =
+    F .product (F .inverse (F .sum x′ x)) (F .sum y′ y) ∷ dividedDifferences F x y points values
 
--- the interpolant of the values at the points, by Newton: y + (X - x) · Q, where Q has the slopes for its values at the other points
+-- the interpolant of the values at the points, by Newton: y + (X - x) · Q, where Q has the divided differences for its values at the other points
 unfoldable pub interpolant : {A : Type 0} → Operations A → List A → List A → List A
 interpolant F [] values = []
 interpolant F (x ∷ points) [] = []
-interpolant F (x ∷ points) (y ∷ values) = timesLinear F y x (interpolant F points (slopes F x y points values))
+interpolant F (x ∷ points) (y ∷ values) = timesLinear F y x (interpolant F points (dividedDifferences F x y points values))

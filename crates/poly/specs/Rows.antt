@@ -21,12 +21,12 @@ last c (d ∷ r) = last d r
 
 -- where p leaves r, c + X · p leaves c + X · r less (the leading coefficient of that) · (X^m + q)
 unfoldable pub remainderBy : {A : Type 0} → Operations A → List A → List A → List A
-remainderBy F q [] = replicate (length q) (F .nought)
+remainderBy F q [] = replicate (length q) (F .zero)
 remainderBy F q (c ∷ p) =
     let r = remainderBy F q p in
     plus F (butLast c r) (scale F (last c r) q)
 
--- those leading coefficients
+-- the quotient: those leading coefficients, as many as p has coefficients, the highest m of them zero
 unfoldable pub quotientBy : {A : Type 0} → Operations A → List A → List A → List A
 unfolding remainderBy
 quotientBy F q [] = []

@@ -1,19 +1,21 @@
--- What is proved of polynomials over every carrier that has the laws of a field of characteristic 2, as statements:
--- proofs/Theorems.antt has a value of each, for every such carrier and for the field of 2^64 elements.
+-- What is proved of polynomials, as statements: proofs/Theorems.antt has a value of `OverEveryCarrier` and proofs/AtField.antt one of
+-- `AtField`.
 use mathlib.Core.Path.{_≡_}
 use mathlib.Core.Logic.{_↔_}
 use mathlib.Core.List.{List, map}
 use Prim.Native.Nat.{ℕ, _*_, _≤_}
 use lib.ListN.{length, drop}
-use Rattle.poly.specs.Carrier.{Operations}
+use Rattle.gf64.specs.Field.{IsElement}
+use Rattle.poly.specs.Carrier.{Operations, Laws, gf64}
 use Rattle.poly.specs.Polynomial.{All, Distinct, Zeros, DegreeBelow, evaluate, padded, interpolant}
 use Rattle.poly.specs.Rows.{monic, rows}
 
 -- n coefficients are fixed by n values
 pub record Roots (A : Type 0) (F : Operations A) (Element : A → Type 0) : Type 0 where
-  -- a polynomial with as many distinct roots as coefficients is zero
-  pub bound : (p roots : List A) → All Element p → All Element roots → Distinct roots
-      → All (λ x. evaluate F p x ≡ F .nought) roots → length p ≤ length roots → Zeros F p
+  -- a polynomial of degree below n with n distinct roots is zero
+  pub bound : (n : ℕ) (p roots : List A) → All Element p → All Element roots → Distinct roots
+      → All (λ x. evaluate F p x ≡ F .zero) roots → DegreeBelow F n p → n ≤ length roots → Zeros F p
+  -- two polynomials of as many coefficients as there are distinct points, with the same values there, are equal
   pub unique : (p q points : List A) → All Element p → All Element q → All Element points → Distinct points
       → length p ≡ length points → length q ≡ length points → map (evaluate F p) points ≡ map (evaluate F q) points → p ≡ q
 
@@ -23,12 +25,14 @@ pub record Interpolation (A : Type 0) (F : Operations A) (Element : A → Type 0
   pub count : (points values : List A) → length points ≡ length values → length (interpolant F points values) ≡ length points
   pub agrees : (points values : List A) → All Element points → All Element values → Distinct points
       → length points ≡ length values → map (evaluate F (interpolant F points values)) points ≡ values
+  -- zeros that are filled in change no value
+  pub padding : (n : ℕ) (p : List A) (x : A) → evaluate F (padded F n p) x ≡ evaluate F p x
   -- from the values of p at the points the interpolant is p again, zeros filled in
   pub recovers : (p points : List A) → All Element p → All Element points → Distinct points → length p ≤ length points
       → interpolant F points (map (evaluate F p) points) ≡ padded F (length points) p
 
 -- division by a monic polynomial, given by its coefficients below the leading one, into n rows
-pub record Division (A : Type 0) (F : Operations A) (Element : A → Type 0) : Type 0 where
+pub record RowDivision (A : Type 0) (F : Operations A) (Element : A → Type 0) : Type 0 where
   pub count : (q : List A) (n : ℕ) (p : List A) → length (rows F q n p) ≡ n
   pub counts : (q : List A) (n : ℕ) (p : List A) → All (λ row. length row ≡ length q) (rows F q n p)
   -- p(x) = Σ row_i(x) · q(x)^i
@@ -37,3 +41,16 @@ pub record Division (A : Type 0) (F : Operations A) (Element : A → Type 0) : T
   -- rows from N on are zero exactly when the coefficients from N · (degree of q) on are
   pub degrees : (N : ℕ) (q : List A) (n : ℕ) (p : List A) → DegreeBelow F (n * length q) p
       → DegreeBelow F (N * length q) p ↔ All (Zeros F) (drop N (rows F q n p))
+
+-- for every carrier with the laws of a field of characteristic 2
+pub record OverEveryCarrier : Type 1 where
+  pub roots : (A : Type 0) (F : Operations A) (Element : A → Type 0) → Laws A F Element → Roots A F Element
+  pub interpolation : (A : Type 0) (F : Operations A) (Element : A → Type 0) → Laws A F Element → Interpolation A F Element
+  pub row-division : (A : Type 0) (F : Operations A) (Element : A → Type 0) → Laws A F Element → RowDivision A F Element
+
+-- the field of 2^64 elements is one, so that they hold there
+pub record AtField : Type 0 where
+  pub laws : Laws ℕ gf64 IsElement
+  pub roots : Roots ℕ gf64 IsElement
+  pub interpolation : Interpolation ℕ gf64 IsElement
+  pub row-division : RowDivision ℕ gf64 IsElement

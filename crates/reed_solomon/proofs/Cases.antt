@@ -6,14 +6,14 @@ use Rattle.gf64.specs.Polynomial.{carryless, carrylessIn, remainder, remainderI
 use Rattle.gf64.specs.Field.{product}
 use Rattle.poly.specs.Carrier.{gf64}
 use Rattle.poly.specs.Polynomial.{evaluate, padded}
-use Rattle.coset.specs.Coset.{point, listed, points}
+use Rattle.coset.specs.Coset.{point, tabulated, points}
 use Rattle.coset.specs.Span.{inSpan, firstDependentAfter, firstDependent, Independent}
 use Rattle.reed_solomon.specs.Codes.{encoded, interpolated}
 use Rattle.reed_solomon.specs.Theorems.{CodeCases}
 use Rattle.reed_solomon.proofs.Theorems.{round-trips}
 
 encodes : encoded 0 (1 ∷ 2 ∷ []) (7 ∷ 3 ∷ []) ≡ 7 ∷ 4 ∷ 1 ∷ 2 ∷ []
-unfolding encoded evaluate point listed points product carryless carrylessIn remainder remainderIn timesT
+unfolding encoded evaluate point tabulated points product carryless carrylessIn remainder remainderIn timesT
 encodes = refl
 
 independent : Independent (1 ∷ 2 ∷ [])

@@ -1,23 +1,17 @@
 -- Newton's form over the points of a coset with an independent basis, expanded, is the interpolant. Assumes nothing.
 use mathlib.Core.Path.{_≡_, sym, _∙_}
-use mathlib.Core.List.{List, [], _∷_}
-use Prim.Native.Nat.{ℕ, suc, _^_, _<_}
+use mathlib.Core.List.{List}
+use Prim.Native.Nat.{ℕ, _^_, _<_}
 use lib.ListN.{length, getD}
 use Rattle.gf64.specs.Field.{IsElement}
 use Rattle.poly.specs.Carrier.{gf64}
-use Rattle.poly.specs.Polynomial.{All}
 use Rattle.poly.specs.Newton.{newtonCoefficients, expanded}
 use Rattle.poly.proofs.AtField.{gf64-laws}
 use Rattle.poly.proofs.Newton.{newton-interpolant}
 use Rattle.coset.specs.Coset.{points}
 use Rattle.coset.specs.Span.{Independent}
-use Rattle.coset.proofs.Points.{length-points, points-distinct, points-elements}
+use Rattle.coset.proofs.Points.{length-points, points-distinct, points-elements, all-elements}
 use Rattle.reed_solomon.specs.Codes.{interpolated}
-
--- a list of 64-bit numbers is a list of elements
-all-elements : (xs : List ℕ) → ((i : ℕ) → getD xs i 0 < 2 ^ 64) → All IsElement xs
-all-elements [] h = record {}
-all-elements (x ∷ xs) h = (h 0, all-elements xs (λ i. h (suc i)))
 
 pub expanded-interpolated : (offset : ℕ) (basis word : List ℕ) → IsElement offset → ((i : ℕ) → getD basis i 0 < 2 ^ 64) → ((i : ℕ) → getD word i 0 < 2 ^ 64)
     → Independent basis → length word ≡ 2 ^ length basis

@@ -11,10 +11,10 @@ use lib.Bits.{bitXor, xor-zero-r}
 use Rattle.gf64.specs.Field.{IsElement, sum, product, inverse}
 use Rattle.gf64.proofs.Ring.{product-zero-r}
 use Rattle.poly.specs.Carrier.{gf64}
-use Rattle.poly.specs.Newton.{newtonValue, weight, newtonCoefficient, newtonCoefficients}
+use Rattle.poly.specs.Newton.{newtonValue, vanishing, newtonCoefficient, newtonCoefficients}
 use Rattle.poly.proofs.AtField.{gf64-laws}
 use Rattle.poly.proofs.Filling.{filled}
-use Rattle.poly.proofs.Newton.{newton-split, weight-last, newtonCoefficients-getD, length-newtonCoefficients}
+use Rattle.poly.proofs.Newton.{newton-split, vanishing-last, newtonCoefficients-getD, length-newtonCoefficients}
 
 -- one point, one coefficient
 single : (x c z : ℕ) → newtonValue gf64 (x ∷ []) (c ∷ []) z ≡ c
@@ -24,13 +24,13 @@ single x c z = ap (bitXor c) (product-zero-r (bitXor z x)) ∙ xor-zero-r c
 one-more : (l : List ℕ) (j : ℕ) → j < length l → take (j + 1) l ≡ take j l ++ (getD l j 0 ∷ [])
 one-more l j h = ap (λ (n : ℕ). take n l) (add-one j) ∙ take-suc l j 0 h
 
--- coefficient j adds its multiple of the weight
+-- coefficient j adds its multiple of the vanishing
 pub value-next : (points known : List ℕ) (j z v w : ℕ) → j < length points → j < length known → IsElement (getD known j 0)
-    → v ≡ newtonValue gf64 (take j points) (take j known) z → w ≡ weight gf64 (take j points) z
+    → v ≡ newtonValue gf64 (take j points) (take j known) z → w ≡ vanishing gf64 (take j points) z
     → sum v (product w (getD known j 0)) ≡ newtonValue gf64 (take (j + 1) points) (take (j + 1) known) z
 value-next points known j z v w hp hk e ev ew =
     ap₂ (λ (a b : ℕ). sum a (product b c)) ev ew
-    ∙ ap (λ (s : ℕ). sum (newtonValue gf64 (take j points) (take j known) z) (product (weight gf64 (take j points) z) s)) (sym (single x c z))
+    ∙ ap (λ (s : ℕ). sum (newtonValue gf64 (take j points) (take j known) z) (product (vanishing gf64 (take j points) z) s)) (sym (single x c z))
     ∙ sym
     (ap₂ (λ (ps cs : List ℕ). newtonValue gf64 ps cs z) (one-more points j hp) (one-more known j hk)
     ∙ newton-split gf64 IsElement gf64-laws (take j points) (take j known) (x ∷ []) (c ∷ []) z
@@ -43,22 +43,22 @@ value-next points known j z v w hp hk e ev ew =
     c : ℕ
     c = getD known j 0
 
--- point j multiplies the weight by its difference from z
-pub weight-next : (points : List ℕ) (j z w : ℕ) → j < length points → w ≡ weight gf64 (take j points) z
-    → product w (sum z (getD points j 0)) ≡ weight gf64 (take (j + 1) points) z
-weight-next points j z w h e =
+-- point j multiplies the vanishing by its difference from z
+pub vanishing-next : (points : List ℕ) (j z w : ℕ) → j < length points → w ≡ vanishing gf64 (take j points) z
+    → product w (sum z (getD points j 0)) ≡ vanishing gf64 (take (j + 1) points) z
+vanishing-next points j z w h e =
     ap (λ (s : ℕ). product s (sum z (getD points j 0))) e
-    ∙ sym (ap (λ (ps : List ℕ). weight gf64 ps z) (one-more points j h) ∙ weight-last gf64 IsElement gf64-laws (take j points) (getD points j 0) z)
+    ∙ sym (ap (λ (ps : List ℕ). vanishing gf64 ps z) (one-more points j h) ∙ vanishing-last gf64 IsElement gf64-laws (take j points) (getD points j 0) z)
 
 -- all known coefficients are used
 pub coefficient-end : (points known : List ℕ) (j z y v w : ℕ) → j ≤ length known → length known ≤ j
-    → v ≡ newtonValue gf64 (take j points) (take j known) z → w ≡ weight gf64 (take j points) z
+    → v ≡ newtonValue gf64 (take j points) (take j known) z → w ≡ vanishing gf64 (take j points) z
     → product (sum y v) (inverse w) ≡ newtonCoefficient gf64 (take (length known) points) known z y
 unfolding newtonCoefficient
 coefficient-end points known j z y v w l m ev ew =
     ap₂ (λ (a b : ℕ). product (sum y a) (inverse b))
     (ev ∙ ap₂ (λ (n : ℕ) (cs : List ℕ). newtonValue gf64 (take n points) cs z) all (ap (λ (n : ℕ). take n known) all ∙ take-length known))
-    (ew ∙ ap (λ (n : ℕ). weight gf64 (take n points) z) all)
+    (ew ∙ ap (λ (n : ℕ). vanishing gf64 (take n points) z) all)
   where
     all : j ≡ length known
     all = omega arith

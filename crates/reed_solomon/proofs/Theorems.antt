@@ -1,25 +1,26 @@
 -- The statements of specs/Theorems.antt, proved. Assumes nothing.
-use mathlib.Core.Path.{_≡_, sym, ap, _∙_}
-use mathlib.Core.List.{List}
-use Prim.Native.Nat.{ℕ, _^_, _≤_}
-use lib.ListN.{length}
+use mathlib.Core.Path.{_≡_, refl, sym, ap, ap₂, _∙_, subst}
+use mathlib.Core.List.{List, [], _∷_, _++_, map}
+use Prim.Native.Nat.{ℕ, zero, suc, _-_, _^_, _≤_}
+use lib.ListN.{length, replicate}
 use native.Mathlib.Omega.{arith}
 use Rattle.gf64.specs.Field.{IsElement}
 use Rattle.poly.specs.Carrier.{gf64}
-use Rattle.poly.specs.Polynomial.{All, padded}
-use Rattle.poly.proofs.AtField.{interpolation}
+use Rattle.poly.specs.Polynomial.{All, DegreeBelow, evaluate, padded}
+use Rattle.poly.proofs.AtField.{at-field}
 use Rattle.coset.specs.Coset.{points}
 use Rattle.coset.specs.Span.{Independent}
 use Rattle.coset.proofs.Points.{length-points, points-distinct, points-elements}
-use Rattle.reed_solomon.specs.Codes.{encoded, interpolated}
-use Rattle.reed_solomon.specs.Theorems.{RoundTrips}
+use Rattle.reed_solomon.specs.Codes.{encoded, interpolated, WordDegreeBelow}
+use Rattle.reed_solomon.specs.Theorems.{RoundTrips, Encoding}
+use Rattle.reed_solomon.proofs.Values.{length-encoded, encoded-getD}
 
 coefficients-back : (offset : ℕ) (basis coefficients : List ℕ) → IsElement offset → All IsElement basis → All IsElement coefficients
     → Independent basis → length coefficients ≤ 2 ^ length basis
     → interpolated offset basis (encoded offset basis coefficients) ≡ padded gf64 (2 ^ length basis) coefficients
 unfolding encoded interpolated
 coefficients-back offset basis coefficients eo eb ec d h =
-    interpolation .recovers coefficients (points offset basis) ec (points-elements offset basis eo eb) (points-distinct offset basis d)
+    at-field .interpolation .recovers coefficients (points offset basis) ec (points-elements offset basis eo eb) (points-distinct offset basis d)
     (omega (arith, length-points offset basis))
     ∙ ap (λ (n : ℕ). padded gf64 n coefficients) (length-points offset basis)
 
@@ -27,8 +28,33 @@ word-back : (offset : ℕ) (basis word : List ℕ) → IsElement offset → All 
     → Independent basis → length word ≡ 2 ^ length basis → encoded offset basis (interpolated offset basis word) ≡ word
 unfolding encoded interpolated
 word-back offset basis word eo eb ew d h =
-    interpolation .agrees (points offset basis) word (points-elements offset basis eo eb) ew (points-distinct offset basis d)
+    at-field .interpolation .agrees (points offset basis) word (points-elements offset basis eo eb) ew (points-distinct offset basis d)
     (length-points offset basis ∙ sym h)
+
+values-padded : (n : ℕ) (p at : List ℕ) → map (evaluate gf64 (padded gf64 n p)) at ≡ map (evaluate gf64 p) at
+values-padded n p [] = refl
+values-padded n p (x ∷ at) = ap₂ (λ (a : ℕ) (s : List ℕ). a ∷ s) (at-field .interpolation .padding n p x) (values-padded n p at)
+
+left-off : (offset : ℕ) (basis coefficients : List ℕ)
+    → encoded offset basis (padded gf64 (2 ^ length basis) coefficients) ≡ encoded offset basis coefficients
+unfolding encoded
+left-off offset basis coefficients = values-padded (2 ^ length basis) coefficients (points offset basis)
+
+zeros-end : (p : List ℕ) (n : ℕ) → DegreeBelow gf64 (length p) (p ++ replicate n 0)
+zeros-end [] zero = record {}
+zeros-end [] (suc n) = (refl, zeros-end [] n)
+zeros-end (c ∷ p) n = zeros-end p n
+
+degree : (offset : ℕ) (basis coefficients : List ℕ) → IsElement offset → All IsElement basis → All IsElement coefficients
+    → Independent basis → length coefficients ≤ 2 ^ length basis
+    → WordDegreeBelow (length coefficients) offset basis (encoded offset basis coefficients)
+unfolding padded
+degree offset basis coefficients eo eb ec d h =
+    subst (DegreeBelow gf64 (length coefficients)) (sym (coefficients-back offset basis coefficients eo eb ec d h))
+    (zeros-end coefficients (2 ^ length basis - length coefficients))
+
+pub encoding : Encoding
+encoding = record { count = length-encoded; values = encoded-getD; left-off = left-off; degree = degree }
 
 pub round-trips : RoundTrips
 round-trips = record { coefficients = coefficients-back; word = word-back }

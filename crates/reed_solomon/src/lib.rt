@@ -15,7 +15,9 @@ ghost use Rattle.coset.specs.Span.{Independent};
 ghost use Rattle.reed_solomon.specs.Codes.{encoded, interpolated};
 ghost use Rattle.reed_solomon.specs.Answers.{checked, encodeOutcome, interpolateOutcome, afterwards};
 
-// The polynomial's values at all points. Coefficients that are left off are zero.
+// The polynomial's values at all 2^k points, in point order; k is the length of the basis, and coefficients that are left off are zero.
+// Refused, in this order: k over 12 (4); over 2^k coefficients or other than 2^k values (13, list 3 or 6); a dependent basis (8).
+// A refusal leaves the values as they were.
 pub fn encode(offset: Element, basis: &[u64], coefficients: &[u64], values: &mut [u64]) -> Outcome
     ensures answer { λ r. ⌜ r ≡ encodeOutcome (now (basis .entry)) (now (coefficients .entry)) (now (values .entry)) ⌝ }
     ensures output { λ _. ⌜ now (values .exit) ≡ afterwards (encodeOutcome (now (basis .entry)) (now (coefficients .entry)) (now (values .entry))) (encoded (offset .0) (now (basis .entry)) (now (coefficients .entry))) (now (values .entry)) ⌝ }
@@ -31,7 +33,8 @@ pub fn encode(offset: Element, basis: &[u64], coefficients: &[u64], values: &mut
     }
 }
 
-// The coefficients of the polynomial with the word's values at the points.
+// The 2^k coefficients of the one polynomial of degree below 2^k that has the word's values at the points, in point order. Refused as
+// encoding is, where list 3 is the word and list 6 the coefficients, each of length 2^k. A refusal leaves the coefficients as they were.
 pub fn interpolate(
     offset: Element,
     basis: &[u64],
@@ -101,13 +104,8 @@ fn fill_newton(offset: Element, basis: &[u64], word: &[u64], coefficients: &mut 
     let mut i: usize = 0;
     while i < coefficients.len() {
         let z = coset::point(offset, basis, i);
-        coefficients[i] = newton_coefficient(
-            offset,
-            basis,
-            &coefficients[..i],
-            z,
-            Element(word[i]),
-        ).0;
+        let y = word[i];
+        coefficients[i] = newton_coefficient(offset, basis, &coefficients[..i], z, Element(y)).0;
         i += 1;
     }
 }
@@ -125,16 +123,16 @@ fn newton_coefficient(
 {
     let sums = coset::prefix_sums(basis);
     let mut value = Element::ZERO;
-    let mut weight = Element::ONE;
+    let mut vanishing = Element::ONE;
     let mut x = offset;
     let mut j: usize = 0;
     while j < known.len() {
-        value = value.sum(weight.product(Element(known[j])));
-        weight = weight.product(z.sum(x));
+        value = value.sum(vanishing.product(Element(known[j])));
+        vanishing = vanishing.product(z.sum(x));
         j += 1;
         x = coset::stepped(&sums, x, j);
     }
-    y.sum(value).product(weight.inverse_or_zero())
+    y.sum(value).product(vanishing.inverse_or_zero())
 }
 
 // From Newton's form to the polynomial, from the last point to the first.

@@ -68,3 +68,12 @@ roundOf (LaterBasisDependent round) = At round
 abbrev pub numberOfOutcome : Outcome → ℕ
 numberOfOutcome Done = 0
 numberOfOutcome (Refused cause) = numberOf cause
+
+-- its place and its round: those of the cause
+abbrev pub placeOfOutcome : Outcome → Position
+placeOfOutcome Done = Absent
+placeOfOutcome (Refused cause) = placeOf cause
+
+abbrev pub roundOfOutcome : Outcome → Position
+roundOfOutcome Done = Absent
+roundOfOutcome (Refused cause) = roundOf cause

@@ -1,117 +1,45 @@
--- `coset::first_dependent` meets its contract. The loop's invariant: i elements are copied, zeros follow. Assumes nothing.
-use mathlib.Core.Path.{_≡_, sym, ap, ap₂, _∙_}
-use mathlib.Core.List.{List}
-use Prim.Native.Nat.{ℕ, _-_, _≤_, min}
-use lib.ListN.{length, take, getD, replicate, set, length-take}
-use lib.Seq.{getD-take}
+-- `coset::first_dependent` meets its contract: a place among the first 64 elements is the list's, and where there is none the next element
+-- is dependent. Assumes nothing.
+use mathlib.Core.Path.{_≡_, sym, ap, _∙_}
+use lib.Seq.{take-all}
 use borrow.Author.Needs.{needs}
 use native.Mathlib.Omega.{arith}
-use Rattle.poly.specs.Carrier.{gf64}
-use Rattle.poly.specs.Polynomial.{padded}
-use Rattle.poly.proofs.Evaluation.{length-padded}
-use Rattle.poly.proofs.Filling.{filled, filled-start, filled-next, filled-padded, getD-padded, take-padded}
+use Rattle.refusal.specs.declared.Position.the-variants.{Absent}
 use Rattle.coset.specs.Span.{firstDependent}
+use Rattle.coset.proofs.Points.{all-elements}
+use Rattle.coset.proofs.Dimension.{found-in-prefix, sixty-fifth}
 use Rattle.coset.proofs.first_dependent.Statement.{statement}
 use Rattle.coset.proofs.first_dependent.Tie as tie
 
--- once all are copied the array holds the first 20 elements, and zeros
-module _ (basis rows : List ℕ) (count i : ℕ) (many : count ≡ min (length basis) 20) (all : count ≤ i)
-    (inv : rows ≡ filled (padded gf64 20 (take 20 basis)) (replicate 20 0) i) where
-  short : length (take 20 basis) ≤ 20
-  short = omega (arith, length-take 20 basis)
+first-among-64-requires : tie.Need-first-among-64-requires
+first-among-64-requires c κs = search needs
 
-  copied : rows ≡ padded gf64 20 (take 20 basis)
-  copied = inv ∙ filled-padded 20 (take 20 basis) i (omega (arith, length-take 20 basis)) short
+enum-known-first : tie.Need-enum-known-first
+enum-known-first c = search needs
 
-  length-copied : length rows ≡ 20
-  length-copied = ap length copied ∙ length-padded gf64 20 (take 20 basis) short
+enum-told : tie.Need-enum-told
+enum-told c = search needs
 
-  counted : count ≡ length (take 20 basis)
-  counted = omega (arith, length-take 20 basis)
-
-  take-copied : take count rows ≡ take 20 basis
-  take-copied =
-      ap₂ (λ (n : ℕ) (l : List ℕ). take n l) counted copied ∙ take-padded 20 (take 20 basis)
-
-abbrev Inv-loop : tie.InvT-loop
-Inv-loop basis count rows₀ i₀ rows i =
-    (i ≤ count) × (count ≡ min (length basis) 20) × (rows ≡ filled (padded gf64 20 (take 20 basis)) (replicate 20 0) i)
-
-abbrev μ-loop : tie.MeasureT-loop
-μ-loop basis count rows₀ i₀ rows i = count - i
-
-at-most-20-requires : tie.Need-at-most-20-requires Inv-loop μ-loop
-at-most-20-requires c κs = search needs
-
-loop-holds : tie.Need-loop-holds Inv-loop μ-loop
-loop-holds c =
-    (search needs, c .at-most-20 .ensures, filled-start (padded gf64 20 (take 20 (c .before .before .args .basis .now))) (replicate 20 0))
-
-mul-rows : tie.Need-mul-rows Inv-loop μ-loop
-mul-rows c = search needs
-
-shared-slice-read-rows : tie.Need-shared-slice-read-rows Inv-loop μ-loop
-shared-slice-read-rows c = search needs
-
-mul-rows-2 : tie.Need-mul-rows-2 Inv-loop μ-loop
-mul-rows-2 c = search needs
-
-array-write-rows : tie.Need-array-write-rows Inv-loop μ-loop
-array-write-rows c = search needs
-
-add-i : tie.Need-add-i Inv-loop μ-loop
-add-i c = search needs
-
-loop-less : tie.Need-loop-less Inv-loop μ-loop
-loop-less c = search needs
-
-loop-again : tie.Need-loop-again Inv-loop μ-loop
-loop-again c =
-    let basis = c .before .before .before .before .before .args .basis .now in
-    let l = c .before .before .loop in (
-      search needs,
-      l .inv .1,
-      ap (λ (held : List ℕ). set held (l .i) (getD basis (l .i) 0)) (l .inv .2)
-          ∙ filled-next (padded gf64 20 (take 20 basis)) (replicate 20 0) (l .i) (getD basis (l .i) 0) (omega arith)
-          (length-padded gf64 20 (take 20 basis) (omega (arith, length-take 20 basis)))
-          (sym (getD-padded 20 (take 20 basis) (l .i) ∙ getD-take 20 basis (l .i) 0 (omega arith))),
-    )
-
-array-borrow-prefix-rows : tie.Need-array-borrow-prefix-rows Inv-loop μ-loop
-array-borrow-prefix-rows c =
-    let l = c .before .loop in
-    omega (arith, length-copied (c .before .before .before .before .args .basis .now) (l .rows) (c .before .before .at-most-20 .result) (l .i) (l .inv .1) (c .loop-test .left) (l .inv .2))
-
-slice-aggregate-first-dependent-of : tie.Need-slice-aggregate-first-dependent-of Inv-loop μ-loop
-slice-aggregate-first-dependent-of c =
-    let l = c .before .before .loop in
-    omega (arith, length-take (c .before .before .before .at-most-20 .result) (l .rows), length-copied (c .before .before .before .before .before .args .basis .now) (l .rows) (c .before .before .before .at-most-20 .result) (l .i) (l .inv .1) (c .before .loop-test .left) (l .inv .2))
-
-first-dependent-of-requires : tie.Need-first-dependent-of-requires Inv-loop μ-loop
-first-dependent-of-requires c κs = search needs
-
-returns : tie.Need-returns Inv-loop μ-loop
+returns : tie.Need-returns
 returns c =
-    let l = c .before .before .before .before .loop in
-    c .before .first-dependent-of .ensures
-    ∙ ap firstDependent (take-copied (c .before .before .before .before .before .before .before .args .basis .now) (l .rows) (c .before .before .before .before .before .at-most-20 .result) (l .i) (l .inv .1) (c .before .before .before .loop-test .left) (l .inv .2))
+    let basis = c .before .before .before .before .before .args .basis .now in
+    let absent : c .before .before .before .first-among-64 .result ≡ Absent = search needs in
+    sym
+    (sixty-fifth basis (all-elements basis (λ i. omega (arith, c .before .before .before .before .shared-slice-known .given i))) (c .if1 .taken)
+    (sym (c .before .before .before .first-among-64 .ensures) ∙ absent))
+
+returns-2 : tie.Need-returns-2
+returns-2 c =
+    let basis = c .before .before .before .before .before .args .basis .now in
+    sym (found-in-prefix 64 basis (c .before .first .given .0 .0) (sym (c .before .before .before .first-among-64 .ensures) ∙ c .before .first .given .1))
+
+returns-3 : tie.Need-returns-3
+returns-3 c =
+    let basis = c .before .before .before .before .before .args .basis .now in
+    let absent : c .before .before .before .first-among-64 .result ≡ Absent = search needs in
+    sym absent ∙ c .before .before .before .first-among-64 .ensures ∙ ap firstDependent (take-all 64 basis (c .if1 .left))
 
 pub first-dependent-spec : {M : Type 1} → statement M
 first-dependent-spec =
     tie.close
-    (tie.spec
-    Inv-loop
-    μ-loop
-    at-most-20-requires
-    loop-holds
-    mul-rows
-    shared-slice-read-rows
-    mul-rows-2
-    array-write-rows
-    add-i
-    loop-less
-    loop-again
-    array-borrow-prefix-rows
-    slice-aggregate-first-dependent-of
-    first-dependent-of-requires
-    returns)
+    (tie.spec first-among-64-requires enum-known-first enum-told returns returns-2 returns-3)

@@ -23,12 +23,12 @@ Inv-loop basis count sums₀ sum₀ t₀ sums sum t =
 abbrev μ-loop : tie.MeasureT-loop
 μ-loop basis count sums₀ sum₀ t₀ sums sum t = count - t
 
-at-most-20-requires : tie.Need-at-most-20-requires Inv-loop μ-loop
-at-most-20-requires c κs = search needs
+lesser-requires : tie.Need-lesser-requires Inv-loop μ-loop
+lesser-requires c κs = search needs
 
 loop-holds : tie.Need-loop-holds Inv-loop μ-loop
 loop-holds c =
-    (search needs, c .at-most-20 .ensures, refl, filled-start (padded gf64 20 (prefixSums 0 (take 20 (c .before .before .args .basis .now)))) (replicate 20 0))
+    (search needs, c .lesser .ensures, refl, filled-start (padded gf64 20 (prefixSums 0 (take 20 (c .before .before .args .basis .now)))) (replicate 20 0))
 
 mul-sum : tie.Need-mul-sum Inv-loop μ-loop
 mul-sum c = search needs
@@ -77,7 +77,7 @@ prefix-sums-spec =
     (tie.spec
     Inv-loop
     μ-loop
-    at-most-20-requires
+    lesser-requires
     loop-holds
     mul-sum
     shared-slice-read-sum

@@ -1,8 +1,6 @@
 -- `reed_solomon::checked` meets its contract: the checks are made in the definition's order. Assumes nothing.
 use mathlib.Core.Path.{_≡_, sym, ap, _∙_}
-use lib.Seq.{take-all}
 use Rattle.refusal.specs.declared.Position.the-variants.{Absent}
-use Rattle.coset.specs.Span.{firstDependent}
 use Rattle.reed_solomon.specs.Answers.{outcomeOfBasis}
 use Rattle.reed_solomon.proofs.Checks.{not-true, not-false, dimension-refused, list3-refused, list6-refused, basis-looked-at}
 use borrow.Author.Needs.{needs}
@@ -38,14 +36,14 @@ enum-told c = search needs
 returns-4 : tie.Need-returns-4
 returns-4 c =
     let a = c .before .before .before .before .before .before .before .before .args in
-    ap outcomeOfBasis (sym (c .before .dependent .given .1) ∙ c .before .before .before .first-dependent .ensures ∙ ap firstDependent (take-all 20 (a .basis .now) (omega arith)))
+    ap outcomeOfBasis (sym (c .before .dependent .given .1) ∙ c .before .before .before .first-dependent .ensures)
     ∙ basis-looked-at (a .basis .now) (a .fits3) (a .fits6) (omega arith) (not-false (a .fits3) (c .before .before .before .before .before .if2 .left)) (not-false (a .fits6) (c .before .before .before .before .if3 .left))
 
 returns-5 : tie.Need-returns-5
 returns-5 c =
     let a = c .before .before .before .before .before .before .before .args in
     let absent : c .before .before .first-dependent .result ≡ Absent = search needs in
-    ap outcomeOfBasis (sym absent ∙ c .before .before .first-dependent .ensures ∙ ap firstDependent (take-all 20 (a .basis .now) (omega arith)))
+    ap outcomeOfBasis (sym absent ∙ c .before .before .first-dependent .ensures)
     ∙ basis-looked-at (a .basis .now) (a .fits3) (a .fits6) (omega arith) (not-false (a .fits3) (c .before .before .before .before .if2 .left)) (not-false (a .fits6) (c .before .before .before .if3 .left))
 
 pub checked-spec : {M : Type 1} → statement M

@@ -32,20 +32,20 @@ loop-holds c =
 point-requires : tie.Need-point-requires Inv-loop μ-loop
 point-requires c κs = search needs
 
+mul-y : tie.Need-mul-y Inv-loop μ-loop
+mul-y c = search needs
+
+shared-slice-read-y : tie.Need-shared-slice-read-y Inv-loop μ-loop
+shared-slice-read-y c = search needs
+
 slice-reshare-prefix-newton-coefficient :
     tie.Need-slice-reshare-prefix-newton-coefficient Inv-loop μ-loop
 slice-reshare-prefix-newton-coefficient c = search needs
 
 slice-aggregate-newton-coefficient : tie.Need-slice-aggregate-newton-coefficient Inv-loop μ-loop
 slice-aggregate-newton-coefficient c =
-    let l = c .before .before .before .loop in
+    let l = c .before .before .before .before .loop in
     sym (length-take-le (l .i) (l .coefficients) (omega arith))
-
-mul-t7 : tie.Need-mul-t7 Inv-loop μ-loop
-mul-t7 c = search needs
-
-shared-slice-read-t13 : tie.Need-shared-slice-read-t13 Inv-loop μ-loop
-shared-slice-read-t13 c = search needs
 
 newton-coefficient-requires : tie.Need-newton-coefficient-requires Inv-loop μ-loop
 newton-coefficient-requires c κs =
@@ -107,10 +107,10 @@ fill-newton-spec =
     μ-loop
     loop-holds
     point-requires
+    mul-y
+    shared-slice-read-y
     slice-reshare-prefix-newton-coefficient
     slice-aggregate-newton-coefficient
-    mul-t7
-    shared-slice-read-t13
     newton-coefficient-requires
     mul-coefficients
     slice-write-coefficients

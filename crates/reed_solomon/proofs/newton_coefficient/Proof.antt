@@ -1,4 +1,4 @@
--- `reed_solomon::newton_coefficient` meets its contract. The loop's invariant: value and weight are those of the first j points, and x is
+-- `reed_solomon::newton_coefficient` meets its contract. The loop's invariant: value and vanishing are those of the first j points, and x is
 -- point j. Assumes nothing.
 use mathlib.Core.Path.{_≡_, refl, sym, ap, ap₂, _∙_}
 use mathlib.Core.List.{List}
@@ -7,12 +7,12 @@ use lib.ListN.{length, getD, take}
 use lib.Count.{trailingZeros}
 use Rattle.gf64.specs.Field.{sum, product}
 use Rattle.poly.specs.Carrier.{gf64}
-use Rattle.poly.specs.Newton.{newtonValue, weight}
+use Rattle.poly.specs.Newton.{newtonValue, vanishing}
 use Rattle.coset.specs.Coset.{point, points}
 use Rattle.coset.proofs.Dependence.{point-first}
 use Rattle.coset.proofs.Points.{length-points, getD-points}
 use Rattle.reed_solomon.proofs.Values.{point-stepped}
-use Rattle.reed_solomon.proofs.NewtonSteps.{value-next, weight-next, coefficient-end}
+use Rattle.reed_solomon.proofs.NewtonSteps.{value-next, vanishing-next, coefficient-end}
 use borrow.Author.Needs.{needs}
 use native.Mathlib.Omega.{arith}
 use Rattle.reed_solomon.proofs.newton_coefficient.Statement.{statement}
@@ -21,7 +21,7 @@ use Rattle.reed_solomon.proofs.newton_coefficient.Tie as tie
 abbrev Inv-loop : tie.InvT-loop
 Inv-loop basis known z y sums value₀ weight₀ x₀ j₀ value product x j =
     (j ≤ length known) × (value .0 ≡ newtonValue gf64 (take j (points (x₀ .0) basis)) (take j known) (z .0))
-    × (product .0 ≡ weight gf64 (take j (points (x₀ .0) basis)) (z .0)) × (j < length known → x .0 ≡ point (x₀ .0) basis j)
+    × (product .0 ≡ vanishing gf64 (take j (points (x₀ .0) basis)) (z .0)) × (j < length known → x .0 ≡ point (x₀ .0) basis j)
 
 abbrev μ-loop : tie.MeasureT-loop
 μ-loop basis known z y sums value₀ weight₀ x₀ j₀ value product x j = length known - j
@@ -30,7 +30,7 @@ prefix-sums-requires : tie.Need-prefix-sums-requires Inv-loop μ-loop
 prefix-sums-requires c κs = search needs
 
 loop-holds : tie.Need-loop-holds Inv-loop μ-loop
-unfolding newtonValue weight
+unfolding newtonValue vanishing
 loop-holds c =
     let a = c .before .before .before .args in
     (search needs, refl, refl, λ h. sym (point-first (a .offset .0) (a .basis .now)))
@@ -77,10 +77,10 @@ loop-again c =
       search needs,
       c .before .before .before .before .sum .ensures
           ∙ ap (sum (l .value .0)) (c .before .before .before .before .before .product .ensures .0)
-          ∙ value-next (points (a .offset .0) (a .basis .now)) (a .known .now) (l .j) (a .z .0) (l .value .0) (l .weight .0) among inside
+          ∙ value-next (points (a .offset .0) (a .basis .now)) (a .known .now) (l .j) (a .z .0) (l .value .0) (l .vanishing .0) among inside
           (omega (arith, c .before .before .before .before .before .before .shared-slice-known3 .given (l .j))) (l .inv .1) (l .inv .2),
-      c .before .before .product2 .ensures .0 ∙ ap (product (l .weight .0)) (c .before .before .before .sum2 .ensures ∙ ap (sum (a .z .0)) at)
-          ∙ weight-next (points (a .offset .0) (a .basis .now)) (l .j) (a .z .0) (l .weight .0) among (l .inv .2),
+      c .before .before .product2 .ensures .0 ∙ ap (product (l .vanishing .0)) (c .before .before .before .sum2 .ensures ∙ ap (sum (a .z .0)) at)
+          ∙ vanishing-next (points (a .offset .0) (a .basis .now)) (l .j) (a .z .0) (l .vanishing .0) among (l .inv .2),
       λ h. c .stepped .ensures
           ∙ ap (λ (sums : List ℕ). sum (l .x .0) (getD sums (trailingZeros 64 (l .j + 1)) 0)) (c .before .before .before .before .before .before .before .before .before .prefix-sums .ensures)
           ∙ point-stepped (a .offset .0) (a .basis .now) (l .j) (l .x .0) (start .pre .0) (l .inv .3 inside) (omega (arith, start .pre .1)),
@@ -100,7 +100,7 @@ returns c =
     let a = c .before .before .before .before .before .before .before .before .args in
     let l = c .before .before .before .before .loop in
     c .product3 .ensures .0 ∙ ap₂ product (c .before .before .sum3 .ensures) (c .before .inverse-or-zero .ensures)
-    ∙ coefficient-end (points (a .offset .0) (a .basis .now)) (a .known .now) (l .j) (a .z .0) (a .y .0) (l .value .0) (l .weight .0)
+    ∙ coefficient-end (points (a .offset .0) (a .basis .now)) (a .known .now) (l .j) (a .z .0) (a .y .0) (l .value .0) (l .vanishing .0)
     (l .inv .0) (c .before .before .before .loop-test .left) (l .inv .1) (l .inv .2)
 
 pub newton-coefficient-spec : {M : Type 1} → statement M
