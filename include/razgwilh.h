@@ -6,8 +6,9 @@
  * A lent list is a pointer to its first number, not null even where the list is empty, and its
  * length. Two lists lent to one call do not overlap.
  *
- * A coset of dimension k has an offset, any element, and a basis of k elements; its point j, for j below 2^k, is the offset plus the
- * sum of all basis elements t whose bit t of j is set. A polynomial is the list of its coefficients, constant first.
+ * A coset of dimension k has an offset, any element, and a basis of k independent elements; its point j, for j below 2^k,
+ * is the offset plus the sum of all basis elements t whose bit t of j is set. A word lists 2^k values in point order. A
+ * polynomial is the list of its coefficients, constant first.
  *
  * A function that can refuse writes its answer as five numbers into a lent list of length
  * RZ_ANSWER_LENGTH; where the list has another length, nothing at all is written or done. In order:
@@ -40,18 +41,20 @@ uint64_t rz_product(uint64_t a, uint64_t b);
 /* value: the inverse of a. Refused with number 15 (inverse of zero) where a is 0. */
 void rz_inverse(uint64_t a, uint64_t *answer, size_t answer_length);
 
-/* Writes the polynomial's values at all 2^k points, in point order, into `values`; k is the length of the basis.
- * There are at most 2^k coefficients; those left off are zero. Refused, in this order, with
- *   number 4   k is over 12
- *   number 13  a list has the wrong length: 3, `coefficients`, over 2^k; 6, `values`, other than 2^k; the lower is told
- *   number 8   a basis element lies in the span of earlier ones: the first such place, from 0
- * and then `values` is as it was. The answer has no value, no round, and 0 reads. */
+/* Writes the polynomial's values at all 2^k points, in point order, into `values`; k is the length of the basis. There are
+ * at most 2^k coefficients; those left off are zero. Refused, in this order, with
+ *   number 4   k is over 12; no place
+ *   number 13  a list has the wrong length, and its place is the lower such list: 3, `coefficients`, over 2^k; 6, `values`,
+ *              other than 2^k
+ *   number 8   a basis element lies in the span of earlier ones, and its place is the first such place, from 0
+ * A refusal leaves `values` as it was. The answer has no value, no round, and 0 reads. */
 void rz_encode(uint64_t offset, const uint64_t *basis, size_t basis_length, const uint64_t *coefficients,
                size_t coefficients_length, uint64_t *values, size_t values_length, uint64_t *answer,
                size_t answer_length);
 
-/* Writes the 2^k coefficients of the one polynomial of degree below 2^k that has the word's values at the points into
- * `coefficients`. Refused as rz_encode is, where list 3 is `word` and list 6 is `coefficients`, each of length 2^k. */
+/* Writes the 2^k coefficients of the one polynomial of degree below 2^k that has the value word[j] at point j, for every j,
+ * into `coefficients`. Refused as rz_encode is, where list 3 is `word` and list 6 is `coefficients`, each of length 2^k.
+ * A refusal leaves `coefficients` as it was. The answer has no value, no round, and 0 reads. */
 void rz_interpolate(uint64_t offset, const uint64_t *basis, size_t basis_length, const uint64_t *word,
                     size_t word_length, uint64_t *coefficients, size_t coefficients_length, uint64_t *answer,
                     size_t answer_length);

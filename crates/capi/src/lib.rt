@@ -8,8 +8,7 @@ ghost use mathlib.Core.Path.{_≡_};
 ghost use lib.ListN.{length};
 ghost use Rattle.gf64.specs.Field.{sum, product};
 ghost use Rattle.field.specs.Answers.{invertedOf};
-ghost use Rattle.reed_solomon.specs.Codes.{encoded, interpolated};
-ghost use Rattle.reed_solomon.specs.Answers.{encodeOutcome, interpolateOutcome, afterwards};
+ghost use Rattle.reed_solomon.specs.Answers.{encodeOutcome, interpolateOutcome, valuesAfter, coefficientsAfter};
 ghost use Rattle.capi.specs.Answers.{orNone, answerOfValue, answerOfCause, answerOfInverted, answerOfOutcome, numbersOf, answered, whereAnswered};
 
 // The five numbers of an answer.
@@ -124,7 +123,7 @@ pub extern "C" fn rz_encode(
     answer: &mut [u64],
 )
     ensures answer { λ _. ⌜ now (answer .exit) ≡ answered (answerOfOutcome (encodeOutcome (now (basis .entry)) (now (coefficients .entry)) (now (values .entry)))) (now (answer .entry)) ⌝ }
-    ensures output { λ _. ⌜ now (values .exit) ≡ whereAnswered (now (answer .entry)) (afterwards (encodeOutcome (now (basis .entry)) (now (coefficients .entry)) (now (values .entry))) (encoded offset (now (basis .entry)) (now (coefficients .entry))) (now (values .entry))) (now (values .entry)) ⌝ }
+    ensures output { λ _. ⌜ now (values .exit) ≡ whereAnswered (now (answer .entry)) (valuesAfter offset (now (basis .entry)) (now (coefficients .entry)) (now (values .entry))) (now (values .entry)) ⌝ }
 {
     if answer.len() != ANSWER_LENGTH {
         return;
@@ -142,7 +141,7 @@ pub extern "C" fn rz_interpolate(
     answer: &mut [u64],
 )
     ensures answer { λ _. ⌜ now (answer .exit) ≡ answered (answerOfOutcome (interpolateOutcome (now (basis .entry)) (now (word .entry)) (now (coefficients .entry)))) (now (answer .entry)) ⌝ }
-    ensures output { λ _. ⌜ now (coefficients .exit) ≡ whereAnswered (now (answer .entry)) (afterwards (interpolateOutcome (now (basis .entry)) (now (word .entry)) (now (coefficients .entry))) (interpolated offset (now (basis .entry)) (now (word .entry))) (now (coefficients .entry))) (now (coefficients .entry)) ⌝ }
+    ensures output { λ _. ⌜ now (coefficients .exit) ≡ whereAnswered (now (answer .entry)) (coefficientsAfter offset (now (basis .entry)) (now (word .entry)) (now (coefficients .entry))) (now (coefficients .entry)) ⌝ }
 {
     if answer.len() != ANSWER_LENGTH {
         return;

@@ -53,16 +53,16 @@ module _ (basis : List ℕ) (fits3 fits6 : Bool) where
       ∙ ap (λ (b : Bool). picked true true b (outcomeOfBasis (firstDependent basis))) f)
 
 -- where all have passed
-pub record Passed (basis : List ℕ) (fits3 fits6 : Bool) : Type 0 where
-  pub small : length basis ≤ 12
-  pub list3 : fits3 ≡ true
-  pub list6 : fits6 ≡ true
-  pub independent : Independent basis
+record Passed (basis : List ℕ) (fits3 fits6 : Bool) : Type 0 where
+  small : length basis ≤ 12
+  list3 : fits3 ≡ true
+  list6 : fits6 ≡ true
+  independent : Independent basis
 
 refused-not-done : (cause : Cause) → Refused cause ≡ Done → ⊥
 refused-not-done cause e = let impossible : _≡_ {A = ℕ} 0 1 = cc in omega arith
 
-pub passed : (basis : List ℕ) (fits3 fits6 : Bool) → checked basis fits3 fits6 ≡ Done → Passed basis fits3 fits6
+passed : (basis : List ℕ) (fits3 fits6 : Bool) → checked basis fits3 fits6 ≡ Done → Passed basis fits3 fits6
 unfolding picked
 passed basis fits3 fits6 e = by (leb (length basis) 12) fits3 fits6 (firstDependent basis) refl refl refl refl e
   where
@@ -76,11 +76,11 @@ passed basis fits3 fits6 e = by (leb (length basis) 12) fits3 fits6 (firstDepend
         record { small = leb→le (length basis) 12 (subst T (sym ek) tt); list3 = ea; list6 = eb; independent = ep }
 
 -- 2^k, or 0 where k is refused anyway
-abbrev pub sizeOf : ℕ → ℕ
+abbrev sizeOf : ℕ → ℕ
 sizeOf k = cond (leb k 12) (2 ^ k) 0
 
 -- the tests of the lengths may take any size where k is refused anyway
-pub checked-size : (basis : List ℕ) (fits3 fits6 : ℕ → Bool)
+checked-size : (basis : List ℕ) (fits3 fits6 : ℕ → Bool)
     → checked basis (fits3 (sizeOf (length basis))) (fits6 (sizeOf (length basis))) ≡ checked basis (fits3 (2 ^ length basis)) (fits6 (2 ^ length basis))
 unfolding picked
 checked-size basis fits3 fits6 = by (leb (length basis) 12)
@@ -108,12 +108,42 @@ interpolate-answer basis word coefficients size answer e a =
     ∙ ap (λ (n : ℕ). checked basis (eqb (length word) n) (eqb (length coefficients) n)) e
     ∙ checked-size basis (eqb (length word)) (eqb (length coefficients)))
 
-pub equal-of-test : (m n : ℕ) → eqb m n ≡ true → m ≡ n
+equal-of-test : (m n : ℕ) → eqb m n ≡ true → m ≡ n
 equal-of-test m n e = eqb→eq m n (subst T (sym e) tt)
 
--- the list afterwards, by the outcome
-pub after-done : (outcome : Outcome) (wanted held : List ℕ) → outcome ≡ Done → wanted ≡ afterwards outcome wanted held
-after-done outcome wanted held e = sym (ap (λ (o : Outcome). afterwards o wanted held) e)
+-- what holds where encoding has passed
+pub record EncodeReady (basis values : List ℕ) : Type 0 where
+  pub small : length basis ≤ 12
+  pub room : length values ≡ 2 ^ length basis
 
-pub after-refused : (outcome : Outcome) (cause : Cause) (wanted held : List ℕ) → outcome ≡ Refused cause → held ≡ afterwards outcome wanted held
-after-refused outcome cause wanted held e = sym (ap (λ (o : Outcome). afterwards o wanted held) e)
+pub encode-passed : (basis coefficients values : List ℕ) → encodeOutcome basis coefficients values ≡ Done → EncodeReady basis values
+encode-passed basis coefficients values e =
+    let all = passed basis (leb (length coefficients) (2 ^ length basis)) (eqb (length values) (2 ^ length basis)) e in
+    record { small = all .small; room = equal-of-test (length values) (2 ^ length basis) (all .list6) }
+
+-- and where interpolation has
+pub record InterpolateReady (basis word coefficients : List ℕ) : Type 0 where
+  pub small : length basis ≤ 12
+  pub whole : length word ≡ 2 ^ length basis
+  pub room : length coefficients ≡ 2 ^ length basis
+  pub independent : Independent basis
+
+pub interpolate-passed : (basis word coefficients : List ℕ) → interpolateOutcome basis word coefficients ≡ Done
+    → InterpolateReady basis word coefficients
+interpolate-passed basis word coefficients e =
+    let all = passed basis (eqb (length word) (2 ^ length basis)) (eqb (length coefficients) (2 ^ length basis)) e in
+    record {
+      small = all .small;
+      whole = equal-of-test (length word) (2 ^ length basis) (all .list3);
+      room = equal-of-test (length coefficients) (2 ^ length basis) (all .list6);
+      independent = all .independent;
+    }
+
+-- both clauses where it is done, and where it is refused
+pub done-both : (outcome : Outcome) (wanted held held′ : List ℕ) → outcome ≡ Done → held′ ≡ wanted
+    → (Done ≡ outcome) × (held′ ≡ afterwards outcome wanted held)
+done-both outcome wanted held held′ e w = (sym e, w ∙ sym (ap (λ (o : Outcome). afterwards o wanted held) e))
+
+pub refused-both : (outcome : Outcome) (cause : Cause) (wanted held : List ℕ) → outcome ≡ Refused cause
+    → (Refused cause ≡ outcome) × (held ≡ afterwards outcome wanted held)
+refused-both outcome cause wanted held e = (sym e, sym (ap (λ (o : Outcome). afterwards o wanted held) e))

@@ -4,24 +4,31 @@ use mathlib.Core.List.{List}
 use Prim.Native.Nat.{ℕ, _^_}
 use lib.Dec.{leb, eqb}
 use lib.ListN.{length}
+use Rattle.refusal.specs.declared.Cause.{Cause}
 use Rattle.refusal.specs.declared.Cause.the-variants.{DimensionOutOfRange, BasisDependent, WrongLength}
 use Rattle.refusal.specs.declared.Outcome.{Outcome}
 use Rattle.refusal.specs.declared.Outcome.the-variants.{Done, Refused}
 use Rattle.refusal.specs.declared.Position.{Position}
 use Rattle.refusal.specs.declared.Position.the-variants.{At, Absent}
 use Rattle.coset.specs.Span.{firstDependent}
+use Rattle.reed_solomon.specs.Codes.{encoded, interpolated}
 
 -- a dependent basis is refused at its first dependent place
 abbrev pub outcomeOfBasis : Position → Outcome
 outcomeOfBasis (At place) = Refused (BasisDependent place)
 outcomeOfBasis Absent = Done
 
+-- refused with the cause unless the test holds, and then as the checks after it say
+abbrev pub refusedUnless : Bool → Cause → Outcome → Outcome
+refusedUnless holds cause after = cond holds after (Refused cause)
+
 -- in the order of document 01: k over 12 (number 4); the lowest list that does not fit, 3 or 6 (13); a dependent basis (8)
 abbrev pub checked : List ℕ → Bool → Bool → Outcome
 checked basis fits3 fits6 =
-    cond (leb (length basis) 12)
-    (cond fits3 (cond fits6 (outcomeOfBasis (firstDependent basis)) (Refused (WrongLength 6))) (Refused (WrongLength 3)))
-    (Refused DimensionOutOfRange)
+    refusedUnless (leb (length basis) 12) DimensionOutOfRange
+    (refusedUnless fits3 (WrongLength 3)
+    (refusedUnless fits6 (WrongLength 6)
+    (outcomeOfBasis (firstDependent basis))))
 
 -- at most 2^k coefficients, exactly 2^k values
 abbrev pub encodeOutcome : List ℕ → List ℕ → List ℕ → Outcome
@@ -37,3 +44,13 @@ interpolateOutcome basis word coefficients =
 abbrev pub afterwards : Outcome → List ℕ → List ℕ → List ℕ
 afterwards Done wanted held = wanted
 afterwards (Refused cause) wanted held = held
+
+-- what the list of values holds after encoding
+abbrev pub valuesAfter : ℕ → List ℕ → List ℕ → List ℕ → List ℕ
+valuesAfter offset basis coefficients values =
+    afterwards (encodeOutcome basis coefficients values) (encoded offset basis coefficients) values
+
+-- what the list of coefficients holds after interpolation
+abbrev pub coefficientsAfter : ℕ → List ℕ → List ℕ → List ℕ → List ℕ
+coefficientsAfter offset basis word coefficients =
+    afterwards (interpolateOutcome basis word coefficients) (interpolated offset basis word) coefficients

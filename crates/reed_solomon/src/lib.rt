@@ -11,16 +11,15 @@ ghost use lib.ListN.{length, take};
 ghost use Rattle.poly.specs.Carrier.{gf64};
 ghost use Rattle.poly.specs.Newton.{newtonCoefficient, newtonCoefficients, joined, expanded};
 ghost use Rattle.coset.specs.Coset.{points};
-ghost use Rattle.coset.specs.Span.{Independent};
-ghost use Rattle.reed_solomon.specs.Codes.{encoded, interpolated};
-ghost use Rattle.reed_solomon.specs.Answers.{checked, encodeOutcome, interpolateOutcome, afterwards};
+ghost use Rattle.reed_solomon.specs.Codes.{encoded};
+ghost use Rattle.reed_solomon.specs.Answers.{checked, encodeOutcome, interpolateOutcome, valuesAfter, coefficientsAfter};
 
 // The polynomial's values at all 2^k points, in point order; k is the length of the basis, and coefficients that are left off are zero.
 // Refused, in this order: k over 12 (4); over 2^k coefficients or other than 2^k values (13, list 3 or 6); a dependent basis (8).
 // A refusal leaves the values as they were.
 pub fn encode(offset: Element, basis: &[u64], coefficients: &[u64], values: &mut [u64]) -> Outcome
     ensures answer { λ r. ⌜ r ≡ encodeOutcome (now (basis .entry)) (now (coefficients .entry)) (now (values .entry)) ⌝ }
-    ensures output { λ _. ⌜ now (values .exit) ≡ afterwards (encodeOutcome (now (basis .entry)) (now (coefficients .entry)) (now (values .entry))) (encoded (offset .0) (now (basis .entry)) (now (coefficients .entry))) (now (values .entry)) ⌝ }
+    ensures output { λ _. ⌜ now (values .exit) ≡ valuesAfter (offset .0) (now (basis .entry)) (now (coefficients .entry)) (now (values .entry)) ⌝ }
 {
     let size = size_of(basis.len());
     let outcome = checked(basis, coefficients.len() <= size, values.len() == size);
@@ -42,7 +41,7 @@ pub fn interpolate(
     coefficients: &mut [u64],
 ) -> Outcome
     ensures answer { λ r. ⌜ r ≡ interpolateOutcome (now (basis .entry)) (now (word .entry)) (now (coefficients .entry)) ⌝ }
-    ensures output { λ _. ⌜ now (coefficients .exit) ≡ afterwards (interpolateOutcome (now (basis .entry)) (now (word .entry)) (now (coefficients .entry))) (interpolated (offset .0) (now (basis .entry)) (now (word .entry))) (now (coefficients .entry)) ⌝ }
+    ensures output { λ _. ⌜ now (coefficients .exit) ≡ coefficientsAfter (offset .0) (now (basis .entry)) (now (word .entry)) (now (coefficients .entry)) ⌝ }
 {
     let size = size_of(basis.len());
     let outcome = checked(basis, word.len() == size, coefficients.len() == size);

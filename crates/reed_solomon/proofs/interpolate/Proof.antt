@@ -1,18 +1,16 @@
 -- `reed_solomon::interpolate` meets its contract: where all checks pass Newton's form is found and expanded, else nothing is written.
 -- Assumes nothing.
 use mathlib.Core.Path.{_≡_, sym, ap, _∙_}
-use Prim.Native.Nat.{_^_}
 use lib.ListN.{length}
-use lib.Dec.{eqb}
 use Rattle.poly.specs.Carrier.{gf64}
 use Rattle.poly.specs.Newton.{expanded}
 use Rattle.poly.proofs.Newton.{length-newtonCoefficients}
 use Rattle.coset.specs.Coset.{points}
 use Rattle.coset.proofs.Points.{length-points}
-use Rattle.refusal.specs.declared.Outcome.the-variants.{Done, Refused}
+use Rattle.refusal.specs.declared.Outcome.the-variants.{Done}
 use Rattle.reed_solomon.specs.Codes.{interpolated}
 use Rattle.reed_solomon.specs.Answers.{interpolateOutcome}
-use Rattle.reed_solomon.proofs.Checks.{passed, interpolate-answer, equal-of-test, after-done, after-refused}
+use Rattle.reed_solomon.proofs.Checks.{interpolate-answer, interpolate-passed, done-both, refused-both}
 use Rattle.reed_solomon.proofs.Interpolating.{expanded-interpolated}
 use borrow.Author.Needs.{needs}
 use native.Mathlib.Omega.{arith}
@@ -32,30 +30,18 @@ fill-newton-requires : tie.Need-fill-newton-requires
 fill-newton-requires c κs =
     let done : c .before .before .before .checked .result ≡ Done = search needs in
     let a = c .before .before .before .before .before .before .before .before .args in
-    let outcome : interpolateOutcome (a .basis .now) (a .word .now) (a .coefficients .now) ≡ Done =
-    interpolate-answer (a .basis .now) (a .word .now) (a .coefficients .now) (c .before .before .before .before .size-of .result) (c .before .before .before .checked .result)
-    (c .before .before .before .before .size-of .ensures) (c .before .before .before .checked .ensures)
-    ∙ done
-    in
-    let all = passed (a .basis .now) (eqb (length (a .word .now)) (2 ^ length (a .basis .now))) (eqb (length (a .coefficients .now)) (2 ^ length (a .basis .now))) outcome in
-    let word : length (a .word .now) ≡ 2 ^ length (a .basis .now) = equal-of-test (length (a .word .now)) (2 ^ length (a .basis .now)) (all .list3) in
-    let room : length (a .coefficients .now) ≡ 2 ^ length (a .basis .now) = equal-of-test (length (a .coefficients .now)) (2 ^ length (a .basis .now)) (all .list6) in
-    (all .small, word, room)
+    let outcome : interpolateOutcome (a .basis .now) (a .word .now) (a .coefficients .now) ≡ Done = interpolate-answer (a .basis .now) (a .word .now) (a .coefficients .now) (c .before .before .before .before .size-of .result) (c .before .before .before .checked .result) (c .before .before .before .before .size-of .ensures) (c .before .before .before .checked .ensures) ∙ done in
+    let all = interpolate-passed (a .basis .now) (a .word .now) (a .coefficients .now) outcome in
+    (all .small, all .whole, all .room)
 
 expand-requires : tie.Need-expand-requires
 expand-requires c κs =
     let done : c .before .before .before .before .before .before .before .checked .result ≡ Done = search needs in
     let a = c .before .before .before .before .before .before .before .before .before .before .before .before .args in
-    let outcome : interpolateOutcome (a .basis .now) (a .word .now) (a .coefficients .now) ≡ Done =
-    interpolate-answer (a .basis .now) (a .word .now) (a .coefficients .now) (c .before .before .before .before .before .before .before .before .size-of .result) (c .before .before .before .before .before .before .before .checked .result)
-    (c .before .before .before .before .before .before .before .before .size-of .ensures) (c .before .before .before .before .before .before .before .checked .ensures)
-    ∙ done
-    in
-    let all = passed (a .basis .now) (eqb (length (a .word .now)) (2 ^ length (a .basis .now))) (eqb (length (a .coefficients .now)) (2 ^ length (a .basis .now))) outcome in
-    let word : length (a .word .now) ≡ 2 ^ length (a .basis .now) = equal-of-test (length (a .word .now)) (2 ^ length (a .basis .now)) (all .list3) in
-    let room : length (a .coefficients .now) ≡ 2 ^ length (a .basis .now) = equal-of-test (length (a .coefficients .now)) (2 ^ length (a .basis .now)) (all .list6) in
+    let outcome : interpolateOutcome (a .basis .now) (a .word .now) (a .coefficients .now) ≡ Done = interpolate-answer (a .basis .now) (a .word .now) (a .coefficients .now) (c .before .before .before .before .before .before .before .before .size-of .result) (c .before .before .before .before .before .before .before .checked .result) (c .before .before .before .before .before .before .before .before .size-of .ensures) (c .before .before .before .before .before .before .before .checked .ensures) ∙ done in
+    let all = interpolate-passed (a .basis .now) (a .word .now) (a .coefficients .now) outcome in
     ap length (c .before .before .before .fill-newton .ensures)
-    ∙ length-newtonCoefficients gf64 (points (a .offset .0) (a .basis .now)) (a .word .now) (length-points (a .offset .0) (a .basis .now) ∙ sym word)
+    ∙ length-newtonCoefficients gf64 (points (a .offset .0) (a .basis .now)) (a .word .now) (length-points (a .offset .0) (a .basis .now) ∙ sym (all .whole))
     ∙ length-points (a .offset .0) (a .basis .now)
 
 enum-known-outcome : tie.Need-enum-known-outcome
@@ -68,32 +54,19 @@ returns : tie.Need-returns
 returns c =
     let done : c .before .before .before .before .before .before .before .before .before .before .checked .result ≡ Done = search needs in
     let a = c .before .before .before .before .before .before .before .before .before .before .before .before .before .before .before .args in
-    let outcome : interpolateOutcome (a .basis .now) (a .word .now) (a .coefficients .now) ≡ Done =
-    interpolate-answer (a .basis .now) (a .word .now) (a .coefficients .now) (c .before .before .before .before .before .before .before .before .before .before .before .size-of .result) (c .before .before .before .before .before .before .before .before .before .before .checked .result)
-    (c .before .before .before .before .before .before .before .before .before .before .before .size-of .ensures) (c .before .before .before .before .before .before .before .before .before .before .checked .ensures)
-    ∙ done
-    in
-    let all = passed (a .basis .now) (eqb (length (a .word .now)) (2 ^ length (a .basis .now))) (eqb (length (a .coefficients .now)) (2 ^ length (a .basis .now))) outcome in
-    let word : length (a .word .now) ≡ 2 ^ length (a .basis .now) = equal-of-test (length (a .word .now)) (2 ^ length (a .basis .now)) (all .list3) in
-    let room : length (a .coefficients .now) ≡ 2 ^ length (a .basis .now) = equal-of-test (length (a .coefficients .now)) (2 ^ length (a .basis .now)) (all .list6) in (
-      sym outcome,
-      c .before .before .expand .ensures ∙ ap (expanded gf64 (points (a .offset .0) (a .basis .now))) (c .before .before .before .before .before .before .fill-newton .ensures)
-          ∙ expanded-interpolated (a .offset .0) (a .basis .now) (a .word .now) (search needs) (λ i. omega (arith, c .before .before .before .before .before .before .before .before .before .before .before .before .before .before .shared-slice-known .given i)) (λ i. omega (arith, c .before .before .before .before .before .before .before .before .before .before .before .before .before .shared-slice-known2 .given i))
-          (all .independent) word
-          ∙ after-done (interpolateOutcome (a .basis .now) (a .word .now) (a .coefficients .now)) (interpolated (a .offset .0) (a .basis .now) (a .word .now)) (a .coefficients .now) outcome,
-    )
+    let outcome : interpolateOutcome (a .basis .now) (a .word .now) (a .coefficients .now) ≡ Done = interpolate-answer (a .basis .now) (a .word .now) (a .coefficients .now) (c .before .before .before .before .before .before .before .before .before .before .before .size-of .result) (c .before .before .before .before .before .before .before .before .before .before .checked .result) (c .before .before .before .before .before .before .before .before .before .before .before .size-of .ensures) (c .before .before .before .before .before .before .before .before .before .before .checked .ensures) ∙ done in
+    let all = interpolate-passed (a .basis .now) (a .word .now) (a .coefficients .now) outcome in
+    done-both (interpolateOutcome (a .basis .now) (a .word .now) (a .coefficients .now)) (interpolated (a .offset .0) (a .basis .now) (a .word .now)) (a .coefficients .now) (c .before .before .expand .last .1 .1 .0)
+    outcome
+    (c .before .before .expand .ensures ∙ ap (expanded gf64 (points (a .offset .0) (a .basis .now))) (c .before .before .before .before .before .before .fill-newton .ensures)
+    ∙ expanded-interpolated (a .offset .0) (a .basis .now) (a .word .now) (search needs) (λ i. omega (arith, c .before .before .before .before .before .before .before .before .before .before .before .before .before .before .shared-slice-known .given i)) (λ i. omega (arith, c .before .before .before .before .before .before .before .before .before .before .before .before .before .shared-slice-known2 .given i))
+    (all .independent) (all .whole))
 
 returns-2 : tie.Need-returns-2
 returns-2 c =
     let a = c .before .before .before .before .before .before .before .before .args in
-    let outcome : interpolateOutcome (a .basis .now) (a .word .now) (a .coefficients .now) ≡ Refused (c .before .outcome .given .0 .0) =
-    interpolate-answer (a .basis .now) (a .word .now) (a .coefficients .now) (c .before .before .before .before .size-of .result) (c .before .before .before .checked .result)
-    (c .before .before .before .before .size-of .ensures) (c .before .before .before .checked .ensures)
-    ∙ c .before .outcome .given .1
-    in (
-      sym outcome,
-      after-refused (interpolateOutcome (a .basis .now) (a .word .now) (a .coefficients .now)) (c .before .outcome .given .0 .0) (interpolated (a .offset .0) (a .basis .now) (a .word .now)) (a .coefficients .now) outcome,
-    )
+    refused-both (interpolateOutcome (a .basis .now) (a .word .now) (a .coefficients .now)) (c .before .outcome .given .0 .0) (interpolated (a .offset .0) (a .basis .now) (a .word .now)) (a .coefficients .now)
+    (interpolate-answer (a .basis .now) (a .word .now) (a .coefficients .now) (c .before .before .before .before .size-of .result) (c .before .before .before .checked .result) (c .before .before .before .before .size-of .ensures) (c .before .before .before .checked .ensures) ∙ c .before .outcome .given .1)
 
 pub interpolate-spec : {M : Type 1} → statement M
 interpolate-spec =
