@@ -51,7 +51,7 @@ fn lesser(a: usize, b: usize) -> usize
     if a < b { a } else { b }
 }
 
-// The same of a list by elimination in the list itself, of which rubbish is left.
+// The same of a list, by elimination in the list itself; what stands there afterwards has no further use.
 fn first_dependent_of(rows: &mut [u64]) -> Position
     ensures { λ r. ⌜ r ≡ firstDependent (now (rows .entry)) ⌝ }
 {

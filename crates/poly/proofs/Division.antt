@@ -51,7 +51,7 @@ module _ {A : Type 0} (F : Operations A) (Element : A → Type 0) (L : Laws A F 
   butLast-elements c [] ec er = record {}
   butLast-elements c (d ∷ r) ec er = (ec, butLast-elements d r (er .0) (er .1))
 
-  last-element : (c : A) (r : List A) → Element c → All Element r → Element (last c r)
+  pub last-element : (c : A) (r : List A) → Element c → All Element r → Element (last c r)
   unfolding last
   last-element c [] ec er = ec
   last-element c (d ∷ r) ec er = last-element d r (er .0) (er .1)

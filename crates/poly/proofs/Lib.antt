@@ -5,6 +5,7 @@ pub mod Interpolation
 pub mod Division
 pub mod Rows
 pub mod Newton
+pub mod Identity
 pub mod Theorems
 pub mod AtField
 pub mod Filling

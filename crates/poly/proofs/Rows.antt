@@ -28,7 +28,7 @@ module _ {A : Type 0} (F : Operations A) (Element : A → Type 0) (L : Laws A F 
   infixl 60 _⊕_
   infixl 70 _⊗_
   -- n + 1 rows are one row and n rows of the quotient
-  one-more : (q p : List A) (n : ℕ) → Zeros F (drop (suc n * length q) p) → Zeros F (drop (length q + n * length q) p)
+  pub one-more : (q p : List A) (n : ℕ) → Zeros F (drop (suc n * length q) p) → Zeros F (drop (length q + n * length q) p)
   one-more q p n z = subst (λ (k : ℕ). Zeros F (drop k p)) (suc-mul n (length q) ∙ add-comm (n * length q) (length q)) z
 
   one-less : (q p : List A) (n : ℕ) → Zeros F (drop (length q + n * length q) p) → Zeros F (drop (suc n * length q) p)

@@ -4,6 +4,7 @@ use Rattle.poly.specs.Theorems.{Roots, Interpolation, RowDivision, OverE
 use Rattle.poly.proofs.Evaluation.{evaluate-padded}
 use Rattle.poly.proofs.Roots.{root-bound-degree, unique}
 use Rattle.poly.proofs.Interpolation.{length-interpolant, interpolant-elements, interpolant-agrees, interpolant-recovers}
+use Rattle.poly.proofs.Identity.{rows-identity}
 use Rattle.poly.proofs.Rows.{length-rows, rows-lengths, rows-evaluate, rows-degree, degree-of-rows}
 
 roots : (A : Type 0) (F : Operations A) (Element : A → Type 0) → Laws A F Element → Roots A F Element
@@ -24,6 +25,7 @@ row-division A F Element L =
     record {
       count = length-rows F;
       counts = rows-lengths F;
+      identity = rows-identity F Element L;
       values = rows-evaluate F Element L;
       degrees = λ N q n p whole. (rows-degree F Element L N q n p, degree-of-rows F Element L N q n p whole);
     }

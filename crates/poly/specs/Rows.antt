@@ -36,3 +36,13 @@ quotientBy F q (c ∷ p) = last c (remainderBy F q p) ∷ quotientBy F q p
 unfoldable pub rows : {A : Type 0} → Operations A → List A → ℕ → List A → List (List A)
 rows F q zero p = []
 rows F q (suc n) p = remainderBy F q p ∷ rows F q n (quotientBy F q p)
+
+-- m · p
+unfoldable pub times : {A : Type 0} → Operations A → List A → List A → List A
+times F m [] = []
+times F m (c ∷ p) = plus F (scale F c m) (F .zero ∷ times F m p)
+
+-- Σ row_i · m^i, by Horner
+unfoldable pub composed : {A : Type 0} → Operations A → List A → List (List A) → List A
+composed F m [] = []
+composed F m (row ∷ further) = plus F row (times F m (composed F m further))

@@ -4,11 +4,11 @@ use mathlib.Core.Path.{_≡_}
 use mathlib.Core.Logic.{_↔_}
 use mathlib.Core.List.{List, map}
 use Prim.Native.Nat.{ℕ, _*_, _≤_}
-use lib.ListN.{length, drop}
+use lib.ListN.{length, drop, getD}
 use Rattle.gf64.specs.Field.{IsElement}
 use Rattle.poly.specs.Carrier.{Operations, Laws, gf64}
 use Rattle.poly.specs.Polynomial.{All, Distinct, Zeros, DegreeBelow, evaluate, padded, interpolant}
-use Rattle.poly.specs.Rows.{monic, rows}
+use Rattle.poly.specs.Rows.{monic, rows, composed}
 
 -- n coefficients are fixed by n values
 pub record Roots (A : Type 0) (F : Operations A) (Element : A → Type 0) : Type 0 where
@@ -35,7 +35,10 @@ pub record Interpolation (A : Type 0) (F : Operations A) (Element : A → Type 0
 pub record RowDivision (A : Type 0) (F : Operations A) (Element : A → Type 0) : Type 0 where
   pub count : (q : List A) (n : ℕ) (p : List A) → length (rows F q n p) ≡ n
   pub counts : (q : List A) (n : ℕ) (p : List A) → All (λ row. length row ≡ length q) (rows F q n p)
-  -- p(x) = Σ row_i(x) · q(x)^i
+  -- p and Σ row_i · q^i have the same coefficients
+  pub identity : (q : List A) (n : ℕ) (p : List A) → All Element q → All Element p → DegreeBelow F (n * length q) p
+      → (i : ℕ) → getD p i (F .zero) ≡ getD (composed F (monic F q) (rows F q n p)) i (F .zero)
+  -- so p(x) = Σ row_i(x) · q(x)^i
   pub values : (q : List A) (n : ℕ) (p : List A) (x : A) → All Element q → All Element p → DegreeBelow F (n * length q) p
       → evaluate F p x ≡ evaluate F (map (λ row. evaluate F row x) (rows F q n p)) (evaluate F (monic F q) x)
   -- rows from N on are zero exactly when the coefficients from N · (degree of q) on are

@@ -8,6 +8,8 @@ use Rattle.poly.specs.Carrier.{gf64}
 use Rattle.poly.specs.Polynomial.{evaluate, padded}
 use Rattle.coset.specs.Coset.{point, tabulated, points}
 use Rattle.coset.specs.Span.{inSpan, firstDependentAfter, firstDependent, Independent}
+use Rattle.refusal.specs.declared.Outcome.the-variants.{Done}
+use Rattle.reed_solomon.specs.Answers.{encodeOutcome}
 use Rattle.reed_solomon.specs.Codes.{encoded, interpolated}
 use Rattle.reed_solomon.specs.Theorems.{CodeCases}
 use Rattle.reed_solomon.proofs.Theorems.{round-trips}
@@ -20,6 +22,10 @@ independent : Independent (1 ∷ 2 ∷ [])
 unfolding inSpan firstDependentAfter firstDependent
 independent = refl
 
+accepted : encodeOutcome (1 ∷ 2 ∷ []) (7 ∷ 3 ∷ []) (0 ∷ 0 ∷ 0 ∷ 0 ∷ []) ≡ Done
+unfolding inSpan firstDependentAfter firstDependent
+accepted = refl
+
 filled-in : padded gf64 4 (7 ∷ 3 ∷ []) ≡ 7 ∷ 3 ∷ 0 ∷ 0 ∷ []
 unfolding padded
 filled-in = refl
@@ -27,6 +33,7 @@ filled-in = refl
 pub code-cases : CodeCases
 code-cases =
     record {
+      e-done = accepted;
       e = encodes;
       e-back =
           ap (interpolated 0 (1 ∷ 2 ∷ [])) (sym encodes)

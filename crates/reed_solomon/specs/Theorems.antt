@@ -8,6 +8,8 @@ use Rattle.poly.specs.Carrier.{gf64}
 use Rattle.poly.specs.Polynomial.{All, evaluate, padded}
 use Rattle.coset.specs.Coset.{point}
 use Rattle.coset.specs.Span.{Independent}
+use Rattle.refusal.specs.declared.Outcome.the-variants.{Done}
+use Rattle.reed_solomon.specs.Answers.{encodeOutcome}
 use Rattle.reed_solomon.specs.Codes.{encoded, interpolated, WordDegreeBelow}
 
 -- encoding and interpolation invert one another, for every offset and every independent basis
@@ -37,5 +39,6 @@ pub record Encoding : Type 0 where
 
 -- case E of Table A
 pub record CodeCases : Type 0 where
+  pub e-done : encodeOutcome (1 ∷ 2 ∷ []) (7 ∷ 3 ∷ []) (0 ∷ 0 ∷ 0 ∷ 0 ∷ []) ≡ Done
   pub e : encoded 0 (1 ∷ 2 ∷ []) (7 ∷ 3 ∷ []) ≡ 7 ∷ 4 ∷ 1 ∷ 2 ∷ []
   pub e-back : interpolated 0 (1 ∷ 2 ∷ []) (7 ∷ 4 ∷ 1 ∷ 2 ∷ []) ≡ 7 ∷ 3 ∷ 0 ∷ 0 ∷ []
