@@ -112,14 +112,21 @@ equal-of-test : (m n : ℕ) → eqb m n ≡ true → m ≡ n
 equal-of-test m n e = eqb→eq m n (subst T (sym e) tt)
 
 -- what holds where encoding has passed
-pub record EncodeReady (basis values : List ℕ) : Type 0 where
+pub record EncodeReady (basis coefficients values : List ℕ) : Type 0 where
   pub small : length basis ≤ 12
+  pub few : length coefficients ≤ 2 ^ length basis
   pub room : length values ≡ 2 ^ length basis
+  pub independent : Independent basis
 
-pub encode-passed : (basis coefficients values : List ℕ) → encodeOutcome basis coefficients values ≡ Done → EncodeReady basis values
+pub encode-passed : (basis coefficients values : List ℕ) → encodeOutcome basis coefficients values ≡ Done → EncodeReady basis coefficients values
 encode-passed basis coefficients values e =
     let all = passed basis (leb (length coefficients) (2 ^ length basis)) (eqb (length values) (2 ^ length basis)) e in
-    record { small = all .small; room = equal-of-test (length values) (2 ^ length basis) (all .list6) }
+    record {
+      small = all .small;
+      few = leb→le (length coefficients) (2 ^ length basis) (subst T (sym (all .list3)) tt);
+      room = equal-of-test (length values) (2 ^ length basis) (all .list6);
+      independent = all .independent;
+    }
 
 -- and where interpolation has
 pub record InterpolateReady (basis word coefficients : List ℕ) : Type 0 where
@@ -138,6 +145,11 @@ interpolate-passed basis word coefficients e =
       room = equal-of-test (length coefficients) (2 ^ length basis) (all .list6);
       independent = all .independent;
     }
+
+-- conversely
+pub passes : (basis : List ℕ) (fits3 fits6 : Bool) → length basis ≤ 12 → fits3 ≡ true → fits6 ≡ true → Independent basis
+    → checked basis fits3 fits6 ≡ Done
+passes basis fits3 fits6 h e f d = sym (basis-looked-at basis fits3 fits6 h e f) ∙ ap outcomeOfBasis d
 
 -- both clauses where it is done, and where it is refused
 pub done-both : (outcome : Outcome) (wanted held held′ : List ℕ) → outcome ≡ Done → held′ ≡ wanted

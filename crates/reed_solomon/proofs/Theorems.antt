@@ -12,7 +12,15 @@ use Rattle.coset.specs.Coset.{points}
 use Rattle.coset.specs.Span.{Independent}
 use Rattle.coset.proofs.Points.{length-points, points-distinct, points-elements}
 use Rattle.reed_solomon.specs.Codes.{encoded, interpolated, WordDegreeBelow}
-use Rattle.reed_solomon.specs.Theorems.{RoundTrips, Encoding}
+use Rattle.reed_solomon.specs.Theorems.{RoundTrips, Accepted, Told, Refusals, Encoding}
+use Rattle.reed_solomon.specs.Answers.{outcomeOfBasis, checked}
+use Rattle.refusal.specs.declared.Cause.the-variants.{DimensionOutOfRange, BasisDependent, WrongLength}
+use Rattle.refusal.specs.declared.Outcome.{Outcome}
+use Rattle.refusal.specs.declared.Outcome.the-variants.{Refused}
+use Rattle.refusal.specs.Numbers.{numberOfOutcome, placeOfOutcome}
+use Rattle.reed_solomon.proofs.Checks.{dimension-refused, list3-refused, list6-refused, basis-looked-at, encode-passed, interpolate-passed, passes}
+use lib.Dec.{leb, eqb}
+use borrow.Author.Tests.{le-leb, eq-eqb}
 use Rattle.reed_solomon.proofs.Values.{length-encoded, encoded-getD}
 
 coefficients-back : (offset : ℕ) (basis coefficients : List ℕ) → IsElement offset → All IsElement basis → All IsElement coefficients
@@ -56,5 +64,41 @@ degree offset basis coefficients eo eb ec d h =
 pub encoding : Encoding
 encoding = record { count = length-encoded; values = encoded-getD; left-off = left-off; degree = degree }
 
+interpolated-count : (offset : ℕ) (basis word : List ℕ) → length word ≡ 2 ^ length basis → length (interpolated offset basis word) ≡ 2 ^ length basis
+unfolding interpolated
+interpolated-count offset basis word h =
+    at-field .interpolation .count (points offset basis) word (length-points offset basis ∙ sym h) ∙ length-points offset basis
+
 pub round-trips : RoundTrips
-round-trips = record { coefficients = coefficients-back; word = word-back }
+round-trips = record { coefficients = coefficients-back; count = interpolated-count; word = word-back }
+
+pub accepted : Accepted
+accepted =
+    record {
+      encode =
+          λ basis coefficients values. (
+            λ e. let all = encode-passed basis coefficients values e in (all .small, all .few, all .room, all .independent),
+            λ a. passes basis (leb (length coefficients) (2 ^ length basis)) (eqb (length values) (2 ^ length basis)) (a .0)
+                (le-leb (length coefficients) (2 ^ length basis) (a .1)) (eq-eqb (length values) (2 ^ length basis) (a .2)) (a .3),
+          );
+      interpolate =
+          λ basis word coefficients. (
+            λ e. let all = interpolate-passed basis word coefficients e in (all .small, all .whole, all .room, all .independent),
+            λ a. passes basis (eqb (length word) (2 ^ length basis)) (eqb (length coefficients) (2 ^ length basis)) (a .0)
+                (eq-eqb (length word) (2 ^ length basis) (a .1)) (eq-eqb (length coefficients) (2 ^ length basis) (a .2)) (a .3),
+          );
+    }
+
+-- an outcome that is known has its number and its place
+told : (outcome known : Outcome) → known ≡ outcome → Told outcome (numberOfOutcome known) (placeOfOutcome known)
+told outcome known e = (ap numberOfOutcome (sym e), ap placeOfOutcome (sym e))
+
+pub refusals : Refusals
+refusals =
+    record {
+      dimension = λ basis a b h. told (checked basis a b) (Refused DimensionOutOfRange) (dimension-refused basis a b h);
+      list3 = λ basis a b h e. told (checked basis a b) (Refused (WrongLength 3)) (list3-refused basis a b h e);
+      list6 = λ basis a b h e f. told (checked basis a b) (Refused (WrongLength 6)) (list6-refused basis a b h e f);
+      dependent =
+          λ basis a b place h e f d. told (checked basis a b) (Refused (BasisDependent place)) (ap outcomeOfBasis (sym d) ∙ basis-looked-at basis a b h e f);
+    }
