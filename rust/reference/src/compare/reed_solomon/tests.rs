@@ -191,15 +191,6 @@ fn the_reference_agrees_with_itself() {
     assert_differing(&RIGHT, &[]);
 }
 
-/// Takes some seconds, with optimisation.
-#[test]
-#[ignore]
-fn the_reference_agrees_with_itself_in_full() {
-    let report = crate::compare::report(&comparisons(&RIGHT, &FULL));
-    print!("{}", report.text);
-    assert!(report.agrees);
-}
-
 #[test]
 fn the_names_differ() {
     let all = comparisons(&RIGHT, &FEW);
