@@ -11,10 +11,14 @@ use lib.Pow.{shr-shr, shr-mono}
 use lib.Dec.{eqb, eqb·suc-zero}
 use lib.Bits.{bitXor, xor-self, xor-zero-r, xor-step, xor-shr, differ}
 use borrow.Author.Tests.{eq-eqb, ne-eqb, lt-ltb, le-ltb}
-use Rattle.gf64.proofs.Xor.{xor-cancel, by-bit, bit-add-l}
+use Rattle.gf64.proofs.Xor.{by-bit, bit-add-l}
 use Rattle.gf64.proofs.Additive.{Additive, additive-zero, sum-additive}
 use Rattle.coset.specs.Elimination.{cleared}
 use Rattle.coset.proofs.Span.{Kernel}
+use Rattle.poly.proofs.Sums.{equal-of-sum}
+use Rattle.poly.proofs.AtField.{gf64-laws}
+use Rattle.poly.specs.Carrier.{gf64}
+use Rattle.gf64.specs.Field.{IsElement}
 
 -- the place of the highest bit
 highest : (b : ℕ) → b ≢ 0 → (p : ℕ) × (b / 2 ^ p ≡ 1)
@@ -28,7 +32,7 @@ highest = bin-ind (λ (b : ℕ). b ≢ 0 → (p : ℕ) × (b / 2 ^ p ≡ 1)) (λ
         (1 + above .0, sym (shr-shr (suc (suc n)) 1 (above .0)) ∙ above .1)
 
 equal-of-xor : (a b : ℕ) → bitXor a b ≡ 0 → a ≡ b
-equal-of-xor a b e = sym (xor-zero-r a) ∙ ap (bitXor a) (sym e) ∙ xor-cancel a b
+equal-of-xor = equal-of-sum gf64 IsElement gf64-laws
 
 xor-of-equal : (a b : ℕ) → a ≡ b → bitXor a b ≡ 0
 xor-of-equal a b e = ap (λ (s : ℕ). bitXor s b) e ∙ xor-self b

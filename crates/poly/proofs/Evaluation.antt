@@ -1,12 +1,13 @@
 -- Evaluation of sums, multiples, padded polynomials. Assumes nothing.
-use mathlib.Core.Path.{_≡_, refl, sym, ap, _∙_}
+use mathlib.Core.Path.{_≡_, refl, sym, ap, _∙_, ap₂}
 use mathlib.Core.List.{List, [], _∷_, _++_}
 use Prim.Native.Nat.{ℕ, zero, suc, _+_, _-_, _≤_}
 use native.Mathlib.Omega.{arith}
 use lib.ListN.{length, replicate, length-map, length-append, length-replicate}
 use Rattle.poly.specs.Carrier.{Operations, Laws}
-use Rattle.poly.specs.Polynomial.{All, evaluate, plus, scale, padded, timesLinear}
+use Rattle.poly.specs.Polynomial.{All, evaluate, plus, scale, padded, timesLinear, Zeros}
 use Rattle.poly.proofs.Sums.{sum-zero-r, sum-swap, product-zero-r, product-left-comm, distributive-l}
+use Rattle.poly.proofs.Entries.{all-append, all-replicate}
 
 -- ---- lengths
 
@@ -65,15 +66,15 @@ module _ {A : Type 0} (F : Operations A) (Element : A → Type 0) (L : Laws A F 
       ∙ L .sum-associative c (z ⊗ evaluate F p z) (x ⊗ evaluate F p z)
       ∙ ap (λ (v : A). c ⊕ v) (sym (distributive-l F Element L z x (evaluate F p z)))
 
-  pub evaluate-replicated : (n : ℕ) (x : A) → evaluate F (replicate n 𝟘) x ≡ 𝟘
+  pub evaluate-zeros : (p : List A) (x : A) → Zeros F p → evaluate F p x ≡ 𝟘
   unfolding evaluate
-  evaluate-replicated zero x = refl
-  evaluate-replicated (suc n) x =
-      L .sum-zero (x ⊗ evaluate F (replicate n 𝟘) x) ∙ ap (λ (v : A). x ⊗ v) (evaluate-replicated n x) ∙ product-zero-r F Element L x
+  evaluate-zeros [] x z = refl
+  evaluate-zeros (c ∷ p) x z =
+      ap₂ (λ (b v : A). b ⊕ x ⊗ v) (z .0) (evaluate-zeros p x (z .1)) ∙ L .sum-zero (x ⊗ 𝟘) ∙ product-zero-r F Element L x
 
   evaluate-followed : (p : List A) (n : ℕ) (x : A) → evaluate F (p ++ replicate n 𝟘) x ≡ evaluate F p x
   unfolding evaluate
-  evaluate-followed [] n x = evaluate-replicated n x
+  evaluate-followed [] n x = evaluate-zeros (replicate n 𝟘) x (all-replicate (λ c. c ≡ 𝟘) n 𝟘 refl)
   evaluate-followed (c ∷ p) n x = ap (λ (v : A). c ⊕ x ⊗ v) (evaluate-followed p n x)
 
   pub evaluate-padded : (n : ℕ) (p : List A) (x : A) → evaluate F (padded F n p) x ≡ evaluate F p x
@@ -103,11 +104,7 @@ module _ {A : Type 0} (F : Operations A) (Element : A → Type 0) (L : Laws A F 
   unfolding timesLinear
   timesLinear-elements c x p ec ex ep = plus-elements (c ∷ p) (scale F x p) (ec, ep) (scale-elements x p ex ep)
 
-  followed-elements : (p : List A) (n : ℕ) → All Element p → All Element (p ++ replicate n 𝟘)
-  followed-elements [] zero ep = record {}
-  followed-elements [] (suc n) ep = (L .zero-element, followed-elements [] n ep)
-  followed-elements (c ∷ p) n ep = (ep .0, followed-elements p n (ep .1))
-
   pub padded-elements : (n : ℕ) (p : List A) → All Element p → All Element (padded F n p)
   unfolding padded
-  padded-elements n p ep = followed-elements p (n - length p) ep
+  padded-elements n p ep =
+      all-append Element p (replicate (n - length p) 𝟘) ep (all-replicate Element (n - length p) 𝟘 (L .zero-element))

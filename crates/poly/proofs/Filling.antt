@@ -11,6 +11,7 @@ use lib.Seq.{ext-getD, take-append-seam}
 use Rattle.poly.specs.Carrier.{gf64}
 use Rattle.poly.specs.Polynomial.{padded}
 use Rattle.poly.proofs.Evaluation.{length-padded}
+use Rattle.poly.proofs.Entries.{getD-replicated}
 
 unfoldable pub filled : List ℕ → List ℕ → ℕ → List ℕ
 filled target held j = take j target ++ drop j held
@@ -33,15 +34,6 @@ pub filled-next : (target held : List ℕ) (j v : ℕ) → j < length held → l
     → set (filled target held j) j v ≡ filled target held (j + 1)
 filled-next target held j v h e s =
     ap (set (filled target held j) j) s ∙ filled-suc target held j h e ∙ ap (filled target held) (sym (add-one j))
-
-pub filled-all : (target held : List ℕ) (j : ℕ) → length held ≤ j → length target ≡ length held → filled target held j ≡ target
-unfolding filled
-filled-all [] [] zero h e = refl
-filled-all [] [] (suc j) h e = refl
-filled-all [] (b ∷ held) j h e = absurd (omega arith)
-filled-all (a ∷ target) [] j h e = absurd (omega arith)
-filled-all (a ∷ target) (b ∷ held) zero h e = absurd (omega arith)
-filled-all (a ∷ target) (b ∷ held) (suc j) h e = ap {B = List ℕ} (λ l. a ∷ l) (filled-all target held j (omega arith) (omega arith))
 
 -- what is not filled yet is as it was
 pub filled-rest : (target held : List ℕ) (j i : ℕ) → j ≤ i → length target ≡ length held → getD (filled target held j) i 0 ≡ getD held i 0
@@ -94,15 +86,15 @@ filled-done target held j e same =
     at i (inl l) = filled-rest target held j i l e ∙ sym (same i l)
     at i (inr l) = filled-getD target held j i l e
 
+pub filled-all : (target held : List ℕ) (j : ℕ) → length held ≤ j → length target ≡ length held → filled target held j ≡ target
+filled-all target held j h e =
+    filled-done target held j e
+    (λ i l. List·getD-eq-default target 0 (omega arith) ∙ sym (List·getD-eq-default held 0 (le-trans h l)))
+
 -- ---- zeros at the end
 
-getD-zeros : (n i : ℕ) → _≡_ {A = ℕ} (getD (replicate n 0) i 0) 0
-getD-zeros zero i = refl
-getD-zeros (suc n) zero = refl
-getD-zeros (suc n) (suc i) = getD-zeros n i
-
 getD-followed : (p : List ℕ) (n i : ℕ) → getD (p ++ replicate n 0) i 0 ≡ getD p i 0
-getD-followed [] n i = getD-zeros n i
+getD-followed [] n i = getD-replicated n i 0
 getD-followed (a ∷ p) n zero = refl
 getD-followed (a ∷ p) n (suc i) = getD-followed p n i
 
@@ -114,7 +106,7 @@ getD-padded n p i = getD-followed p (n - length p) i
 pub filled-padded : (n : ℕ) (p : List ℕ) (j : ℕ) → length p ≤ j → length p ≤ n → filled (padded gf64 n p) (replicate n 0) j ≡ padded gf64 n p
 filled-padded n p j h l =
     filled-done (padded gf64 n p) (replicate n 0) j (length-padded gf64 n p l ∙ sym (length-replicate n 0))
-    (λ i k. getD-padded n p i ∙ List·getD-eq-default p 0 (le-trans h k) ∙ sym (getD-zeros n i))
+    (λ i k. getD-padded n p i ∙ List·getD-eq-default p 0 (le-trans h k) ∙ sym (getD-replicated n i 0))
 
 pub take-padded : (n : ℕ) (p : List ℕ) → take (length p) (padded gf64 n p) ≡ p
 unfolding padded

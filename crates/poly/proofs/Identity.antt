@@ -3,13 +3,14 @@ use mathlib.Core.Path.{_≡_, refl, sym, ap, ap₂, _∙_, subst}
 use mathlib.Core.List.{List, [], _∷_}
 use Prim.Native.Nat.{ℕ, zero, suc, _*_}
 use native.Mathlib.Nat.{zero-mul}
-use lib.ListN.{length, drop, getD, replicate}
+use lib.ListN.{length, drop, getD}
 use Rattle.poly.specs.Carrier.{Operations, Laws}
 use Rattle.poly.specs.Polynomial.{All, Zeros, DegreeBelow, plus, scale}
 use Rattle.poly.specs.Rows.{monic, butLast, last, remainderBy, quotientBy, rows, times, composed}
 use Rattle.poly.proofs.Sums.{sum-zero-r, sum-cancel, product-zero-l, product-zero-r}
 use Rattle.poly.proofs.Division.{length-remainder, last-element, remainder-elements, quotient-elements, quotient-degree}
 use Rattle.poly.proofs.Rows.{one-more}
+use Rattle.poly.proofs.Entries.{getD-replicated}
 
 module _ {A : Type 0} (F : Operations A) (Element : A → Type 0) (L : Laws A F Element) where
   open Operations F using (zero as 𝟘, one as 𝟙, sum as _⊕_, product as _⊗_)
@@ -119,16 +120,11 @@ module _ {A : Type 0} (F : Operations A) (Element : A → Type 0) (L : Laws A F 
       before zero = sym (sum-zero-r F Element L c)
       before (suc i) = ih i
 
-  at-zeros : (n i : ℕ) → at (replicate n 𝟘) i ≡ 𝟘
-  at-zeros zero i = refl
-  at-zeros (suc n) zero = refl
-  at-zeros (suc n) (suc i) = at-zeros n i
-
   -- p = remainder + (X^m + q) · quotient
   division-identity : (q p : List A) → All Element q → All Element p
       → (i : ℕ) → at p i ≡ at (remainderBy F q p) i ⊕ at (times F (monic F q) (quotientBy F q p)) i
   unfolding remainderBy quotientBy times
-  division-identity q [] eq ep i = sym (ap (λ (s : A). s ⊕ 𝟘) (at-zeros (length q) i) ∙ L .sum-zero 𝟘)
+  division-identity q [] eq ep i = sym (ap (λ (s : A). s ⊕ 𝟘) (getD-replicated (length q) i 𝟘) ∙ L .sum-zero 𝟘)
   division-identity q (c ∷ p) eq ep i =
       division-cons q c p (remainderBy F q p) (quotientBy F q p) (length-remainder F q p)
       (last-element F Element L c (remainderBy F q p) (ep .0) (remainder-elements F Element L q p eq (ep .1))) (division-identity q p eq (ep .1)) i

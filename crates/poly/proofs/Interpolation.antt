@@ -59,7 +59,7 @@ module _ {A : Type 0} (F : Operations A) (Element : A → Type 0) (L : Laws A F 
       ∙ ap (λ (v : A). y ⊕ v) (ap (λ (v : A). v ⊗ evaluate F q x) (L .sum-self x) ∙ product-zero-l F Element L (evaluate F q x))
       ∙ sum-zero-r F Element L y
 
-  -- where q has the slope for its value, y + (x′ + x) · q is y′
+  -- where q has the divided difference for its value, y + (x′ + x) · q is y′
   at-other-point : (x y x′ y′ : A) (q : List A) → Element x → Element y → Element x′ → Element y′ → x′ ≢ x
       → evaluate F q x′ ≡ F .inverse (x′ ⊕ x) ⊗ (y′ ⊕ y) → evaluate F (timesLinear F y x q) x′ ≡ y′
   at-other-point x y x′ y′ q ex ey ex′ ey′ ne e =
@@ -105,7 +105,7 @@ module _ {A : Type 0} (F : Operations A) (Element : A → Type 0) (L : Laws A F 
       same : length points ≡ length values
       same = sym (length-map points (evaluate F p)) ∙ ap length e
 
-  values-padded : (n : ℕ) (p points : List A) → map (evaluate F (padded F n p)) points ≡ map (evaluate F p) points
+  pub values-padded : (n : ℕ) (p points : List A) → map (evaluate F (padded F n p)) points ≡ map (evaluate F p) points
   values-padded n p [] = refl
   values-padded n p (x ∷ points) =
       ap₂ (λ (a : A) (s : List A). a ∷ s) (evaluate-padded F Element L n p x) (values-padded n p points)

@@ -1,3 +1,4 @@
+pub mod Entries
 pub mod Sums
 pub mod Evaluation
 pub mod Roots

@@ -12,6 +12,7 @@ use Rattle.poly.specs.Newton.{newtonValue, vanishing, newtonCoefficient,
 use Rattle.poly.proofs.Sums.{sum-zero-r, sum-cancel, sum-not-zero, product-zero-l, divides, no-zero-divisors}
 use Rattle.poly.proofs.Evaluation.{evaluate-timesLinear, length-timesLinear, timesLinear-elements}
 use Rattle.poly.proofs.Interpolation.{interpolant-unique}
+use Rattle.poly.proofs.Entries.{all-append}
 
 -- ---- lengths
 
@@ -97,10 +98,6 @@ module _ {A : Type 0} (F : Operations A) (Element : A → Type 0) (L : Laws A F 
       L .product-element (y ⊕ newtonValue F points cs z) (F .inverse (vanishing F points z))
       (L .sum-element y (newtonValue F points cs z) ey (newtonValue-element points cs z ep ec ez))
       (L .inverse-element (vanishing F points z) (vanishing-element points z ep ez))
-
-  all-append : (P : A → Type 0) (xs ys : List A) → All P xs → All P ys → All P (xs ++ ys)
-  all-append P [] ys hx hy = hy
-  all-append P (x ∷ xs) ys hx hy = (hx .0, all-append P xs ys (hx .1) hy)
 
   -- ---- the coefficients
 

@@ -1,16 +1,17 @@
 -- The root bound by synthetic division, p(x) = p(a) + (x + a) · s(x), and from it that two polynomials of n coefficients
 -- that agree at n distinct points are equal. Assumes nothing.
-use mathlib.Core.Path.{_≡_, refl, sym, ap, ap₂, _∙_}
+use mathlib.Core.Path.{_≡_, refl, sym, ap, ap₂, _∙_, subst}
 use mathlib.Core.Logic.{_≢_}
 use mathlib.Core.List.{List, [], _∷_, map}
 use Prim.Native.Nat.{ℕ, zero, suc, _≤_}
 use native.Mathlib.Nat.{le-of-eq}
 use native.Mathlib.Omega.{arith}
-use lib.ListN.{length, take, drop, length-take}
+use lib.ListN.{length, take, drop, length-take, take-append-drop}
 use Rattle.poly.specs.Carrier.{Operations, Laws}
 use Rattle.poly.specs.Polynomial.{All, Distinct, Zeros, DegreeBelow, evaluate, plus}
 use Rattle.poly.proofs.Sums.{sum-zero-r, sum-cancel, equal-of-sum, sum-not-zero, product-zero-r, distributive-l, product-left-comm, no-zero-divisors}
-use Rattle.poly.proofs.Evaluation.{evaluate-plus, evaluate-element, plus-elements, length-plus}
+use Rattle.poly.proofs.Evaluation.{evaluate-plus, evaluate-element, plus-elements, length-plus, evaluate-zeros}
+use Rattle.poly.proofs.Entries.{all-append, all-take}
 
 -- the quotient of c ∷ p by X + a, whatever c
 divided : {A : Type 0} → Operations A → A → List A → List A
@@ -69,18 +70,12 @@ module _ {A : Type 0} (F : Operations A) (Element : A → Type 0) (L : Laws A F 
       s : A
       s = evaluate F (divided F a p) x
 
-  pub evaluate-zeros : (p : List A) (x : A) → Zeros F p → evaluate F p x ≡ 𝟘
-  unfolding evaluate
-  evaluate-zeros [] x z = refl
-  evaluate-zeros (c ∷ p) x z =
-      ap₂ (λ (b v : A). b ⊕ x ⊗ v) (z .0) (evaluate-zeros p x (z .1)) ∙ L .sum-zero (x ⊗ 𝟘) ∙ product-zero-r F Element L x
-
   -- the constant is the value less what the rest contributes
   constant-zero : (c : A) (p : List A) (a : A) → Zeros F p → evaluate F (c ∷ p) a ≡ 𝟘 → c ≡ 𝟘
   unfolding evaluate
   constant-zero c p a z e =
       sym (sum-zero-r F Element L c)
-      ∙ ap (λ (v : A). c ⊕ v) (sym (product-zero-r F Element L a) ∙ ap (λ (v : A). a ⊗ v) (sym (evaluate-zeros p a z))) ∙ e
+      ∙ ap (λ (v : A). c ⊕ v) (sym (product-zero-r F Element L a) ∙ ap (λ (v : A). a ⊗ v) (sym (evaluate-zeros F Element L p a z))) ∙ e
 
   zeros-cons : (c : A) (p : List A) (a : A) → evaluate F (c ∷ p) a ≡ 𝟘 → Zeros F p → Zeros F (c ∷ p)
   zeros-cons c p a e z = (constant-zero c p a z e, z)
@@ -117,30 +112,21 @@ module _ {A : Type 0} (F : Operations A) (Element : A → Type 0) (L : Laws A F 
 
   evaluate-take : (n : ℕ) (p : List A) (x : A) → Zeros F (drop n p) → evaluate F (take n p) x ≡ evaluate F p x
   unfolding evaluate
-  evaluate-take zero p x z = sym (evaluate-zeros p x z)
+  evaluate-take zero p x z = sym (evaluate-zeros F Element L p x z)
   evaluate-take (suc n) [] x z = refl
   evaluate-take (suc n) (c ∷ p) x z = ap (λ (v : A). c ⊕ x ⊗ v) (evaluate-take n p x z)
-
-  take-elements : (n : ℕ) (p : List A) → All Element p → All Element (take n p)
-  take-elements zero p e = record {}
-  take-elements (suc n) [] e = record {}
-  take-elements (suc n) (c ∷ p) e = (e .0, take-elements n p (e .1))
 
   roots-of-take : (n : ℕ) (p roots : List A) → Zeros F (drop n p) → All (λ x. evaluate F p x ≡ 𝟘) roots → All (λ x. evaluate F (take n p) x ≡ 𝟘) roots
   roots-of-take n p [] z r = record {}
   roots-of-take n p (x ∷ roots) z r = (evaluate-take n p x z ∙ r .0, roots-of-take n p roots z (r .1))
 
-  zeros-of-parts : (n : ℕ) (p : List A) → Zeros F (take n p) → Zeros F (drop n p) → Zeros F p
-  zeros-of-parts zero p t d = d
-  zeros-of-parts (suc n) [] t d = record {}
-  zeros-of-parts (suc n) (c ∷ p) t d = (t .0, zeros-of-parts n p (t .1) d)
-
   -- a polynomial of degree below n with n distinct roots is zero
   pub root-bound-degree : (n : ℕ) (p roots : List A) → All Element p → All Element roots → Distinct roots
       → All (λ x. evaluate F p x ≡ 𝟘) roots → DegreeBelow F n p → n ≤ length roots → Zeros F p
   root-bound-degree n p roots ep er d r z h =
-      zeros-of-parts n p
-      (root-bound (take n p) roots (take-elements n p ep) er d (roots-of-take n p roots z r) (omega (arith, length-take n p))) z
+      subst (Zeros F) (take-append-drop n p)
+      (all-append (λ c. c ≡ 𝟘) (take n p) (drop n p)
+      (root-bound (take n p) roots (all-take Element n p ep) er d (roots-of-take n p roots z r) (omega (arith, length-take n p))) z)
 
   -- ---- uniqueness
 

@@ -8,8 +8,9 @@ use lib.ListN.{length, drop}
 use Rattle.poly.specs.Carrier.{Operations, Laws}
 use Rattle.poly.specs.Polynomial.{All, Zeros, evaluate}
 use Rattle.poly.specs.Rows.{monic, remainderBy, quotientBy, rows}
-use Rattle.poly.proofs.Roots.{evaluate-zeros}
-use Rattle.poly.proofs.Division.{length-remainder, division, quotient-elements, zeros-drop, zeros-divided, zeros-of-divided, quotient-degree, degree-of-quotient}
+use Rattle.poly.proofs.Evaluation.{evaluate-zeros}
+use Rattle.poly.proofs.Division.{length-remainder, division, quotient-elements, zeros-divided, zeros-of-divided, quotient-degree, degree-of-quotient}
+use Rattle.poly.proofs.Entries.{all-drop}
 
 pub length-rows : {A : Type 0} (F : Operations A) (q : List A) (n : ℕ) (p : List A) → length (rows F q n p) ≡ n
 unfolding rows
@@ -75,7 +76,7 @@ module _ {A : Type 0} (F : Operations A) (Element : A → Type 0) (L : Laws A F 
       → All (Zeros F) (drop N (rows F q n p)) → Zeros F (drop (N * length q) p)
   unfolding rows
   degree-of-rows zero q n p whole z = subst (λ (k : ℕ). Zeros F (drop k p)) (sym (zero-mul (length q))) (zeros-of-rows q n p whole z)
-  degree-of-rows (suc N) q zero p whole z = zeros-drop F Element L (suc N * length q) p (none q p whole)
+  degree-of-rows (suc N) q zero p whole z = all-drop (λ c. c ≡ 𝟘) (suc N * length q) p (none q p whole)
   degree-of-rows (suc N) q (suc n) p whole z =
       one-less q p N
       (degree-of-quotient F Element L q p (N * length q)

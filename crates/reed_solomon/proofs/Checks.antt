@@ -14,7 +14,7 @@ use Rattle.refusal.specs.declared.Outcome.the-variants.{Done, Refused}
 use Rattle.refusal.specs.declared.Position.{Position}
 use Rattle.refusal.specs.declared.Position.the-variants.{At, Absent}
 use Rattle.coset.specs.Span.{firstDependent, Independent}
-use Rattle.reed_solomon.specs.Answers.{outcomeOfBasis, checked, encodeOutcome, interpolateOutcome, afterwards}
+use Rattle.reed_solomon.specs.Answers.{outcomeOfBasis, checked, afterwards}
 
 pub not-true : (a : Bool) → not a ≡ true → a ≡ false
 not-true true e = sym e
@@ -52,17 +52,23 @@ module _ (basis : List ℕ) (fits3 fits6 : Bool) where
       (ap₂ (λ (k a : Bool). picked k a fits6 (outcomeOfBasis (firstDependent basis))) (le-leb (length basis) 12 h) e
       ∙ ap (λ (b : Bool). picked true true b (outcomeOfBasis (firstDependent basis))) f)
 
+pub equal-of-test : (m n : ℕ) → eqb m n ≡ true → m ≡ n
+equal-of-test m n e = eqb→eq m n (subst T (sym e) tt)
+
+pub le-of-test : (m n : ℕ) → leb m n ≡ true → m ≤ n
+le-of-test m n e = leb→le m n (subst T (sym e) tt)
+
 -- where all have passed
-record Passed (basis : List ℕ) (fits3 fits6 : Bool) : Type 0 where
-  small : length basis ≤ 12
-  list3 : fits3 ≡ true
-  list6 : fits6 ≡ true
-  independent : Independent basis
+pub record Passed (basis : List ℕ) (fits3 fits6 : Bool) : Type 0 where
+  pub small : length basis ≤ 12
+  pub list3 : fits3 ≡ true
+  pub list6 : fits6 ≡ true
+  pub independent : Independent basis
 
 refused-not-done : (cause : Cause) → Refused cause ≡ Done → ⊥
 refused-not-done cause e = let impossible : _≡_ {A = ℕ} 0 1 = cc in omega arith
 
-passed : (basis : List ℕ) (fits3 fits6 : Bool) → checked basis fits3 fits6 ≡ Done → Passed basis fits3 fits6
+pub passed : (basis : List ℕ) (fits3 fits6 : Bool) → checked basis fits3 fits6 ≡ Done → Passed basis fits3 fits6
 unfolding picked
 passed basis fits3 fits6 e = by (leb (length basis) 12) fits3 fits6 (firstDependent basis) refl refl refl refl e
   where
@@ -73,78 +79,20 @@ passed basis fits3 fits6 e = by (leb (length basis) 12) fits3 fits6 (firstDepend
     by true true false p ek ea eb ep d = absurd (refused-not-done (WrongLength 6) d)
     by true true true (At place) ek ea eb ep d = absurd (refused-not-done (BasisDependent place) d)
     by true true true Absent ek ea eb ep d =
-        record { small = leb→le (length basis) 12 (subst T (sym ek) tt); list3 = ea; list6 = eb; independent = ep }
+        record { small = le-of-test (length basis) 12 ek; list3 = ea; list6 = eb; independent = ep }
 
--- 2^k, or 0 where k is refused anyway
-abbrev sizeOf : ℕ → ℕ
-sizeOf k = cond (leb k 12) (2 ^ k) 0
-
--- the tests of the lengths may take any size where k is refused anyway
-checked-size : (basis : List ℕ) (fits3 fits6 : ℕ → Bool)
-    → checked basis (fits3 (sizeOf (length basis))) (fits6 (sizeOf (length basis))) ≡ checked basis (fits3 (2 ^ length basis)) (fits6 (2 ^ length basis))
+-- the code's size is 2^k, or 0 where k is refused anyway: so the tests of the lengths may take it
+pub answered-by-size : (basis : List ℕ) (fits3 fits6 : ℕ → Bool) (size : ℕ) (answer : Outcome) → size ≡ cond (leb (length basis) 12) (2 ^ length basis) 0
+    → answer ≡ checked basis (fits3 size) (fits6 size) → checked basis (fits3 (2 ^ length basis)) (fits6 (2 ^ length basis)) ≡ answer
 unfolding picked
-checked-size basis fits3 fits6 = by (leb (length basis) 12)
+answered-by-size basis fits3 fits6 size answer e a =
+    sym (a ∙ ap (λ (n : ℕ). checked basis (fits3 n) (fits6 n)) e ∙ by (leb (length basis) 12))
   where
     by : (k : Bool)
         → picked k (fits3 (cond k (2 ^ length basis) 0)) (fits6 (cond k (2 ^ length basis) 0)) (outcomeOfBasis (firstDependent basis))
         ≡ picked k (fits3 (2 ^ length basis)) (fits6 (2 ^ length basis)) (outcomeOfBasis (firstDependent basis))
     by true = refl
     by false = refl
-
--- what the code answers, with the size as it computes it
-pub encode-answer : (basis coefficients values : List ℕ) (size : ℕ) (answer : Outcome) → size ≡ sizeOf (length basis)
-    → answer ≡ checked basis (leb (length coefficients) size) (eqb (length values) size) → encodeOutcome basis coefficients values ≡ answer
-encode-answer basis coefficients values size answer e a =
-    sym
-    (a
-    ∙ ap (λ (n : ℕ). checked basis (leb (length coefficients) n) (eqb (length values) n)) e
-    ∙ checked-size basis (leb (length coefficients)) (eqb (length values)))
-
-pub interpolate-answer : (basis word coefficients : List ℕ) (size : ℕ) (answer : Outcome) → size ≡ sizeOf (length basis)
-    → answer ≡ checked basis (eqb (length word) size) (eqb (length coefficients) size) → interpolateOutcome basis word coefficients ≡ answer
-interpolate-answer basis word coefficients size answer e a =
-    sym
-    (a
-    ∙ ap (λ (n : ℕ). checked basis (eqb (length word) n) (eqb (length coefficients) n)) e
-    ∙ checked-size basis (eqb (length word)) (eqb (length coefficients)))
-
-equal-of-test : (m n : ℕ) → eqb m n ≡ true → m ≡ n
-equal-of-test m n e = eqb→eq m n (subst T (sym e) tt)
-
--- what holds where encoding has passed
-pub record EncodeReady (basis coefficients values : List ℕ) : Type 0 where
-  pub small : length basis ≤ 12
-  pub few : length coefficients ≤ 2 ^ length basis
-  pub room : length values ≡ 2 ^ length basis
-  pub independent : Independent basis
-
-pub encode-passed : (basis coefficients values : List ℕ) → encodeOutcome basis coefficients values ≡ Done → EncodeReady basis coefficients values
-encode-passed basis coefficients values e =
-    let all = passed basis (leb (length coefficients) (2 ^ length basis)) (eqb (length values) (2 ^ length basis)) e in
-    record {
-      small = all .small;
-      few = leb→le (length coefficients) (2 ^ length basis) (subst T (sym (all .list3)) tt);
-      room = equal-of-test (length values) (2 ^ length basis) (all .list6);
-      independent = all .independent;
-    }
-
--- and where interpolation has
-pub record InterpolateReady (basis word coefficients : List ℕ) : Type 0 where
-  pub small : length basis ≤ 12
-  pub whole : length word ≡ 2 ^ length basis
-  pub room : length coefficients ≡ 2 ^ length basis
-  pub independent : Independent basis
-
-pub interpolate-passed : (basis word coefficients : List ℕ) → interpolateOutcome basis word coefficients ≡ Done
-    → InterpolateReady basis word coefficients
-interpolate-passed basis word coefficients e =
-    let all = passed basis (eqb (length word) (2 ^ length basis)) (eqb (length coefficients) (2 ^ length basis)) e in
-    record {
-      small = all .small;
-      whole = equal-of-test (length word) (2 ^ length basis) (all .list3);
-      room = equal-of-test (length coefficients) (2 ^ length basis) (all .list6);
-      independent = all .independent;
-    }
 
 -- conversely
 pub passes : (basis : List ℕ) (fits3 fits6 : Bool) → length basis ≤ 12 → fits3 ≡ true → fits6 ≡ true → Independent basis

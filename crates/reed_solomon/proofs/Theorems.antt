@@ -1,13 +1,15 @@
 -- The statements of specs/Theorems.antt, proved. Assumes nothing.
-use mathlib.Core.Path.{_≡_, refl, sym, ap, ap₂, _∙_, subst}
-use mathlib.Core.List.{List, [], _∷_, _++_, map}
-use Prim.Native.Nat.{ℕ, zero, suc, _-_, _^_, _≤_}
+use mathlib.Core.Path.{_≡_, refl, sym, ap, _∙_, subst}
+use mathlib.Core.Bool.{Bool, true}
+use mathlib.Core.Logic.{_↔_}
+use mathlib.Core.List.{List}
+use Prim.Native.Nat.{ℕ, _-_, _^_, _≤_}
 use lib.ListN.{length, replicate}
 use native.Mathlib.Omega.{arith}
 use Rattle.gf64.specs.Field.{IsElement}
 use Rattle.poly.specs.Carrier.{gf64}
-use Rattle.poly.specs.Polynomial.{All, DegreeBelow, evaluate, padded}
-use Rattle.poly.proofs.AtField.{at-field}
+use Rattle.poly.specs.Polynomial.{All, DegreeBelow, padded, Zeros}
+use Rattle.poly.proofs.AtField.{at-field, gf64-laws}
 use Rattle.coset.specs.Coset.{points}
 use Rattle.coset.specs.Span.{Independent}
 use Rattle.coset.proofs.Points.{length-points, points-distinct, points-elements}
@@ -16,12 +18,15 @@ use Rattle.reed_solomon.specs.Theorems.{RoundTrips, Accepted, Told, Refu
 use Rattle.reed_solomon.specs.Answers.{outcomeOfBasis, checked}
 use Rattle.refusal.specs.declared.Cause.the-variants.{DimensionOutOfRange, BasisDependent, WrongLength}
 use Rattle.refusal.specs.declared.Outcome.{Outcome}
-use Rattle.refusal.specs.declared.Outcome.the-variants.{Refused}
+use Rattle.refusal.specs.declared.Outcome.the-variants.{Done, Refused}
 use Rattle.refusal.specs.Numbers.{numberOfOutcome, placeOfOutcome}
-use Rattle.reed_solomon.proofs.Checks.{dimension-refused, list3-refused, list6-refused, basis-looked-at, encode-passed, interpolate-passed, passes}
+use Rattle.reed_solomon.proofs.Checks.{dimension-refused, list3-refused, list6-refused, basis-looked-at, passed, passes, equal-of-test, le-of-test}
 use lib.Dec.{leb, eqb}
 use borrow.Author.Tests.{le-leb, eq-eqb}
 use Rattle.reed_solomon.proofs.Values.{length-encoded, encoded-getD}
+use Rattle.poly.proofs.Interpolation.{values-padded}
+use Rattle.poly.proofs.Entries.{all-replicate}
+use lib.Seq.{drop-append-seam}
 
 coefficients-back : (offset : ℕ) (basis coefficients : List ℕ) → IsElement offset → All IsElement basis → All IsElement coefficients
     → Independent basis → length coefficients ≤ 2 ^ length basis
@@ -39,19 +44,11 @@ word-back offset basis word eo eb ew d h =
     at-field .interpolation .agrees (points offset basis) word (points-elements offset basis eo eb) ew (points-distinct offset basis d)
     (length-points offset basis ∙ sym h)
 
-values-padded : (n : ℕ) (p at : List ℕ) → map (evaluate gf64 (padded gf64 n p)) at ≡ map (evaluate gf64 p) at
-values-padded n p [] = refl
-values-padded n p (x ∷ at) = ap₂ (λ (a : ℕ) (s : List ℕ). a ∷ s) (at-field .interpolation .padding n p x) (values-padded n p at)
-
 left-off : (offset : ℕ) (basis coefficients : List ℕ)
     → encoded offset basis (padded gf64 (2 ^ length basis) coefficients) ≡ encoded offset basis coefficients
 unfolding encoded
-left-off offset basis coefficients = values-padded (2 ^ length basis) coefficients (points offset basis)
-
-zeros-end : (p : List ℕ) (n : ℕ) → DegreeBelow gf64 (length p) (p ++ replicate n 0)
-zeros-end [] zero = record {}
-zeros-end [] (suc n) = (refl, zeros-end [] n)
-zeros-end (c ∷ p) n = zeros-end p n
+left-off offset basis coefficients =
+    values-padded gf64 IsElement gf64-laws (2 ^ length basis) coefficients (points offset basis)
 
 degree : (offset : ℕ) (basis coefficients : List ℕ) → IsElement offset → All IsElement basis → All IsElement coefficients
     → Independent basis → length coefficients ≤ 2 ^ length basis
@@ -59,7 +56,10 @@ degree : (offset : ℕ) (basis coefficients : List ℕ) → IsElement offset →
 unfolding padded
 degree offset basis coefficients eo eb ec d h =
     subst (DegreeBelow gf64 (length coefficients)) (sym (coefficients-back offset basis coefficients eo eb ec d h))
-    (zeros-end coefficients (2 ^ length basis - length coefficients))
+    (subst (Zeros gf64) (sym (drop-append-seam coefficients (replicate n 0))) (all-replicate (λ c. c ≡ 0) n 0 refl))
+  where
+    n : ℕ
+    n = 2 ^ length basis - length coefficients
 
 pub encoding : Encoding
 encoding = record { count = length-encoded; values = encoded-getD; left-off = left-off; degree = degree }
@@ -72,21 +72,29 @@ interpolated-count offset basis word h =
 pub round-trips : RoundTrips
 round-trips = record { coefficients = coefficients-back; count = interpolated-count; word = word-back }
 
+-- the checks pass exactly where k is at most 12, what the two tests stand for holds, and the basis is independent
+accepted-by : (basis : List ℕ) (fits3 fits6 : Bool) (P Q : Type 0) → (fits3 ≡ true → P) → (P → fits3 ≡ true) → (fits6 ≡ true → Q) → (Q → fits6 ≡ true)
+    → (checked basis fits3 fits6 ≡ Done) ↔ ((length basis ≤ 12) × P × Q × Independent basis)
+accepted-by basis fits3 fits6 P Q p p′ q q′ = (
+  λ e. let all = passed basis fits3 fits6 e in (all .small, p (all .list3), q (all .list6), all .independent),
+  λ a. passes basis fits3 fits6 (a .0) (p′ (a .1)) (q′ (a .2)) (a .3),
+)
+
 pub accepted : Accepted
 accepted =
     record {
       encode =
-          λ basis coefficients values. (
-            λ e. let all = encode-passed basis coefficients values e in (all .small, all .few, all .room, all .independent),
-            λ a. passes basis (leb (length coefficients) (2 ^ length basis)) (eqb (length values) (2 ^ length basis)) (a .0)
-                (le-leb (length coefficients) (2 ^ length basis) (a .1)) (eq-eqb (length values) (2 ^ length basis) (a .2)) (a .3),
-          );
+          λ basis coefficients values.
+          accepted-by basis (leb (length coefficients) (2 ^ length basis)) (eqb (length values) (2 ^ length basis))
+          (length coefficients ≤ 2 ^ length basis) (length values ≡ 2 ^ length basis)
+          (le-of-test (length coefficients) (2 ^ length basis)) (le-leb (length coefficients) (2 ^ length basis))
+          (equal-of-test (length values) (2 ^ length basis)) (eq-eqb (length values) (2 ^ length basis));
       interpolate =
-          λ basis word coefficients. (
-            λ e. let all = interpolate-passed basis word coefficients e in (all .small, all .whole, all .room, all .independent),
-            λ a. passes basis (eqb (length word) (2 ^ length basis)) (eqb (length coefficients) (2 ^ length basis)) (a .0)
-                (eq-eqb (length word) (2 ^ length basis) (a .1)) (eq-eqb (length coefficients) (2 ^ length basis) (a .2)) (a .3),
-          );
+          λ basis word coefficients.
+          accepted-by basis (eqb (length word) (2 ^ length basis)) (eqb (length coefficients) (2 ^ length basis))
+          (length word ≡ 2 ^ length basis) (length coefficients ≡ 2 ^ length basis)
+          (equal-of-test (length word) (2 ^ length basis)) (eq-eqb (length word) (2 ^ length basis))
+          (equal-of-test (length coefficients) (2 ^ length basis)) (eq-eqb (length coefficients) (2 ^ length basis));
     }
 
 -- an outcome that is known has its number and its place

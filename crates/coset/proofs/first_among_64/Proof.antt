@@ -1,100 +1,108 @@
--- `coset::first_among_64` meets its contract. The loop's invariant: i elements are copied, zeros follow. Assumes nothing.
+-- `coset::first_among_64` meets its contract. The loop's invariant: the definition from place on, over what is left of the rows, is the
+-- definition over the first 64 elements. Assumes nothing.
 use mathlib.Core.Path.{_≡_, sym, ap, ap₂, _∙_}
 use mathlib.Core.List.{List}
-use Prim.Native.Nat.{ℕ, _-_, _≤_, min}
-use lib.ListN.{length, take, getD, replicate, set, length-take}
-use lib.Seq.{getD-take}
+use Prim.Native.Nat.{ℕ, _+_, _-_, _≤_, min}
+use lib.ListN.{length, take, getD, length-take, length-map}
+use lib.Seq.{length-take-le, getD-take}
+use borrow.Rule.Slice.PartMut.{midOf, same-len-mid}
 use borrow.Author.Needs.{needs}
 use native.Mathlib.Omega.{arith}
 use Rattle.poly.specs.Carrier.{gf64}
 use Rattle.poly.specs.Polynomial.{padded}
 use Rattle.poly.proofs.Evaluation.{length-padded}
-use Rattle.poly.proofs.Filling.{filled, filled-start, filled-next, filled-padded, getD-padded, take-padded}
+use Rattle.poly.proofs.Filling.{take-padded}
 use Rattle.coset.specs.Span.{firstDependent}
+use Rattle.coset.specs.Elimination.{cleared}
+use Rattle.coset.proofs.FirstPlace.{from, row-zero, row-next, rows-end}
 use Rattle.coset.proofs.first_among_64.Statement.{statement}
 use Rattle.coset.proofs.first_among_64.Tie as tie
 
--- once all are copied the array holds the first 64 elements, and zeros
-module _ (basis rows : List ℕ) (count i : ℕ) (many : count ≡ min (length basis) 64) (all : count ≤ i)
-    (inv : rows ≡ filled (padded gf64 64 (take 64 basis)) (replicate 64 0) i) where
-  short : length (take 64 basis) ≤ 64
-  short = omega (arith, length-take 64 basis)
-
-  copied : rows ≡ padded gf64 64 (take 64 basis)
-  copied = inv ∙ filled-padded 64 (take 64 basis) i (omega (arith, length-take 64 basis)) short
-
-  length-copied : length rows ≡ 64
-  length-copied = ap length copied ∙ length-padded gf64 64 (take 64 basis) short
-
-  counted : count ≡ length (take 64 basis)
-  counted = omega (arith, length-take 64 basis)
-
-  take-copied : take count rows ≡ take 64 basis
-  take-copied =
-      ap₂ (λ (n : ℕ) (l : List ℕ). take n l) counted copied ∙ take-padded 64 (take 64 basis)
+-- the first `count` rows are the first 64 elements
+take-rows : (basis rows : List ℕ) (count : ℕ) → count ≡ min (length basis) 64 → rows ≡ padded gf64 64 (take 64 basis) → take count rows ≡ take 64 basis
+take-rows basis rows count many copied =
+    ap₂ (λ (n : ℕ) (l : List ℕ). take n l) counted copied ∙ take-padded 64 (take 64 basis)
+  where
+    counted : count ≡ length (take 64 basis)
+    counted = omega (arith, length-take 64 basis)
 
 abbrev Inv-loop : tie.InvT-loop
-Inv-loop basis count rows₀ i₀ rows i =
-    (i ≤ count) × (count ≡ min (length basis) 64) × (rows ≡ filled (padded gf64 64 (take 64 basis)) (replicate 64 0) i)
+Inv-loop basis count rows₀ place₀ rows place =
+    (place ≤ count) × (count ≡ min (length basis) 64) × (length rows ≡ 64) × (from (take count rows) place ≡ firstDependent (take 64 basis))
 
 abbrev μ-loop : tie.MeasureT-loop
-μ-loop basis count rows₀ i₀ rows i = count - i
+μ-loop basis count rows₀ place₀ rows place = count - place
 
 lesser-requires : tie.Need-lesser-requires Inv-loop μ-loop
 lesser-requires c κs = search needs
 
+first-64-requires : tie.Need-first-64-requires Inv-loop μ-loop
+first-64-requires c κs = search needs
+
 loop-holds : tie.Need-loop-holds Inv-loop μ-loop
+unfolding firstDependent
 loop-holds c =
-    (search needs, c .lesser .ensures, filled-start (padded gf64 64 (take 64 (c .before .before .args .basis .now))) (replicate 64 0))
+    let basis = c .before .before .before .args .basis .now in (
+      search needs,
+      c .before .lesser .ensures,
+      ap length (c .first-64 .ensures) ∙ length-padded gf64 64 (take 64 basis) (omega (arith, length-take 64 basis)),
+      ap firstDependent (take-rows basis (c .first-64 .result) (c .before .lesser .result) (c .before .lesser .ensures) (c .first-64 .ensures)),
+    )
+
+mul-row : tie.Need-mul-row Inv-loop μ-loop
+mul-row c = search needs
+
+array-read-row : tie.Need-array-read-row Inv-loop μ-loop
+array-read-row c = search needs
+
+returns : tie.Need-returns Inv-loop μ-loop
+returns c =
+    let l = c .before .before .loop in
+    let count = c .before .before .before .before .lesser .result in
+    sym
+    (row-zero (take count (l .rows)) (l .place) (omega (arith, length-take-le count (l .rows) (omega arith)))
+    (getD-take count (l .rows) (l .place) 0 (omega arith) ∙ c .if1 .taken))
+    ∙ l .inv .3
+
+add-place : tie.Need-add-place Inv-loop μ-loop
+add-place c = search needs
 
 mul-rows : tie.Need-mul-rows Inv-loop μ-loop
 mul-rows c = search needs
 
-shared-slice-read-rows : tie.Need-shared-slice-read-rows Inv-loop μ-loop
-shared-slice-read-rows c = search needs
+sub-clear : tie.Need-sub-clear Inv-loop μ-loop
+sub-clear c = search needs
 
-mul-rows-2 : tie.Need-mul-rows-2 Inv-loop μ-loop
-mul-rows-2 c = search needs
+part-rows-start : tie.Need-part-rows-start Inv-loop μ-loop
+part-rows-start c = search needs
 
-array-write-rows : tie.Need-array-write-rows Inv-loop μ-loop
-array-write-rows c = search needs
+part-rows-end : tie.Need-part-rows-end Inv-loop μ-loop
+part-rows-end c = search needs
 
-add-i : tie.Need-add-i Inv-loop μ-loop
-add-i c = search needs
+clear-requires : tie.Need-clear-requires Inv-loop μ-loop
+clear-requires c κs = search needs
 
 loop-less : tie.Need-loop-less Inv-loop μ-loop
 loop-less c = search needs
 
 loop-again : tie.Need-loop-again Inv-loop μ-loop
 loop-again c =
-    let basis = c .before .before .before .before .before .args .basis .now in
-    let l = c .before .before .loop in (
+    let l = c .before .before .before .before .before .loop in
+    let count = c .before .before .before .before .before .before .before .lesser .result in
+    let changed = c .before .clear .last .0 in (
       search needs,
       l .inv .1,
-      ap (λ (held : List ℕ). set held (l .i) (getD basis (l .i) 0)) (l .inv .2)
-          ∙ filled-next (padded gf64 64 (take 64 basis)) (replicate 64 0) (l .i) (getD basis (l .i) 0) (omega arith)
-          (length-padded gf64 64 (take 64 basis) (omega (arith, length-take 64 basis)))
-          (sym (getD-padded 64 (take 64 basis) (l .i) ∙ getD-take 64 basis (l .i) 0 (omega arith))),
+      same-len-mid (l .place + 1) (count - (l .place + 1)) (l .rows) changed
+          (ap length (c .before .clear .ensures) ∙ length-map (midOf (l .place + 1) (count - (l .place + 1)) (l .rows)) (cleared (getD (l .rows) (l .place) 0)))
+          ∙ l .inv .2,
+      row-next (l .rows) count (l .place) changed (omega arith) (omega arith) (c .before .before .before .if1 .left) (c .before .clear .ensures) ∙ l .inv .3,
     )
 
-array-borrow-prefix-rows : tie.Need-array-borrow-prefix-rows Inv-loop μ-loop
-array-borrow-prefix-rows c =
+returns-2 : tie.Need-returns-2 Inv-loop μ-loop
+returns-2 c =
     let l = c .before .loop in
-    omega (arith, length-copied (c .before .before .before .before .args .basis .now) (l .rows) (c .before .before .lesser .result) (l .i) (l .inv .1) (c .loop-test .left) (l .inv .2))
-
-slice-aggregate-first-dependent-of : tie.Need-slice-aggregate-first-dependent-of Inv-loop μ-loop
-slice-aggregate-first-dependent-of c =
-    let l = c .before .before .loop in
-    omega (arith, length-take (c .before .before .before .lesser .result) (l .rows), length-copied (c .before .before .before .before .before .args .basis .now) (l .rows) (c .before .before .before .lesser .result) (l .i) (l .inv .1) (c .before .loop-test .left) (l .inv .2))
-
-first-dependent-of-requires : tie.Need-first-dependent-of-requires Inv-loop μ-loop
-first-dependent-of-requires c κs = search needs
-
-returns : tie.Need-returns Inv-loop μ-loop
-returns c =
-    let l = c .before .before .before .before .loop in
-    c .before .first-dependent-of .ensures
-    ∙ ap firstDependent (take-copied (c .before .before .before .before .before .before .before .args .basis .now) (l .rows) (c .before .before .before .before .before .lesser .result) (l .i) (l .inv .1) (c .before .before .before .loop-test .left) (l .inv .2))
+    let count = c .before .before .before .lesser .result in
+    sym (rows-end (take count (l .rows)) (l .place) (omega (arith, length-take-le count (l .rows) (omega arith)))) ∙ l .inv .3
 
 pub first-among-64-spec : {M : Type 1} → statement M
 first-among-64-spec =
@@ -103,15 +111,17 @@ first-among-64-spec =
     Inv-loop
     μ-loop
     lesser-requires
+    first-64-requires
     loop-holds
+    mul-row
+    array-read-row
+    returns
+    add-place
     mul-rows
-    shared-slice-read-rows
-    mul-rows-2
-    array-write-rows
-    add-i
+    sub-clear
+    part-rows-start
+    part-rows-end
+    clear-requires
     loop-less
     loop-again
-    array-borrow-prefix-rows
-    slice-aggregate-first-dependent-of
-    first-dependent-of-requires
-    returns)
+    returns-2)

@@ -1,7 +1,9 @@
 -- `reed_solomon::interpolate` meets its contract: where all checks pass Newton's form is found and expanded, else nothing is written.
 -- Assumes nothing.
 use mathlib.Core.Path.{_≡_, sym, ap, _∙_}
+use Prim.Native.Nat.{_^_}
 use lib.ListN.{length}
+use lib.Dec.{eqb}
 use Rattle.poly.specs.Carrier.{gf64}
 use Rattle.poly.specs.Newton.{expanded}
 use Rattle.poly.proofs.Newton.{length-newtonCoefficients}
@@ -10,7 +12,7 @@ use Rattle.coset.proofs.Points.{length-points}
 use Rattle.refusal.specs.declared.Outcome.the-variants.{Done}
 use Rattle.reed_solomon.specs.Codes.{interpolated}
 use Rattle.reed_solomon.specs.Answers.{interpolateOutcome}
-use Rattle.reed_solomon.proofs.Checks.{interpolate-answer, interpolate-passed, done-both, refused-both}
+use Rattle.reed_solomon.proofs.Checks.{passed, answered-by-size, equal-of-test, done-both, refused-both}
 use Rattle.reed_solomon.proofs.Interpolating.{expanded-interpolated}
 use borrow.Author.Needs.{needs}
 use native.Mathlib.Omega.{arith}
@@ -30,18 +32,22 @@ fill-newton-requires : tie.Need-fill-newton-requires
 fill-newton-requires c κs =
     let done : c .before .before .before .checked .result ≡ Done = search needs in
     let a = c .before .before .before .before .before .before .before .before .args in
-    let outcome : interpolateOutcome (a .basis .now) (a .word .now) (a .coefficients .now) ≡ Done = interpolate-answer (a .basis .now) (a .word .now) (a .coefficients .now) (c .before .before .before .before .size-of .result) (c .before .before .before .checked .result) (c .before .before .before .before .size-of .ensures) (c .before .before .before .checked .ensures) ∙ done in
-    let all = interpolate-passed (a .basis .now) (a .word .now) (a .coefficients .now) outcome in
-    (all .small, all .whole, all .room)
+    let size = 2 ^ length (a .basis .now) in
+    let outcome : interpolateOutcome (a .basis .now) (a .word .now) (a .coefficients .now) ≡ Done = answered-by-size (a .basis .now) (eqb (length (a .word .now))) (eqb (length (a .coefficients .now))) (c .before .before .before .before .size-of .result) (c .before .before .before .checked .result) (c .before .before .before .before .size-of .ensures) (c .before .before .before .checked .ensures) ∙ done in
+    let all = passed (a .basis .now) (eqb (length (a .word .now)) size) (eqb (length (a .coefficients .now)) size) outcome in
+    let whole : length (a .word .now) ≡ size = equal-of-test (length (a .word .now)) size (all .list3) in
+    (all .small, whole, equal-of-test (length (a .coefficients .now)) size (all .list6))
 
 expand-requires : tie.Need-expand-requires
 expand-requires c κs =
     let done : c .before .before .before .before .before .before .before .checked .result ≡ Done = search needs in
     let a = c .before .before .before .before .before .before .before .before .before .before .before .before .args in
-    let outcome : interpolateOutcome (a .basis .now) (a .word .now) (a .coefficients .now) ≡ Done = interpolate-answer (a .basis .now) (a .word .now) (a .coefficients .now) (c .before .before .before .before .before .before .before .before .size-of .result) (c .before .before .before .before .before .before .before .checked .result) (c .before .before .before .before .before .before .before .before .size-of .ensures) (c .before .before .before .before .before .before .before .checked .ensures) ∙ done in
-    let all = interpolate-passed (a .basis .now) (a .word .now) (a .coefficients .now) outcome in
+    let size = 2 ^ length (a .basis .now) in
+    let outcome : interpolateOutcome (a .basis .now) (a .word .now) (a .coefficients .now) ≡ Done = answered-by-size (a .basis .now) (eqb (length (a .word .now))) (eqb (length (a .coefficients .now))) (c .before .before .before .before .before .before .before .before .size-of .result) (c .before .before .before .before .before .before .before .checked .result) (c .before .before .before .before .before .before .before .before .size-of .ensures) (c .before .before .before .before .before .before .before .checked .ensures) ∙ done in
+    let all = passed (a .basis .now) (eqb (length (a .word .now)) size) (eqb (length (a .coefficients .now)) size) outcome in
+    let whole : length (a .word .now) ≡ size = equal-of-test (length (a .word .now)) size (all .list3) in
     ap length (c .before .before .before .fill-newton .ensures)
-    ∙ length-newtonCoefficients gf64 (points (a .offset .0) (a .basis .now)) (a .word .now) (length-points (a .offset .0) (a .basis .now) ∙ sym (all .whole))
+    ∙ length-newtonCoefficients gf64 (points (a .offset .0) (a .basis .now)) (a .word .now) (length-points (a .offset .0) (a .basis .now) ∙ sym whole)
     ∙ length-points (a .offset .0) (a .basis .now)
 
 enum-known-outcome : tie.Need-enum-known-outcome
@@ -54,19 +60,20 @@ returns : tie.Need-returns
 returns c =
     let done : c .before .before .before .before .before .before .before .before .before .before .checked .result ≡ Done = search needs in
     let a = c .before .before .before .before .before .before .before .before .before .before .before .before .before .before .before .args in
-    let outcome : interpolateOutcome (a .basis .now) (a .word .now) (a .coefficients .now) ≡ Done = interpolate-answer (a .basis .now) (a .word .now) (a .coefficients .now) (c .before .before .before .before .before .before .before .before .before .before .before .size-of .result) (c .before .before .before .before .before .before .before .before .before .before .checked .result) (c .before .before .before .before .before .before .before .before .before .before .before .size-of .ensures) (c .before .before .before .before .before .before .before .before .before .before .checked .ensures) ∙ done in
-    let all = interpolate-passed (a .basis .now) (a .word .now) (a .coefficients .now) outcome in
-    done-both (interpolateOutcome (a .basis .now) (a .word .now) (a .coefficients .now)) (interpolated (a .offset .0) (a .basis .now) (a .word .now)) (a .coefficients .now) (c .before .before .expand .last .1 .1 .0)
-    outcome
+    let size = 2 ^ length (a .basis .now) in
+    let outcome : interpolateOutcome (a .basis .now) (a .word .now) (a .coefficients .now) ≡ Done = answered-by-size (a .basis .now) (eqb (length (a .word .now))) (eqb (length (a .coefficients .now))) (c .before .before .before .before .before .before .before .before .before .before .before .size-of .result) (c .before .before .before .before .before .before .before .before .before .before .checked .result) (c .before .before .before .before .before .before .before .before .before .before .before .size-of .ensures) (c .before .before .before .before .before .before .before .before .before .before .checked .ensures) ∙ done in
+    let all = passed (a .basis .now) (eqb (length (a .word .now)) size) (eqb (length (a .coefficients .now)) size) outcome in
+    let whole : length (a .word .now) ≡ size = equal-of-test (length (a .word .now)) size (all .list3) in
+    done-both (interpolateOutcome (a .basis .now) (a .word .now) (a .coefficients .now)) (interpolated (a .offset .0) (a .basis .now) (a .word .now)) (a .coefficients .now) (c .before .before .expand .last .1 .1 .0) outcome
     (c .before .before .expand .ensures ∙ ap (expanded gf64 (points (a .offset .0) (a .basis .now))) (c .before .before .before .before .before .before .fill-newton .ensures)
     ∙ expanded-interpolated (a .offset .0) (a .basis .now) (a .word .now) (search needs) (λ i. omega (arith, c .before .before .before .before .before .before .before .before .before .before .before .before .before .before .shared-slice-known .given i)) (λ i. omega (arith, c .before .before .before .before .before .before .before .before .before .before .before .before .before .shared-slice-known2 .given i))
-    (all .independent) (all .whole))
+    (all .independent) whole)
 
 returns-2 : tie.Need-returns-2
 returns-2 c =
     let a = c .before .before .before .before .before .before .before .before .args in
     refused-both (interpolateOutcome (a .basis .now) (a .word .now) (a .coefficients .now)) (c .before .outcome .given .0 .0) (interpolated (a .offset .0) (a .basis .now) (a .word .now)) (a .coefficients .now)
-    (interpolate-answer (a .basis .now) (a .word .now) (a .coefficients .now) (c .before .before .before .before .size-of .result) (c .before .before .before .checked .result) (c .before .before .before .before .size-of .ensures) (c .before .before .before .checked .ensures) ∙ c .before .outcome .given .1)
+    (answered-by-size (a .basis .now) (eqb (length (a .word .now))) (eqb (length (a .coefficients .now))) (c .before .before .before .before .size-of .result) (c .before .before .before .checked .result) (c .before .before .before .before .size-of .ensures) (c .before .before .before .checked .ensures) ∙ c .before .outcome .given .1)
 
 pub interpolate-spec : {M : Type 1} → statement M
 interpolate-spec =
