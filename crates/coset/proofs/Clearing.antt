@@ -38,7 +38,7 @@ xor-of-equal : (a b : ℕ) → a ≡ b → bitXor a b ≡ 0
 xor-of-equal a b e = ap (λ (s : ℕ). bitXor s b) e ∙ xor-self b
 
 -- the test whether v is zero, where v is zero exactly when a is 0 or b
-zero-test : (a b v : ℕ) → (v ≡ 0 → (a ≡ 0) ⊎ (a ≡ b)) → (a ≡ 0 → v ≡ 0) → (a ≡ b → v ≡ 0)
+pub zero-test : (a b v : ℕ) → (v ≡ 0 → (a ≡ 0) ⊎ (a ≡ b)) → (a ≡ 0 → v ≡ 0) → (a ≡ b → v ≡ 0)
     → eqb v 0 ≡ (eqb a 0 || eqb (bitXor a b) 0)
 zero-test a b zero k z s =
     ⊎-elim
@@ -106,8 +106,8 @@ cleared-additive b nz = cleared-additive-at b (highest b nz .0) (highest b nz .1
 pub cleared-self : (b : ℕ) → b ≢ 0 → cleared b b ≡ 0
 cleared-self b nz = cleared-self-at b (highest b nz .0) (highest b nz .1)
 
-pub cleared-kernel : (b : ℕ) → b ≢ 0 → Kernel (cleared b) b
-cleared-kernel b nz a = zero-test a b (cleared b a) in-kernel zero-cleared self-cleared
+pub cleared-kernel : (b : ℕ) → b ≢ 0 → Kernel (λ a. record {}) (cleared b) b
+cleared-kernel b nz a any = zero-test a b (cleared b a) in-kernel zero-cleared self-cleared
   where
     p : ℕ
     p = highest b nz .0

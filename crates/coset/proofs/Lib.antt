@@ -4,6 +4,8 @@ pub mod Points
 pub mod Sequence
 pub mod Dependence
 pub mod Dimension
+pub mod Steps
+pub mod Subspace
 pub mod Theorems
 mod FirstPlace
 mod IndexBits

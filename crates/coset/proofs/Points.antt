@@ -14,6 +14,7 @@ use Rattle.gf64.proofs.Xor.{xor-cancel, by-bit, halves-eq}
 use Rattle.gf64.proofs.Additive.{Additive, additive-zero}
 use Rattle.refusal.specs.declared.Position.the-variants.{At, Absent}
 use Rattle.poly.specs.Polynomial.{All, Distinct}
+use Rattle.poly.proofs.Entries.{all-of}
 use Rattle.coset.specs.Coset.{point, tabulated, points}
 use Rattle.coset.specs.Span.{inSpan, firstDependentAfter, firstDependent, Independent}
 use Rattle.coset.specs.Elimination.{cleared}
@@ -44,27 +45,30 @@ pub first-taken : (b : ℕ) (basis : List ℕ) (place : ℕ) → b ≢ 0
 unfolding firstDependentAfter inSpan
 first-taken b basis place nz =
     ap (λ (t : Bool). cond t (At place) (firstDependentAfter (b ∷ []) basis (suc place))) (ne-eqb b 0 nz)
-    ∙ first-image (cleared b) b (cleared-additive b nz) (cleared-kernel b nz) [] basis (suc place)
+    ∙ first-image (λ a. record {}) (λ a c pa pc. record {}) (cleared b) b (cleared-additive b nz) (cleared-kernel b nz) [] basis (suc place)
+    (record {}) (all-of (λ a. record {}) (λ a. record {}) basis)
 
 pub first-zero : (b : ℕ) (basis : List ℕ) (place : ℕ) → b ≡ 0 → firstDependentAfter [] (b ∷ basis) place ≡ At place
 unfolding firstDependentAfter inSpan
 first-zero b basis place z =
     ap (λ (t : Bool). cond t (At place) (firstDependentAfter (b ∷ []) basis (suc place))) (eq-eqb b 0 z)
 
-first-not-zero : (b : ℕ) (basis : List ℕ) (place : ℕ) → firstDependentAfter [] (b ∷ basis) place ≡ Absent → b ≢ 0
+pub first-not-zero : (b : ℕ) (basis : List ℕ) (place : ℕ) → firstDependentAfter [] (b ∷ basis) place ≡ Absent → b ≢ 0
 first-not-zero b basis place e z = at-not-absent place (sym (first-zero b basis place z) ∙ e)
 
 -- ---- distinctness
 
--- the image of a point under the map that clears the first element is a point over the others
+-- the image of a point under a map that sends the first element to zero is a point over the images of the others
+pub point-halved : (f : ℕ → ℕ) → Additive f → (b : ℕ) → f b ≡ 0 → (offset : ℕ) (basis : List ℕ) (j : ℕ)
+    → f (point offset (b ∷ basis) j) ≡ point (f offset) (map f basis) (j / 2)
+unfolding point
+point-halved f additive b z offset basis j =
+    additive (j % 2 * b) (point offset basis (j / 2))
+    ∙ ap₂ bitXor (bit-image f additive j b ∙ ap (λ (s : ℕ). j % 2 * s) z ∙ mul-zero (j % 2)) (point-image f additive offset basis (j / 2))
+
 point-cleared : (b : ℕ) → b ≢ 0 → (offset : ℕ) (basis : List ℕ) (j : ℕ)
     → cleared b (point offset (b ∷ basis) j) ≡ point (cleared b offset) (map (cleared b) basis) (j / 2)
-unfolding point
-point-cleared b nz offset basis j =
-    cleared-additive b nz (j % 2 * b) (point offset basis (j / 2))
-    ∙ ap₂ bitXor
-    (bit-image (cleared b) (cleared-additive b nz) j b ∙ ap (λ (s : ℕ). j % 2 * s) (cleared-self b nz) ∙ mul-zero (j % 2))
-    (point-image (cleared b) (cleared-additive b nz) offset basis (j / 2))
+point-cleared b nz = point-halved (cleared b) (cleared-additive b nz) b (cleared-self b nz)
 
 multiple-injective : (b i j : ℕ) → b ≢ 0 → i < 2 → j < 2 → i * b ≡ j * b → i ≡ j
 multiple-injective b zero zero nz hi hj e = refl
@@ -121,7 +125,7 @@ getD-tabulated f start (suc count) zero h = ap f (sym (add-zero start))
 getD-tabulated f start (suc count) (suc j) h =
     getD-tabulated f (suc start) count j (omega arith) ∙ ap f (suc-add start j ∙ sym (add-suc start j))
 
-all-tabulated : (P : ℕ → Type 0) (f : ℕ → ℕ) (start count : ℕ) → ((j : ℕ) → start ≤ j → j < start + count → P (f j)) → All P (tabulated f start count)
+pub all-tabulated : (P : ℕ → Type 0) (f : ℕ → ℕ) (start count : ℕ) → ((j : ℕ) → start ≤ j → j < start + count → P (f j)) → All P (tabulated f start count)
 unfolding tabulated
 all-tabulated P f start zero h = record {}
 all-tabulated P f start (suc count) h =

@@ -1,11 +1,13 @@
 -- The statements of specs/Theorems.antt, proved. Assumes nothing.
 use mathlib.Core.Path.{_∙_, sym, ap}
 use Rattle.coset.specs.Span.{inSpan}
-use Rattle.coset.specs.Theorems.{Cosets, FirstDependent}
+use Rattle.coset.specs.Theorems.{Cosets, FirstDependent, Subspaces, NextCosets}
 use Rattle.coset.proofs.Points.{length-points, getD-points, points-distinct}
 use Rattle.coset.proofs.Sequence.{point-next}
 use Rattle.coset.proofs.Dimension.{independent-short}
 use Rattle.coset.proofs.Dependence.{point-shifted, reached-of-span, span-of-point, first-found, first-before, none-dependent}
+use Rattle.coset.proofs.Steps.{image-through}
+use Rattle.coset.proofs.Subspace.{subspace-degree, image-additive, image-zero, length-nextBasis, next-independent, image-of-coset, image-only}
 
 pub cosets : Cosets
 cosets =
@@ -20,3 +22,9 @@ cosets =
 
 pub first-dependent : FirstDependent
 first-dependent = record { found = first-found; first = first-before; none = none-dependent; short = independent-short }
+
+pub subspaces : Subspaces
+subspaces = record { monic = subspace-degree; additive = image-additive; zero = image-zero; composition = image-through }
+
+pub next-cosets : NextCosets
+next-cosets = record { count = length-nextBasis; independent = next-independent; points = image-of-coset; only = image-only }

@@ -2,4 +2,6 @@ pub mod Coset
 pub mod Span
 pub mod Elimination
 pub mod Sequence
+pub mod Subspace
+pub mod Steps
 pub mod Theorems

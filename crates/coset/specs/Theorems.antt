@@ -3,7 +3,7 @@ use mathlib.Core.Path.{_≡_}
 use mathlib.Core.Logic.{_↔_}
 use mathlib.Core.Bool.{true, false}
 use mathlib.Core.List.{List}
-use Prim.Native.Nat.{ℕ, suc, _^_, _≤_, _<_}
+use Prim.Native.Nat.{ℕ, suc, _+_, _*_, _-_, _/_, _^_, _≤_, _<_}
 use lib.Count.{trailingZeros}
 use lib.ListN.{length, getD, take}
 use Rattle.refusal.specs.declared.Position.the-variants.{At}
@@ -12,6 +12,8 @@ use Rattle.poly.specs.Polynomial.{All, Distinct}
 use Rattle.coset.specs.Coset.{point, points}
 use Rattle.coset.specs.Sequence.{prefixSums}
 use Rattle.coset.specs.Span.{inSpan, firstDependent, Independent}
+use Rattle.coset.specs.Subspace.{subspacePolynomial, image, nextOffset, nextBasis}
+use Rattle.coset.specs.Steps.{through, stepElements}
 
 pub record Cosets : Type 0 where
   -- the span is the coset with offset 0
@@ -36,3 +38,30 @@ pub record FirstDependent : Type 0 where
   pub none : (basis : List ℕ) (t : ℕ) → Independent basis → t < length basis → inSpan (take t basis) (getD basis t 0) ≡ false
   -- and at most 64 elements
   pub short : (basis : List ℕ) → All IsElement basis → Independent basis → length basis ≤ 64
+
+-- the subspace polynomial q of a step
+pub record Subspaces : Type 0 where
+  -- it is monic, of degree 2^step
+  pub monic : (step : ℕ) (basis : List ℕ) → step ≤ length basis
+      → (length (subspacePolynomial step basis) ≡ 2 ^ step + 1) × (getD (subspacePolynomial step basis) (2 ^ step) 0 ≡ 1)
+  -- additive
+  pub additive : (step : ℕ) (basis : List ℕ) (a b : ℕ) → IsElement a → IsElement b
+      → image step basis (sum a b) ≡ sum (image step basis a) (image step basis b)
+  -- zero exactly on the span that it was built from
+  pub zero : (step : ℕ) (basis : List ℕ) (x : ℕ) → All IsElement basis → IsElement x
+      → (image step basis x ≡ 0) ↔ (inSpan (take step basis) x ≡ true)
+  -- the composition of the maps X · (X - e)
+  pub composition : (step : ℕ) (basis : List ℕ) (x : ℕ) → IsElement x → image step basis x ≡ through (stepElements step basis) x
+
+-- the next coset
+pub record NextCosets : Type 0 where
+  pub count : (step : ℕ) (basis : List ℕ) → length (nextBasis step basis) ≡ length basis - step
+  -- its basis is independent where the basis is
+  pub independent : (step : ℕ) (basis : List ℕ) → All IsElement basis → Independent basis → Independent (nextBasis step basis)
+  -- its point j is the image of the old points from j · 2^step on, 2^step of them
+  pub points : (step offset : ℕ) (basis : List ℕ) (j i : ℕ) → IsElement offset → All IsElement basis → i < 2 ^ step
+      → image step basis (point offset basis (j * 2 ^ step + i)) ≡ point (nextOffset step offset basis) (nextBasis step basis) j
+  -- and of no other
+  pub only : (step offset : ℕ) (basis : List ℕ) (i j : ℕ) → IsElement offset → All IsElement basis → Independent basis
+      → step ≤ length basis → i < 2 ^ length basis → j < 2 ^ (length basis - step)
+      → image step basis (point offset basis i) ≡ point (nextOffset step offset basis) (nextBasis step basis) j → i / 2 ^ step ≡ j

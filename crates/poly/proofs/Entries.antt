@@ -1,6 +1,6 @@
--- What holds of every entry of a list holds of its parts, and conversely; the entries of a repeated value. Assumes nothing.
-use mathlib.Core.Path.{_≡_, refl}
-use mathlib.Core.List.{List, [], _∷_, _++_}
+-- What holds of every entry of a list holds of its parts, and conversely; images of lists; the entries of a repeated value. Assumes nothing.
+use mathlib.Core.Path.{_≡_, refl, ap, ap₂}
+use mathlib.Core.List.{List, [], _∷_, _++_, map}
 use Prim.Native.Nat.{ℕ, zero, suc}
 use lib.ListN.{take, drop, getD, replicate}
 use Rattle.poly.specs.Polynomial.{All}
@@ -23,6 +23,30 @@ module _ {A : Type 0} (P : A → Type 0) where
   pub all-replicate : (n : ℕ) (a : A) → P a → All P (replicate n a)
   all-replicate zero a h = record {}
   all-replicate (suc n) a h = (h, all-replicate n a h)
+
+  pub all-of : ((a : A) → P a) → (xs : List A) → All P xs
+  all-of h [] = record {}
+  all-of h (x ∷ xs) = (h x, all-of h xs)
+
+-- from one predicate to another
+pub all-map : {A B : Type 0} (P : A → Type 0) (Q : B → Type 0) (f : A → B) → ((a : A) → P a → Q (f a)) → (xs : List A) → All P xs → All Q (map f xs)
+all-map P Q f h [] a = record {}
+all-map P Q f h (x ∷ xs) a = (h x (a .0), all-map P Q f h xs (a .1))
+
+-- two maps that agree on every entry
+pub map-agree : {A B : Type 0} (f g : A → B) (xs : List A) → All (λ x. f x ≡ g x) xs → map f xs ≡ map g xs
+map-agree f g [] h = refl
+map-agree {A = A} {B = B} f g (x ∷ xs) h = ap₂ (λ (b : B) (l : List B). b ∷ l) (h .0) (map-agree f g xs (h .1))
+
+pub map-take : {A B : Type 0} (f : A → B) (n : ℕ) (xs : List A) → map f (take n xs) ≡ take n (map f xs)
+map-take f zero xs = refl
+map-take f (suc n) [] = refl
+map-take {A = A} {B = B} f (suc n) (x ∷ xs) = ap {B = List B} (λ l. f x ∷ l) (map-take f n xs)
+
+pub map-drop : {A B : Type 0} (f : A → B) (n : ℕ) (xs : List A) → map f (drop n xs) ≡ drop n (map f xs)
+map-drop f zero xs = refl
+map-drop f (suc n) [] = refl
+map-drop f (suc n) (x ∷ xs) = map-drop f n xs
 
 pub getD-replicated : {A : Type 0} (n i : ℕ) (a : A) → getD (replicate n a) i a ≡ a
 getD-replicated zero i a = refl

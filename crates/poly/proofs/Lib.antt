@@ -7,6 +7,8 @@ pub mod Division
 pub mod Rows
 pub mod Newton
 pub mod Identity
+pub mod Vanishing
+pub mod Combined
 pub mod Theorems
 pub mod AtField
 pub mod Filling

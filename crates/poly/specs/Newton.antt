@@ -9,7 +9,7 @@ newtonValue F [] cs z = F .zero
 newtonValue F (x ∷ points) [] z = F .zero
 newtonValue F (x ∷ points) (c ∷ cs) z = F .sum c (F .product (F .sum z x) (newtonValue F points cs z))
 
--- the value at z of the polynomial that vanishes at the points: the product of the differences of z and each
+-- the value at z of `vanishingPolynomial`: the product of the differences of z and each point
 unfoldable pub vanishing : {A : Type 0} → Operations A → List A → A → A
 vanishing F [] z = F .one
 vanishing F (x ∷ points) z = F .product (F .sum z x) (vanishing F points z)

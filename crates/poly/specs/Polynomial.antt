@@ -59,3 +59,8 @@ unfoldable pub interpolant : {A : Type 0} → Operations A → List A → List A
 interpolant F [] values = []
 interpolant F (x ∷ points) [] = []
 interpolant F (x ∷ points) (y ∷ values) = timesLinear F y x (interpolant F points (dividedDifferences F x y points values))
+
+-- the product of X - a over the list
+unfoldable pub vanishingPolynomial : {A : Type 0} → Operations A → List A → List A
+vanishingPolynomial F [] = F .one ∷ []
+vanishingPolynomial F (a ∷ roots) = timesLinear F (F .zero) a (vanishingPolynomial F roots)

@@ -1,0 +1,24 @@
+-- q as a composition of maps X · (X - e): `Theorems.antt` has the law, `Subspaces.composition`.
+use mathlib.Core.List.{List, [], _∷_, map}
+use Prim.Native.Nat.{ℕ, zero, suc}
+use Rattle.gf64.specs.Field.{sum, product}
+
+-- x · (x - e), which sends 0 and e to zero
+unfoldable pub oneStep : ℕ → ℕ → ℕ
+oneStep e x = product x (sum x e)
+
+-- one map after the other
+unfoldable pub through : List ℕ → ℕ → ℕ
+through [] x = x
+through (e ∷ elements) x = through elements (oneStep e x)
+
+-- the element of each map: the first of the basis, then the first of the others' images, and so on
+unfoldable pub stepElements : ℕ → List ℕ → List ℕ
+stepElements zero basis = []
+stepElements (suc n) [] = []
+stepElements (suc n) (b ∷ basis) = b ∷ stepElements n (map (oneStep b) basis)
+
+-- x before each of the maps
+unfoldable pub before : List ℕ → ℕ → List ℕ
+before [] x = []
+before (e ∷ elements) x = x ∷ before elements (oneStep e x)

@@ -1,0 +1,23 @@
+-- The subspace polynomial q of a step, and the next coset, which it sends a coset to.
+use mathlib.Core.List.{List, map}
+use Prim.Native.Nat.{ℕ}
+use lib.ListN.{take, drop}
+use Rattle.poly.specs.Carrier.{gf64}
+use Rattle.poly.specs.Polynomial.{evaluate, vanishingPolynomial}
+use Rattle.coset.specs.Coset.{points}
+
+-- q: the product of X - a over the span of the basis elements before place `step`; `Cosets.span` says that these points are the span
+unfoldable pub subspacePolynomial : ℕ → List ℕ → List ℕ
+subspacePolynomial step basis = vanishingPolynomial gf64 (points 0 (take step basis))
+
+-- q(x)
+unfoldable pub image : ℕ → List ℕ → ℕ → ℕ
+image step basis x = evaluate gf64 (subspacePolynomial step basis) x
+
+-- the next coset's offset: q(h)
+unfoldable pub nextOffset : ℕ → ℕ → List ℕ → ℕ
+nextOffset step offset basis = image step basis offset
+
+-- the next coset's basis: q of the basis elements from place `step` on
+unfoldable pub nextBasis : ℕ → List ℕ → List ℕ
+nextBasis step basis = map (image step basis) (drop step basis)
