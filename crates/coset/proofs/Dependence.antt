@@ -14,6 +14,7 @@ use Rattle.refusal.specs.declared.Position.the-variants.{At, Absent}
 use Rattle.coset.specs.Coset.{point}
 use Rattle.coset.specs.Span.{inSpan, firstDependentAfter, firstDependent, Independent}
 use Rattle.coset.proofs.Span.{at-not-absent}
+use Rattle.coset.proofs.Points.{point-even, point-odd}
 
 -- ---- the span
 
@@ -37,32 +38,14 @@ or-cases true t P f g e = f refl
 or-cases false t P f g e = g e
 
 without-first : (b : ℕ) (elements : List ℕ) (a : ℕ) → Reached elements a → Reached (b ∷ elements) a
-unfolding point
-without-first b elements a r = (
-  r .0 * 2,
-  omega (arith, r .1, pow-suc 2 (length elements)),
-  ap₂ (λ (d m : ℕ). bitXor (d * b) (point 0 elements m)) (lowest (r .0)) (half (r .0)) ∙ ap (λ (s : ℕ). bitXor s (point 0 elements (r .0))) (zero-mul b) ∙ r .2,
-)
-  where
-    lowest : (j : ℕ) → j * 2 % 2 ≡ 0
-    lowest j = omega arith
-
-    half : (j : ℕ) → j * 2 / 2 ≡ j
-    half j = omega arith
+without-first b elements a r = (r .0 * 2, omega (arith, r .1, pow-suc 2 (length elements)), point-even 0 b elements (r .0) ∙ r .2)
 
 with-first : (b : ℕ) (elements : List ℕ) (a : ℕ) → Reached elements (bitXor a b) → Reached (b ∷ elements) a
-unfolding point
 with-first b elements a r = (
-  r .0 * 2 + 1,
+  suc (r .0 * 2),
   omega (arith, r .1, pow-suc 2 (length elements)),
-  ap₂ (λ (d m : ℕ). bitXor (d * b) (point 0 elements m)) (lowest (r .0)) (half (r .0)) ∙ ap₂ bitXor (one-mul b) (r .2 ∙ xor-comm a b) ∙ xor-cancel b a,
+  point-odd 0 b elements (r .0) ∙ ap (bitXor b) (r .2 ∙ xor-comm a b) ∙ xor-cancel b a,
 )
-  where
-    lowest : (j : ℕ) → (j * 2 + 1) % 2 ≡ 1
-    lowest j = omega arith
-
-    half : (j : ℕ) → (j * 2 + 1) / 2 ≡ j
-    half j = omega arith
 
 pub reached-of-span : (elements : List ℕ) (a : ℕ) → inSpan elements a ≡ true → Reached elements a
 unfolding inSpan point

@@ -97,6 +97,13 @@ pub found-in-prefix : (n : ℕ) (basis : List ℕ) (i : ℕ) → firstDependent 
 unfolding firstDependent
 found-in-prefix n basis i e = prefix-found n [] basis 0 i e
 
+pub independent-prefix : (n : ℕ) (basis : List ℕ) → Independent basis → Independent (take n basis)
+independent-prefix n basis d = by (firstDependent (take n basis)) refl
+  where
+    by : (q : Position) → firstDependent (take n basis) ≡ q → firstDependent (take n basis) ≡ Absent
+    by Absent f = f
+    by (At i) f = absurd (at-not-absent i (sym (found-in-prefix n basis i f) ∙ d))
+
 -- a place of a prefix is the same place of the list
 same-test : (n : ℕ) (basis : List ℕ) (t : ℕ) → t < n → inSpan (take t (take n basis)) (getD (take n basis) t 0) ≡ inSpan (take t basis) (getD basis t 0)
 same-test n basis t h = ap₂ inSpan (take-take t n basis (le-of-lt h)) (getD-take n basis t 0 h)

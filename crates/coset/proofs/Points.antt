@@ -4,9 +4,10 @@ use mathlib.Core.Logic.{_≢_}
 use mathlib.Core.Bool.{Bool, cond}
 use mathlib.Core.List.{List, [], _∷_, map}
 use Prim.Native.Nat.{ℕ, zero, suc, _+_, _*_, _/_, _%_, _^_, _<_, _≤_}
-use native.Mathlib.Nat.{zero-mul, one-mul, mul-zero, add-zero, zero-add, add-suc, suc-add}
+use native.Mathlib.Nat.{zero-mul, one-mul, mul-zero, mul-assoc, pow-suc, add-zero, zero-add, add-suc, suc-add}
 use native.Mathlib.Omega.{arith}
-use lib.ListN.{length, getD, length-map}
+use lib.ListN.{length, getD, take, drop, length-map, length-drop}
+use lib.Seq.{ext-getD, getD-take, getD-drop, length-take-le}
 use lib.Bits.{bitXor, xor-comm, xor-lt}
 use borrow.Author.Tests.{eq-eqb, ne-eqb}
 use Rattle.gf64.specs.Field.{IsElement}
@@ -39,6 +40,29 @@ point-image f additive offset (b ∷ basis) j =
 
 -- ---- one element of the basis at a time
 
+-- points 2 j and 2 j + 1 over a basis with one element more
+pub point-even : (offset b : ℕ) (basis : List ℕ) (j : ℕ) → point offset (b ∷ basis) (j * 2) ≡ point offset basis j
+unfolding point
+point-even offset b basis j =
+    ap₂ (λ (r m : ℕ). bitXor (r * b) (point offset basis m)) lowest half ∙ ap (λ (s : ℕ). bitXor s (point offset basis j)) (zero-mul b)
+  where
+    lowest : j * 2 % 2 ≡ 0
+    lowest = omega arith
+
+    half : j * 2 / 2 ≡ j
+    half = omega arith
+
+pub point-odd : (offset b : ℕ) (basis : List ℕ) (j : ℕ) → point offset (b ∷ basis) (suc (j * 2)) ≡ bitXor b (point offset basis j)
+unfolding point
+point-odd offset b basis j =
+    ap₂ (λ (r m : ℕ). bitXor (r * b) (point offset basis m)) lowest half ∙ ap (λ (s : ℕ). bitXor s (point offset basis j)) (one-mul b)
+  where
+    lowest : suc (j * 2) % 2 ≡ 1
+    lowest = omega arith
+
+    half : suc (j * 2) / 2 ≡ j
+    half = omega arith
+
 -- the first element is not zero, and the others are independent once it is taken out of them
 pub first-taken : (b : ℕ) (basis : List ℕ) (place : ℕ) → b ≢ 0
     → firstDependentAfter [] (b ∷ basis) place ≡ firstDependentAfter [] (map (cleared b) basis) (suc place)
@@ -55,6 +79,25 @@ first-zero b basis place z =
 
 pub first-not-zero : (b : ℕ) (basis : List ℕ) (place : ℕ) → firstDependentAfter [] (b ∷ basis) place ≡ Absent → b ≢ 0
 first-not-zero b basis place e z = at-not-absent place (sym (first-zero b basis place z) ∙ e)
+
+-- the first elements of the basis go by the lower bits of the index, the others by the upper ones
+pub point-parted : (n offset : ℕ) (basis : List ℕ) (j i : ℕ) → i < 2 ^ n → n ≤ length basis
+    → point offset basis (j * 2 ^ n + i) ≡ point (point offset (drop n basis) j) (take n basis) i
+unfolding point
+point-parted zero offset basis j i h l = ap (point offset basis) (omega arith)
+point-parted (suc n) offset [] j i h l = absurd (omega arith)
+point-parted (suc n) offset (b ∷ basis) j i h l =
+    ap₂ (λ (r m : ℕ). bitXor (r * b) (point offset basis m)) lowest half
+    ∙ ap (bitXor (i % 2 * b)) (point-parted n offset basis j (i / 2) (omega (arith, pow-suc 2 n)) (omega arith))
+  where
+    doubled : j * 2 ^ suc n ≡ j * 2 ^ n * 2
+    doubled = ap (λ (m : ℕ). j * m) (pow-suc 2 n) ∙ sym (mul-assoc j (2 ^ n) 2)
+
+    lowest : (j * 2 ^ suc n + i) % 2 ≡ i % 2
+    lowest = omega (arith, doubled)
+
+    half : (j * 2 ^ suc n + i) / 2 ≡ j * 2 ^ n + i / 2
+    half = omega (arith, doubled)
 
 -- ---- distinctness
 
@@ -131,7 +174,7 @@ all-tabulated P f start zero h = record {}
 all-tabulated P f start (suc count) h =
     (h start (omega arith) (omega arith), all-tabulated P f (suc start) count (λ j l u. h j (omega arith) (omega arith)))
 
-distinct-tabulated : (f : ℕ → ℕ) (start count : ℕ)
+pub distinct-tabulated : (f : ℕ → ℕ) (start count : ℕ)
     → ((i j : ℕ) → i < start + count → j < start + count → f i ≡ f j → i ≡ j) → Distinct (tabulated f start count)
 unfolding tabulated
 distinct-tabulated f start zero h = record {}
@@ -142,6 +185,38 @@ distinct-tabulated f start (suc count) h = (
   where
     later-differs : (j : ℕ) → suc start ≤ j → j ≡ start → ⊥
     later-differs j l e = omega arith
+
+-- tables of functions that agree
+pub tabulated-agree : (f g : ℕ → ℕ) (start count : ℕ) → ((j : ℕ) → start ≤ j → j < start + count → f j ≡ g j) → tabulated f start count ≡ tabulated g start count
+unfolding tabulated
+tabulated-agree f g start zero h = refl
+tabulated-agree f g start (suc count) h =
+    ap₂ (λ (a : ℕ) (l : List ℕ). a ∷ l) (h start (omega arith) (omega arith))
+    (tabulated-agree f g (suc start) count (λ j l u. h j (omega arith) (omega arith)))
+
+pub map-tabulated : (g f : ℕ → ℕ) (start count : ℕ) → map g (tabulated f start count) ≡ tabulated (λ j. g (f j)) start count
+unfolding tabulated
+map-tabulated g f start zero = refl
+map-tabulated g f start (suc count) = ap {B = List ℕ} (λ l. g (f start) ∷ l) (map-tabulated g f (suc start) count)
+
+-- a part of a table is a table
+pub tabulated-part : (f : ℕ → ℕ) (from count whole : ℕ) → from + count ≤ whole
+    → take count (drop from (tabulated f 0 whole)) ≡ tabulated f from count
+tabulated-part f from count whole h =
+    ext-getD 0 (take count (drop from (tabulated f 0 whole))) (tabulated f from count)
+    (length-part ∙ sym (length-tabulated f from count)) entry
+  where
+    length-part : length (take count (drop from (tabulated f 0 whole))) ≡ count
+    length-part = length-take-le count (drop from (tabulated f 0 whole)) (omega (arith, length-drop from (tabulated f 0 whole), length-tabulated f 0 whole))
+
+    entry : (i : ℕ) → i < length (take count (drop from (tabulated f 0 whole)))
+        → getD (take count (drop from (tabulated f 0 whole))) i 0 ≡ getD (tabulated f from count) i 0
+    entry i l =
+        let inside : i < count = omega (arith, length-part) in
+        getD-take count (drop from (tabulated f 0 whole)) i 0 inside
+        ∙ getD-drop from (tabulated f 0 whole) i 0
+        ∙ getD-tabulated f 0 whole (from + i) (omega arith) ∙ ap f (zero-add (from + i))
+        ∙ sym (getD-tabulated f from count i inside)
 
 pub length-points : (offset : ℕ) (basis : List ℕ) → length (points offset basis) ≡ 2 ^ length basis
 unfolding points

@@ -33,7 +33,7 @@ use Rattle.coset.specs.Subspace.{subspacePolynomial, image, nextOffset, 
 use Rattle.coset.specs.Steps.{oneStep, through, stepElements, before}
 use Rattle.coset.proofs.Span.{Kernel, span-image, first-image, at-not-absent}
 use Rattle.coset.proofs.Clearing.{zero-test}
-use Rattle.coset.proofs.Points.{point-image, point-halved, first-not-zero}
+use Rattle.coset.proofs.Points.{point-image, point-even, point-odd, point-halved, first-not-zero}
 
 -- ---- one map
 
@@ -144,29 +144,6 @@ vanishing-pairs g h x z start (suc count) pair =
     pair start (vanishing gf64 (tabulated g (twice (suc start)) (twice count)) x)
     ∙ ap (product (bitXor z (h start))) (vanishing-pairs g h x z (suc start) count pair)
 
--- points 2 j and 2 j + 1 over a basis with one element more
-point-even : (offset b : ℕ) (basis : List ℕ) (j : ℕ) → point offset (b ∷ basis) (twice j) ≡ point offset basis j
-unfolding point
-point-even offset b basis j =
-    ap₂ (λ (r m : ℕ). bitXor (r * b) (point offset basis m)) lowest half ∙ ap (λ (s : ℕ). bitXor s (point offset basis j)) (zero-mul b)
-  where
-    lowest : twice j % 2 ≡ 0
-    lowest = omega (arith, twice-is j)
-
-    half : twice j / 2 ≡ j
-    half = omega (arith, twice-is j)
-
-point-odd : (offset b : ℕ) (basis : List ℕ) (j : ℕ) → point offset (b ∷ basis) (suc (twice j)) ≡ bitXor b (point offset basis j)
-unfolding point
-point-odd offset b basis j =
-    ap₂ (λ (r m : ℕ). bitXor (r * b) (point offset basis m)) lowest half ∙ ap (λ (s : ℕ). bitXor s (point offset basis j)) (one-mul b)
-  where
-    lowest : suc (twice j) % 2 ≡ 1
-    lowest = omega (arith, twice-is j)
-
-    half : suc (twice j) / 2 ≡ j
-    half = omega (arith, twice-is j)
-
 -- (x + p) · (x + p + b) = f(x) + f(p) for f the map of b
 pair-step : (b x p : ℕ) → product (bitXor x p) (bitXor x (bitXor b p)) ≡ bitXor (oneStep b x) (oneStep b p)
 unfolding oneStep
@@ -192,7 +169,8 @@ vanishing-step b basis x =
     pair : (j v : ℕ) → product (bitXor x (point 0 (b ∷ basis) (twice j))) (product (bitXor x (point 0 (b ∷ basis) (suc (twice j)))) v)
         ≡ product (bitXor (oneStep b x) (point 0 (map (oneStep b) basis) j)) v
     pair j v =
-        ap₂ (λ (s t : ℕ). product (bitXor x s) (product (bitXor x t) v)) (point-even 0 b basis j) (point-odd 0 b basis j)
+        ap₂ (λ (s t : ℕ). product (bitXor x s) (product (bitXor x t) v))
+        (ap (point 0 (b ∷ basis)) (twice-is j) ∙ point-even 0 b basis j) (ap (λ (n : ℕ). point 0 (b ∷ basis) (suc n)) (twice-is j) ∙ point-odd 0 b basis j)
         ∙ sym (product-assoc (bitXor x (point 0 basis j)) (bitXor x (bitXor b (point 0 basis j))) v)
         ∙ ap (λ (s : ℕ). product s v) (pair-step b x (point 0 basis j) ∙ ap (bitXor (oneStep b x)) (image-of j))
 

@@ -9,7 +9,7 @@ use native.Mathlib.Omega.{arith}
 use lib.Pow.{pow-pos, pow-add, high}
 use lib.Dec.{T, eqb, eqb→eq}
 use lib.ListN.{length, getD, take, drop, length-map, length-drop, length-append}
-use lib.Seq.{length-take-le, getD-at}
+use lib.Seq.{length-take-le, getD-at, take-at}
 use borrow.Author.Tests.{eq-eqb}
 use Rattle.gf64.specs.Field.{IsElement, sum}
 use Rattle.poly.specs.Carrier.{gf64}
@@ -20,7 +20,7 @@ use Rattle.poly.proofs.Entries.{all-map, all-drop, all-take}
 use Rattle.poly.proofs.Vanishing.{lower, length-lower, lower-elements, vanishing-monic}
 use Rattle.coset.specs.Coset.{point, points}
 use Rattle.coset.specs.Span.{inSpan, Independent}
-use Rattle.coset.specs.Subspace.{subspacePolynomial, image, nextOffset, nextBasis}
+use Rattle.coset.specs.Subspace.{subspacePolynomial, lowerCoefficients, image, nextOffset, nextBasis}
 use Rattle.coset.specs.Steps.{through, stepElements}
 use Rattle.coset.proofs.Points.{point-injective, point-element, length-points, points-elements}
 use Rattle.coset.proofs.Steps.{image-through, images-through, through-additive, through-element, through-point, independent-through, zero-through}
@@ -28,30 +28,35 @@ use lib.Bits.{xor-lt}
 
 -- ---- the coefficients of q below the leading one
 
-pub lowerCoefficients : ℕ → List ℕ → List ℕ
-lowerCoefficients step basis = lower gf64 (points 0 (take step basis))
-
-pub length-lowerCoefficients : (step : ℕ) (basis : List ℕ) → step ≤ length basis → length (lowerCoefficients step basis) ≡ 2 ^ step
-unfolding lowerCoefficients
-length-lowerCoefficients step basis h =
+length-below : (step : ℕ) (basis : List ℕ) → step ≤ length basis → length (lower gf64 (points 0 (take step basis))) ≡ 2 ^ step
+length-below step basis h =
     length-lower gf64 (points 0 (take step basis)) ∙ length-points 0 (take step basis) ∙ ap (λ (n : ℕ). 2 ^ n) (length-take-le step basis h)
 
-pub subspace-monic : (step : ℕ) (basis : List ℕ) → subspacePolynomial step basis ≡ monic gf64 (lowerCoefficients step basis)
-unfolding subspacePolynomial lowerCoefficients
-subspace-monic step basis = vanishing-monic gf64 (points 0 (take step basis))
+below-leading : (step : ℕ) (basis : List ℕ) → step ≤ length basis → lowerCoefficients step basis ≡ lower gf64 (points 0 (take step basis))
+unfolding subspacePolynomial lowerCoefficients monic
+below-leading step basis h =
+    ap (take (2 ^ step)) (vanishing-monic gf64 (points 0 (take step basis)))
+    ∙ take-at (lower gf64 (points 0 (take step basis))) (1 ∷ []) (2 ^ step) (length-below step basis h)
 
-pub lowerCoefficients-elements : (step : ℕ) (basis : List ℕ) → All IsElement basis → All IsElement (lowerCoefficients step basis)
-unfolding lowerCoefficients
-lowerCoefficients-elements step basis h =
-    lower-elements gf64 IsElement gf64-laws (points 0 (take step basis)) (points-elements 0 (take step basis) (omega arith) (all-take IsElement step basis h))
+pub length-lowerCoefficients : (step : ℕ) (basis : List ℕ) → step ≤ length basis → length (lowerCoefficients step basis) ≡ 2 ^ step
+length-lowerCoefficients step basis h = ap length (below-leading step basis h) ∙ length-below step basis h
+
+pub subspace-monic : (step : ℕ) (basis : List ℕ) → step ≤ length basis → subspacePolynomial step basis ≡ monic gf64 (lowerCoefficients step basis)
+unfolding subspacePolynomial
+subspace-monic step basis h = vanishing-monic gf64 (points 0 (take step basis)) ∙ ap (monic gf64) (sym (below-leading step basis h))
+
+pub lowerCoefficients-elements : (step : ℕ) (basis : List ℕ) → step ≤ length basis → All IsElement basis → All IsElement (lowerCoefficients step basis)
+lowerCoefficients-elements step basis h e =
+    subst (All IsElement) (sym (below-leading step basis h))
+    (lower-elements gf64 IsElement gf64-laws (points 0 (take step basis)) (points-elements 0 (take step basis) (omega arith) (all-take IsElement step basis e)))
 
 -- 2^step + 1 coefficients, the leading one 1
 pub subspace-degree : (step : ℕ) (basis : List ℕ) → step ≤ length basis
     → (length (subspacePolynomial step basis) ≡ 2 ^ step + 1) × (getD (subspacePolynomial step basis) (2 ^ step) 0 ≡ 1)
 unfolding monic
 subspace-degree step basis h = (
-  ap length (subspace-monic step basis) ∙ length-append (lowerCoefficients step basis) (1 ∷ []) ∙ ap (λ (n : ℕ). n + 1) (length-lowerCoefficients step basis h),
-  ap (λ (l : List ℕ). getD l (2 ^ step) 0) (subspace-monic step basis)
+  ap length (subspace-monic step basis h) ∙ length-append (lowerCoefficients step basis) (1 ∷ []) ∙ ap (λ (n : ℕ). n + 1) (length-lowerCoefficients step basis h),
+  ap (λ (l : List ℕ). getD l (2 ^ step) 0) (subspace-monic step basis h)
       ∙ getD-at (lowerCoefficients step basis) 1 [] 0 (2 ^ step) (length-lowerCoefficients step basis h),
 )
 

@@ -1,6 +1,6 @@
 -- The subspace polynomial q of a step, and the next coset, which it sends a coset to.
 use mathlib.Core.List.{List, map}
-use Prim.Native.Nat.{ℕ}
+use Prim.Native.Nat.{ℕ, _^_}
 use lib.ListN.{take, drop}
 use Rattle.poly.specs.Carrier.{gf64}
 use Rattle.poly.specs.Polynomial.{evaluate, vanishingPolynomial}
@@ -9,6 +9,10 @@ use Rattle.coset.specs.Coset.{points}
 -- q: the product of X - a over the span of the basis elements before place `step`; `Cosets.span` says that these points are the span
 unfoldable pub subspacePolynomial : ℕ → List ℕ → List ℕ
 subspacePolynomial step basis = vanishingPolynomial gf64 (points 0 (take step basis))
+
+-- its coefficients below the leading one, which is 1
+unfoldable pub lowerCoefficients : ℕ → List ℕ → List ℕ
+lowerCoefficients step basis = take (2 ^ step) (subspacePolynomial step basis)
 
 -- q(x)
 unfoldable pub image : ℕ → List ℕ → ℕ → ℕ

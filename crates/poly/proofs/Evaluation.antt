@@ -1,7 +1,8 @@
 -- Evaluation of sums, multiples, padded polynomials. Assumes nothing.
 use mathlib.Core.Path.{_≡_, refl, sym, ap, _∙_, ap₂}
-use mathlib.Core.List.{List, [], _∷_, _++_}
+use mathlib.Core.List.{List, [], _∷_, _++_, append-nil}
 use Prim.Native.Nat.{ℕ, zero, suc, _+_, _-_, _≤_}
+use native.Mathlib.Nat.{sub-self}
 use native.Mathlib.Omega.{arith}
 use lib.ListN.{length, replicate, length-map, length-append, length-replicate}
 use Rattle.poly.specs.Carrier.{Operations, Laws}
@@ -30,6 +31,10 @@ pub length-padded : {A : Type 0} (F : Operations A) (n : ℕ) (p : List A) → l
 unfolding padded
 length-padded F n p h =
     length-append p (replicate (n - length p) (F .zero)) ∙ ap (λ (m : ℕ). length p + m) (length-replicate (n - length p) (F .zero)) ∙ omega arith
+
+pub padded-full : {A : Type 0} (F : Operations A) (n : ℕ) (p : List A) → length p ≡ n → padded F n p ≡ p
+unfolding padded
+padded-full F n p h = ap (λ (m : ℕ). p ++ replicate m (F .zero)) (ap (λ (m : ℕ). n - m) h ∙ sub-self n) ∙ append-nil p
 
 module _ {A : Type 0} (F : Operations A) (Element : A → Type 0) (L : Laws A F Element) where
   open Operations F using (zero as 𝟘, sum as _⊕_, product as _⊗_)

@@ -110,7 +110,7 @@ module _ {A : Type 0} (F : Operations A) (Element : A → Type 0) (L : Laws A F 
   values-padded n p (x ∷ points) =
       ap₂ (λ (a : A) (s : List A). a ∷ s) (evaluate-padded F Element L n p x) (values-padded n p points)
 
-  values-elements : (p points : List A) → All Element p → All Element points → All Element (map (evaluate F p) points)
+  pub values-elements : (p points : List A) → All Element p → All Element points → All Element (map (evaluate F p) points)
   values-elements p [] ep es = record {}
   values-elements p (x ∷ points) ep es = (evaluate-element F Element L p x ep (es .0), values-elements p points ep (es .1))
 

@@ -1,0 +1,157 @@
+-- Cases D, F, J and K of Table A, as far as they speak of one fold: by the line through two points, whose inverse is that of 1. The
+-- exceptional set of case J has 2, and no second element by its bound. Assumes nothing.
+use mathlib.Core.Path.{_≡_, refl, sym, ap, _∙_, subst}
+use mathlib.Core.Bool.{Bool, true, false, cond}
+use mathlib.Core.List.{List, [], _∷_, map}
+use Prim.Native.Nat.{ℕ, _-_, _^_, _≤_}
+use native.Mathlib.Omega.{arith}
+use lib.Dec.{T, eqb, eqb→eq}
+use lib.ListN.{length, getD}
+use borrow.Author.Tests.{eq-eqb}
+use Rattle.gf64.specs.Field.{IsElement, product, inverse}
+use Rattle.gf64.specs.Polynomial.{carryless, carrylessIn, remainder, remainderIn, timesT}
+use Rattle.gf64.proofs.Inverse.{inverse-unique}
+use Rattle.poly.specs.Carrier.{gf64}
+use Rattle.poly.specs.Polynomial.{All, Distinct, Zeros, DegreeBelow, evaluate, plus, scale, timesLinear, vanishingPolynomial}
+use Rattle.poly.proofs.AtField.{gf64-laws}
+use Rattle.poly.proofs.Evaluation.{evaluate-zeros}
+use Rattle.poly.proofs.Interpolation.{interpolant-elements}
+use Rattle.poly.proofs.Roots.{root-bound-degree}
+use Rattle.coset.specs.Coset.{point, points, tabulated}
+use Rattle.coset.specs.Span.{inSpan, firstDependentAfter, firstDependent, Independent}
+use Rattle.coset.specs.Subspace.{nextOffset, nextBasis, image, subspacePolynomial}
+use Rattle.coset.proofs.Points.{points-elements}
+use Rattle.coset.proofs.Subspace.{nextOffset-element, nextBasis-elements, next-independent}
+use lib.Pow.{pow-pos}
+use Rattle.reed_solomon.specs.Codes.{encoded, interpolated, WordDegreeBelow}
+use Rattle.reed_solomon.proofs.Theorems.{round-trips, encoding}
+use Rattle.fold.specs.Fold.{folded}
+use Rattle.fold.specs.Halving.{lineAt, halvedEntries}
+use Rattle.fold.specs.Exceptional.{Exceptional}
+use Rattle.fold.specs.Theorems.{IsWord, FoldCases}
+use Rattle.fold.proofs.Exceptional.{exceptional-bound}
+use Rattle.fold.proofs.Halving.{halved-entries}
+
+-- ---- case D
+
+d-offset : nextOffset 1 0x8 (1 ∷ 2 ∷ []) ≡ 0x48
+unfolding nextOffset image subspacePolynomial points tabulated point vanishingPolynomial timesLinear plus scale evaluate product carryless carrylessIn remainder remainderIn timesT
+d-offset = refl
+
+d-basis : nextBasis 1 (1 ∷ 2 ∷ []) ≡ 6 ∷ []
+unfolding nextBasis image subspacePolynomial points tabulated point vanishingPolynomial timesLinear plus scale evaluate product carryless carrylessIn remainder remainderIn timesT
+d-basis = refl
+
+-- ---- folds over a basis whose first element is 1
+
+inverse-of-one : 1 ≡ inverse 1
+unfolding product carryless carrylessIn remainder remainderIn timesT
+inverse-of-one = inverse-unique 1 1 (omega arith) (omega arith) refl
+
+by-lines : (basis word : List ℕ) (x : ℕ) → length word ≡ 2 ^ length (1 ∷ basis)
+    → folded 1 0 (1 ∷ basis) word x ≡ halvedEntries 1 x (2 ^ length basis) (points 0 (1 ∷ basis)) word
+by-lines basis word x fits =
+    sym (halved-entries 0 1 basis word fits x)
+    ∙ ap (λ (i : ℕ). halvedEntries i x (2 ^ length basis) (points 0 (1 ∷ basis)) word) (sym inverse-of-one)
+
+f : folded 1 0 (1 ∷ 2 ∷ []) (7 ∷ 4 ∷ 1 ∷ 2 ∷ []) 4 ≡ 0xb ∷ 0xb ∷ []
+unfolding halvedEntries lineAt points tabulated point product carryless carrylessIn remainder remainderIn timesT
+f = by-lines (2 ∷ []) (7 ∷ 4 ∷ 1 ∷ 2 ∷ []) 4 refl
+
+j-at-4 : folded 1 0 (1 ∷ 2 ∷ []) (0 ∷ 0 ∷ 0 ∷ 1 ∷ []) 4 ≡ 0 ∷ 6 ∷ []
+unfolding halvedEntries lineAt points tabulated point product carryless carrylessIn remainder remainderIn timesT
+j-at-4 = by-lines (2 ∷ []) (0 ∷ 0 ∷ 0 ∷ 1 ∷ []) 4 refl
+
+j-at-2 : folded 1 0 (1 ∷ 2 ∷ []) (0 ∷ 0 ∷ 0 ∷ 1 ∷ []) 2 ≡ 0 ∷ 0 ∷ []
+unfolding halvedEntries lineAt points tabulated point product carryless carrylessIn remainder remainderIn timesT
+j-at-2 = by-lines (2 ∷ []) (0 ∷ 0 ∷ 0 ∷ 1 ∷ []) 2 refl
+
+k : folded 1 0 (1 ∷ 2 ∷ 4 ∷ []) (0 ∷ 1 ∷ 4 ∷ 5 ∷ 0x10 ∷ 0x11 ∷ 0x14 ∷ 0x15 ∷ []) 2 ≡ 2 ∷ 4 ∷ 0x16 ∷ 0x10 ∷ []
+unfolding halvedEntries lineAt points tabulated point product carryless carrylessIn remainder remainderIn timesT
+k = by-lines (2 ∷ 4 ∷ []) (0 ∷ 1 ∷ 4 ∷ 5 ∷ 0x10 ∷ 0x11 ∷ 0x14 ∷ 0x15 ∷ []) 2 refl
+
+-- ---- case J: the exceptional set
+
+abbrev basis : List ℕ
+basis = 1 ∷ 2 ∷ []
+
+abbrev word : List ℕ
+word = 0 ∷ 0 ∷ 0 ∷ 1 ∷ []
+
+independent : Independent basis
+unfolding inSpan firstDependentAfter firstDependent
+independent = refl
+
+is-word : IsWord 0 basis word
+is-word =
+    record {
+      offset-element = omega arith;
+      basis-elements = (omega arith, (omega arith, record {}));
+      word-elements = (omega arith, (omega arith, (omega arith, (omega arith, record {}))));
+      independent = independent;
+      count = refl;
+    }
+
+P : List ℕ
+P = interpolated 0 basis word
+
+P-elements : All IsElement P
+unfolding P interpolated
+P-elements =
+    interpolant-elements gf64 IsElement gf64-laws (points 0 basis) word (points-elements 0 basis (omega arith) (is-word .basis-elements)) (is-word .word-elements)
+
+values : map (evaluate gf64 P) (points 0 basis) ≡ word
+unfolding P encoded
+values = round-trips .word 0 basis word (omega arith) (is-word .basis-elements) (is-word .word-elements) independent refl
+
+-- the word is zero at 0 and 1 and not at 3, so that its degree is not below 2
+not-low : WordDegreeBelow 2 0 basis word → ⊥
+unfolding P points tabulated point
+not-low z =
+    let zeros : Zeros gf64 P =
+    root-bound-degree gf64 IsElement gf64-laws 2 P (0 ∷ 1 ∷ []) P-elements (omega arith, (omega arith, record {}))
+    (((λ (e : _≡_ {A = ℕ} 1 0). omega arith), record {}), (record {}, record {}))
+    (ap (λ (l : List ℕ). getD l 0 0) values, (ap (λ (l : List ℕ). getD l 1 0) values, record {})) z (omega arith)
+    in
+    let impossible : _≡_ {A = ℕ} 0 1 = sym (evaluate-zeros gf64 IsElement gf64-laws P 3 zeros) ∙ ap (λ (l : List ℕ). getD l 3 0) values in
+    omega arith
+
+zero-fold : folded 1 0 basis word 2 ≡ encoded (nextOffset 1 0 basis) (nextBasis 1 basis) (0 ∷ [])
+unfolding encoded nextOffset nextBasis image subspacePolynomial points tabulated point vanishingPolynomial timesLinear plus scale evaluate product carryless carrylessIn remainder remainderIn timesT
+zero-fold = j-at-2
+
+two-is-in : Exceptional 1 1 0 basis word 2
+two-is-in = (
+  omega arith,
+  not-low,
+  subst (WordDegreeBelow 1 (nextOffset 1 0 basis) (nextBasis 1 basis)) (sym zero-fold)
+      (encoding .degree (nextOffset 1 0 basis) (nextBasis 1 basis) (0 ∷ []) (nextOffset-element 1 0 basis (omega arith))
+      (nextBasis-elements 1 basis (is-word .basis-elements)) (omega arith, record {}) (next-independent 1 basis (is-word .basis-elements) independent)
+      (omega (arith, pow-pos (length (nextBasis 1 basis))))),
+)
+
+-- a second element would be one too many
+no-other : (x : ℕ) (same : Bool) → eqb x 2 ≡ same → Exceptional 1 1 0 basis word x → x ≡ 2
+no-other x true e h = eqb→eq x 2 (subst T (sym e) tt)
+no-other x false e h = absurd (two-too-many (exceptional-bound 1 1 0 basis word is-word (omega arith) (x ∷ 2 ∷ []) (h, (two-is-in, record {})) distinct))
+  where
+    two-too-many : 2 ≤ 2 ^ 1 - 1 → ⊥
+    two-too-many l = omega arith
+
+    differs : 2 ≡ x → ⊥
+    differs s = let impossible : _≡_ {A = ℕ} 0 1 = ap (λ (t : Bool). cond t 0 1) (sym (eq-eqb x 2 (sym s)) ∙ e) in omega arith
+
+    distinct : Distinct (x ∷ 2 ∷ [])
+    distinct = ((differs, record {}), (record {}, record {}))
+
+pub fold-cases : FoldCases
+fold-cases =
+    record {
+      d-offset = d-offset;
+      d-basis = d-basis;
+      f = f;
+      j-at-4 = j-at-4;
+      j-at-2 = j-at-2;
+      j = λ x. (no-other x (eqb x 2) refl, λ e. subst (Exceptional 1 1 0 basis word) (sym e) two-is-in);
+      k = k;
+    }

@@ -1,0 +1,5 @@
+pub mod Folding
+pub mod Exceptional
+pub mod Halving
+pub mod Theorems
+pub mod Cases

@@ -1,0 +1,17 @@
+-- The exceptional set of a layer: document 01's own term.
+use mathlib.Core.List.{List}
+use Prim.Native.Nat.{ℕ, _-_, _^_}
+use lib.ListN.{length}
+use Rattle.gf64.specs.Field.{IsElement}
+use Rattle.coset.specs.Subspace.{nextOffset, nextBasis}
+use Rattle.reed_solomon.specs.Codes.{WordDegreeBelow}
+use Rattle.fold.specs.Fold.{folded}
+
+-- x lies in the exceptional set of a layer of 2^m values over its coset, m the length of the basis:
+-- the set is empty where the layer has degree below 2^(m - rate), and otherwise has all elements at which the layer's fold has degree below
+-- 2^(m - rate - step)
+abbrev pub Exceptional : ℕ → ℕ → ℕ → List ℕ → List ℕ → ℕ → Type 0
+Exceptional rate step offset basis layer x =
+    IsElement x
+    × (WordDegreeBelow (2 ^ (length basis - rate)) offset basis layer → ⊥)
+    × WordDegreeBelow (2 ^ (length basis - rate - step)) (nextOffset step offset basis) (nextBasis step basis) (folded step offset basis layer x)

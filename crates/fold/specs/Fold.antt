@@ -1,0 +1,24 @@
+-- The fold of a word over a coset, with a step and at a challenge. The dimension k is the length of the basis.
+use mathlib.Core.List.{List, map}
+use Prim.Native.Nat.{ℕ, _*_, _-_, _^_}
+use lib.ListN.{length, take, drop}
+use Rattle.poly.specs.Carrier.{gf64}
+use Rattle.poly.specs.Polynomial.{evaluate, interpolant}
+use Rattle.coset.specs.Coset.{point, tabulated}
+
+-- the points of the coset of the fold with index j: the old points from j · 2^step on, 2^step of them
+unfoldable pub cosetPoints : ℕ → ℕ → List ℕ → ℕ → List ℕ
+cosetPoints step offset basis j = tabulated (point offset basis) (j * 2 ^ step) (2 ^ step)
+
+-- the word's entries there
+unfoldable pub cosetEntries : ℕ → List ℕ → ℕ → List ℕ
+cosetEntries step word j = take (2 ^ step) (drop (j * 2 ^ step) word)
+
+-- entry j of the fold at x: the value at x of the one polynomial of degree below 2^step that agrees with the word at the points of coset j
+unfoldable pub foldEntry : ℕ → ℕ → List ℕ → List ℕ → ℕ → ℕ → ℕ
+foldEntry step offset basis word x j =
+    evaluate gf64 (interpolant gf64 (cosetPoints step offset basis j) (cosetEntries step word j)) x
+
+-- the fold at x: 2^(k - step) values, a word over the next coset
+unfoldable pub folded : ℕ → ℕ → List ℕ → List ℕ → ℕ → List ℕ
+folded step offset basis word x = tabulated (foldEntry step offset basis word x) 0 (2 ^ (length basis - step))

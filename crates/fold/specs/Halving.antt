@@ -1,0 +1,28 @@
+-- How the value of a coset's interpolant at a challenge is computed: the coset is halved until one entry is left. Only inner functions cite
+-- this.
+use mathlib.Core.List.{List, [], _∷_}
+use Prim.Native.Nat.{ℕ, suc, _*_, _^_}
+use lib.ListN.{length, getD}
+use Rattle.gf64.specs.Field.{sum, product}
+use Rattle.coset.specs.Coset.{tabulated}
+
+-- the value at x of the line with value u at p and v at the neighbour of p, where inverse is that of the difference of the two points
+unfoldable pub lineAt : ℕ → ℕ → ℕ → ℕ → ℕ → ℕ
+lineAt inverse x p u v = sum u (product (sum x p) (product (sum u v) inverse))
+
+-- the products of neighbouring points, two by two
+unfoldable pub halvedPoints : ℕ → List ℕ → List ℕ
+halvedPoints count points = tabulated (λ i. product (getD points (i * 2) 0) (getD points (suc (i * 2)) 0)) 0 count
+
+-- the values at x of the lines through neighbours, two by two
+unfoldable pub halvedEntries : ℕ → ℕ → ℕ → List ℕ → List ℕ → List ℕ
+halvedEntries inverse x count points entries =
+    tabulated (λ i. lineAt inverse x (getD points (i * 2) 0) (getD entries (i * 2) 0) (getD entries (suc (i * 2)) 0)) 0 count
+
+-- halved once for each inverse, at the challenge of the same place
+unfoldable pub valueAt : List ℕ → List ℕ → List ℕ → List ℕ → ℕ
+valueAt [] challenges points entries = getD entries 0 0
+valueAt (inverse ∷ inverses) [] points entries = 0
+valueAt (inverse ∷ inverses) (x ∷ challenges) points entries =
+    let count = 2 ^ length inverses in
+    valueAt inverses challenges (halvedPoints count points) (halvedEntries inverse x count points entries)

@@ -1,0 +1,5 @@
+pub mod Fold
+pub mod Rows
+pub mod Exceptional
+pub mod Halving
+pub mod Theorems

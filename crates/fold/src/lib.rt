@@ -1,0 +1,1 @@
+// The fold of a word over a coset.
