@@ -6,10 +6,15 @@ use Prim.Native.Nat.{ℕ, zero, suc, _+_, _*_, _/_, _%_, _^_, _<_, _≤_, min}
 use native.Mathlib.Nat.{zero-mul, one-mul, pow-suc}
 use native.Mathlib.Omega.{arith}
 use lib.ListN.{length, getD, take, length-take}
-use lib.Seq.{getD-take}
+use lib.Seq.{getD-take, take-all}
+use native.Mathlib.Numerals.{add-one}
 use lib.Count.{trailingZeros, under}
 use lib.Bits.{bitXor, xor-self, xor-zero-r}
+use Rattle.gf64.specs.Field.{sum}
 use Rattle.gf64.proofs.Xor.{xor-assoc, xor-left-comm, xor-cancel}
+use Rattle.poly.specs.Carrier.{gf64}
+use Rattle.poly.specs.Polynomial.{padded}
+use Rattle.poly.proofs.Filling.{getD-padded}
 use Rattle.coset.specs.Coset.{point}
 use Rattle.coset.specs.Sequence.{prefixSums}
 
@@ -95,3 +100,12 @@ pub point-next : (offset : ℕ) (basis : List ℕ) (j : ℕ) → length basis �
     → bitXor (point offset basis j) (getD (prefixSums 0 basis) (trailingZeros 64 (suc j)) 0) ≡ point offset basis (suc j)
 point-next offset basis j l h =
     ap (bitXor (point offset basis j)) (sum-of-step 64 0 offset basis j l h) ∙ xor-cancel (point offset basis j) (point offset basis (suc j))
+
+-- from point j to point j + 1 by the sums that `prefix_sums` gives
+pub point-stepped : (offset : ℕ) (basis : List ℕ) (j x : ℕ) → length basis ≤ 20 → x ≡ point offset basis j → j + 1 < 2 ^ length basis
+    → sum x (getD (padded gf64 20 (prefixSums 0 (take 20 basis))) (trailingZeros 64 (j + 1)) 0) ≡ point offset basis (j + 1)
+point-stepped offset basis j x k e h =
+    ap₂ sum e
+    (getD-padded 20 (prefixSums 0 (take 20 basis)) (trailingZeros 64 (j + 1))
+    ∙ ap₂ (λ (l : List ℕ) (n : ℕ). getD (prefixSums 0 l) (trailingZeros 64 n) 0) (take-all 20 basis (omega arith)) (add-one j))
+    ∙ point-next offset basis j (omega arith) (omega arith) ∙ ap (point offset basis) (sym (add-one j))

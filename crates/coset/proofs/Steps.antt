@@ -1,35 +1,36 @@
 -- The subspace polynomial is a composition of maps X · (X - e). So it is additive, it is zero exactly on the span that it was built
 -- from, it sends an independent basis to an independent one and the points of a coset to those of the next. Assumes nothing.
 use mathlib.Core.Path.{_≡_, refl, sym, ap, ap₂, _∙_, subst}
-use mathlib.Core.Logic.{_≢_, _⊎_, inl, inr}
-use mathlib.Core.Bool.{Bool, true, false, cond, _||_}
+use mathlib.Core.Logic.{_⊎_, inl, inr}
+use mathlib.Core.Bool.{Bool, true, false, cond}
 use mathlib.Core.List.{List, [], _∷_, _++_, map, map-id, map-map}
-use Prim.Native.Nat.{ℕ, zero, suc, _+_, _*_, _/_, _%_, _^_, _<_, _≤_}
-use native.Mathlib.Nat.{zero-mul, one-mul, pow-suc}
+use Prim.Native.Nat.{ℕ, zero, suc, _+_, _*_, _/_, _^_, _<_, _≤_}
+use native.Mathlib.Nat.{pow-suc}
 use native.Mathlib.Omega.{arith}
 use lib.Pow.{shr-shr}
 use lib.Dec.{eqb}
-use lib.ListN.{length, getD, take, drop, length-map}
+use lib.ListN.{length, getD, take, drop, length-map, drop-of-length-le}
+use lib.Seq.{drop-cons}
+use native.Mathlib.Numerals.{add-one}
 use lib.Bits.{bitXor, xor-self, xor-comm, xor-zero-r, xor-lt}
 use borrow.Author.Tests.{ne-eqb}
 use Rattle.gf64.specs.Field.{IsElement, sum, product}
-use Rattle.gf64.proofs.Xor.{xor-assoc, xor-left-comm}
+use Rattle.gf64.proofs.Xor.{xor-assoc}
 use Rattle.gf64.proofs.Additive.{Additive, additive-zero, sum-additive}
-use Rattle.gf64.proofs.Ring.{product-lt, product-add-r, product-add-l, product-zero-l, product-zero-r, product-one-r, product-assoc, square-add}
+use Rattle.gf64.proofs.Ring.{product-lt, product-add-r, product-add-l, product-zero-r, product-one-r, product-assoc, square-add}
 use Rattle.gf64.proofs.Inverse.{no-zero-divisors}
 use Rattle.poly.specs.Carrier.{gf64}
 use Rattle.poly.specs.Polynomial.{All}
 use Rattle.poly.specs.Newton.{vanishing}
 use Rattle.poly.proofs.AtField.{gf64-laws}
-use Rattle.poly.proofs.Entries.{all-map, all-take, all-drop, map-agree, map-take, map-drop}
+use Rattle.poly.proofs.Entries.{all-map, all-take, map-agree, map-take, map-drop}
 use Rattle.poly.proofs.Sums.{equal-of-sum}
 use Rattle.poly.proofs.Filling.{getD-map}
 use Rattle.poly.proofs.Vanishing.{evaluate-vanishing}
-use Rattle.refusal.specs.declared.Position.{Position}
 use Rattle.refusal.specs.declared.Position.the-variants.{At, Absent}
 use Rattle.coset.specs.Coset.{point, tabulated, points}
 use Rattle.coset.specs.Span.{inSpan, firstDependentAfter, firstDependent, Independent}
-use Rattle.coset.specs.Subspace.{subspacePolynomial, image, nextOffset, nextBasis}
+use Rattle.coset.specs.Subspace.{subspacePolynomial, image}
 use Rattle.coset.specs.Steps.{oneStep, through, stepElements, before}
 use Rattle.coset.proofs.Span.{Kernel, span-image, first-image, at-not-absent}
 use Rattle.coset.proofs.Clearing.{zero-test}
@@ -122,6 +123,18 @@ unfolding before through
 before-at [] x t h = absurd (omega arith)
 before-at (e ∷ elements) x zero h = refl
 before-at (e ∷ elements) x (suc t) h = before-at elements (oneStep e x) t (omega arith)
+
+-- from one map to the next
+pub through-next : (elements : List ℕ) (t y : ℕ) → t < length elements
+    → through (drop (t + 1) elements) (product y (sum y (getD elements t 0))) ≡ through (drop t elements) y
+unfolding through oneStep
+through-next elements t y h =
+    ap (λ (n : ℕ). through (drop n elements) (oneStep (getD elements t 0) y)) (add-one t)
+    ∙ sym (ap (λ (l : List ℕ). through l y) (drop-cons elements t 0 h))
+
+pub through-end : (elements : List ℕ) (t y : ℕ) → length elements ≤ t → through (drop t elements) y ≡ y
+unfolding through
+through-end elements t y h = ap (λ (l : List ℕ). through l y) (drop-of-length-le elements h)
 
 -- ---- the composition is the product of X - a over the span
 

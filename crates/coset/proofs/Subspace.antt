@@ -1,19 +1,21 @@
 -- The subspace polynomial and the next coset: what `Steps` shows of the composition, of their definitions. Assumes nothing.
-use mathlib.Core.Path.{_≡_, refl, sym, ap, ap₂, _∙_, subst}
+use mathlib.Core.Path.{_≡_, sym, ap, ap₂, _∙_, subst}
 use mathlib.Core.Logic.{_↔_}
-use mathlib.Core.Bool.{Bool, true}
-use mathlib.Core.List.{List, [], _∷_, _++_, map}
-use Prim.Native.Nat.{ℕ, suc, _+_, _*_, _-_, _/_, _^_, _<_, _≤_}
-use native.Mathlib.Nat.{div-lt-iff-lt-mul}
+use mathlib.Core.Bool.{true}
+use mathlib.Core.List.{List, [], _∷_, _++_, map, append-nil}
+use Prim.Native.Nat.{ℕ, _+_, _*_, _-_, _/_, _^_, _<_, _≤_}
+use native.Mathlib.Nat.{div-lt-iff-lt-mul, le-of-eq}
 use native.Mathlib.Omega.{arith}
 use lib.Pow.{pow-pos, pow-add, high}
 use lib.Dec.{T, eqb, eqb→eq}
-use lib.ListN.{length, getD, take, drop, length-map, length-drop, length-append}
+use lib.ListN.{length, getD, take, drop, length-map, length-drop, length-append, drop-of-length-le}
 use lib.Seq.{length-take-le, getD-at, take-at}
 use borrow.Author.Tests.{eq-eqb}
 use Rattle.gf64.specs.Field.{IsElement, sum}
 use Rattle.poly.specs.Carrier.{gf64}
-use Rattle.poly.specs.Polynomial.{All}
+use Rattle.poly.specs.Polynomial.{All, padded}
+use Rattle.poly.proofs.Filling.{padded-taken}
+use Rattle.poly.proofs.Parts.{mid-suffix}
 use Rattle.poly.specs.Rows.{monic}
 use Rattle.poly.proofs.AtField.{gf64-laws}
 use Rattle.poly.proofs.Entries.{all-map, all-drop, all-take}
@@ -23,7 +25,7 @@ use Rattle.coset.specs.Span.{inSpan, Independent}
 use Rattle.coset.specs.Subspace.{subspacePolynomial, lowerCoefficients, image, nextOffset, nextBasis}
 use Rattle.coset.specs.Steps.{through, stepElements}
 use Rattle.coset.proofs.Points.{point-injective, point-element, length-points, points-elements}
-use Rattle.coset.proofs.Steps.{image-through, images-through, through-additive, through-element, through-point, independent-through, zero-through}
+use Rattle.coset.proofs.Steps.{image-through, images-through, through-additive, through-element, through-point, independent-through, zero-through, length-elements}
 use lib.Bits.{xor-lt}
 
 -- ---- the coefficients of q below the leading one
@@ -142,3 +144,39 @@ image-only step offset basis i j ho hb d h hi hj e =
   where
     inside : i < 2 ^ (length basis - step) * 2 ^ step
     inside = subst (λ (n : ℕ). i < n) (sym (cosets-of step (length basis) h)) hi
+
+-- ---- as the code gets them
+
+-- the elements in an array of three
+pub elements-taken : (step : ℕ) (basis elements : List ℕ) → step ≤ length basis → elements ≡ padded gf64 3 (stepElements step basis)
+    → take step elements ≡ stepElements step basis
+elements-taken step basis elements h e =
+    padded-taken 3 step (stepElements step basis) elements e (length-elements step basis h)
+
+-- the images of what is behind them
+pub next-filled : (step : ℕ) (basis elements : List ℕ) → All IsElement basis → step ≤ length basis → elements ≡ padded gf64 3 (stepElements step basis)
+    → map (through (take step elements)) (take (length basis - step) (drop step basis)) ≡ nextBasis step basis
+next-filled step basis elements eb h e =
+    ap₂ (λ (es xs : List ℕ). map (through es) xs) (elements-taken step basis elements h e) (mid-suffix step basis)
+    ∙ sym (nextBasis-through step basis eb)
+
+-- the front of the array is the next basis
+pub next-taken : (step : ℕ) (basis elements zeros filled : List ℕ) → All IsElement basis → step ≤ length basis → elements ≡ padded gf64 3 (stepElements step basis)
+    → filled ≡ map (through (take step elements)) (take (length basis - step) (drop step basis)) ++ drop (length (take (length basis - step) (drop step basis))) zeros
+    → take (length basis - step) filled ≡ nextBasis step basis
+next-taken step basis elements zeros filled eb h e f =
+    ap (take (length basis - step)) f
+    ∙ take-at (map (through (take step elements)) (take (length basis - step) (drop step basis))) (drop (length (take (length basis - step) (drop step basis))) zeros) (length basis - step)
+    (ap length (next-filled step basis elements eb h e) ∙ length-nextBasis step basis)
+    ∙ next-filled step basis elements eb h e
+
+-- a list of their number is the next basis
+pub next-whole : (step : ℕ) (basis elements held filled : List ℕ) → All IsElement basis → step ≤ length basis → elements ≡ padded gf64 3 (stepElements step basis)
+    → length held ≡ length basis - step
+    → filled ≡ map (through (take step elements)) (take (length basis - step) (drop step basis)) ++ drop (length (take (length basis - step) (drop step basis))) held
+    → filled ≡ nextBasis step basis
+next-whole step basis elements held filled eb h e l f =
+    f
+    ∙ ap₂ (λ (front rest : List ℕ). front ++ rest) (next-filled step basis elements eb h e)
+    (drop-of-length-le held (le-of-eq (l ∙ sym (ap length (mid-suffix step basis) ∙ length-drop step basis))))
+    ∙ append-nil (nextBasis step basis)

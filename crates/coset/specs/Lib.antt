@@ -4,4 +4,5 @@ pub mod Elimination
 pub mod Sequence
 pub mod Subspace
 pub mod Steps
+pub mod Answers
 pub mod Theorems

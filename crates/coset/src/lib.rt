@@ -1,18 +1,33 @@
 // Cosets: whether a basis is independent, and the points in sequence.
 use field::Element;
+use refusal::Cause;
+use refusal::Outcome;
 use refusal::Position;
 ghost use mathlib.Core.Path.{_≡_};
-ghost use mathlib.Core.List.{map};
-ghost use Prim.Native.Nat.{min};
-ghost use lib.ListN.{length, getD, take};
+ghost use mathlib.Core.List.{map, _++_};
+ghost use Prim.Native.Nat.{min, _≤_};
+ghost use lib.ListN.{length, getD, take, drop};
 ghost use lib.Count.{trailingZeros};
 ghost use Rattle.gf64.specs.Field.{sum};
 ghost use Rattle.poly.specs.Carrier.{gf64};
 ghost use Rattle.poly.specs.Polynomial.{padded};
 ghost use Rattle.coset.specs.Coset.{point};
 ghost use Rattle.coset.specs.Span.{firstDependent};
+ghost use Rattle.coset.specs.Answers.{outcomeOfBasis};
+ghost use Rattle.coset.specs.Steps.{through, stepElements, before};
 ghost use Rattle.coset.specs.Elimination.{cleared};
 ghost use Rattle.coset.specs.Sequence.{prefixSums};
+
+// Refuses a dependent basis (8) at its first dependent place.
+pub fn checked_basis(basis: &[u64]) -> Outcome
+    ensures { λ r. ⌜ r ≡ outcomeOfBasis (firstDependent (now (basis .entry))) ⌝ }
+{
+    let dependent = first_dependent(basis);
+    match dependent {
+        Position::At(place) => Outcome::Refused(Cause::BasisDependent { place }),
+        Position::Absent => Outcome::Done,
+    }
+}
 
 // The first place whose element lies in the span of the earlier ones.
 pub fn first_dependent(basis: &[u64]) -> Position
@@ -129,4 +144,59 @@ pub fn stepped(sums: &[u64], point: Element, next: usize) -> Element
     } else {
         point
     }
+}
+
+// X · (X - e) for each of the elements, one after the other.
+pub fn through(elements: &[u64], x: Element) -> Element
+    ensures { λ r. ⌜ r .0 ≡ through (now (elements .entry)) (x .0) ⌝ }
+{
+    let mut y = x;
+    let mut t: usize = 0;
+    while t < elements.len() {
+        y = y.product(y.sum(Element(elements[t])));
+        t += 1;
+    }
+    y
+}
+
+// The elements that the subspace polynomial of a step goes through, and zeros.
+pub fn step_elements(basis: &[u64], step: usize) -> [u64; 3]
+    requires { ⌜ (step ≤ 3) × (step ≤ length (now basis)) ⌝ }
+    ensures { λ r. ⌜ r ≡ padded gf64 3 (stepElements step (now (basis .entry))) ⌝ }
+{
+    let mut elements = [0u64; 3];
+    let mut t: usize = 0;
+    while t < step {
+        let b = basis[t];
+        elements[t] = through(&elements[..t], Element(b)).0;
+        t += 1;
+    }
+    elements
+}
+
+// What the maps make of each of the numbers, into the front of a list.
+pub fn fill_through(elements: &[u64], xs: &[u64], images: &mut [u64])
+    requires { ⌜ length (now xs) ≤ length (now images) ⌝ }
+    ensures { λ _. ⌜ now (images .exit) ≡ map (through (now (elements .entry))) (now (xs .entry)) ++ drop (length (now (xs .entry))) (now (images .entry)) ⌝ }
+{
+    let mut i: usize = 0;
+    while i < xs.len() {
+        let x = xs[i];
+        images[i] = through(elements, Element(x)).0;
+        i += 1;
+    }
+}
+
+// x before each of the maps of at most three elements, and zeros.
+pub fn before(elements: &[u64], x: Element) -> [u64; 3]
+    requires { ⌜ length (now elements) ≤ 3 ⌝ }
+    ensures { λ r. ⌜ r ≡ padded gf64 3 (before (now (elements .entry)) (x .0)) ⌝ }
+{
+    let mut images = [0u64; 3];
+    let mut t: usize = 0;
+    while t < elements.len() {
+        images[t] = through(&elements[..t], x).0;
+        t += 1;
+    }
+    images
 }

@@ -12,7 +12,7 @@ use Rattle.gf64.specs.Field.{IsElement, product, inverse}
 use Rattle.gf64.specs.Polynomial.{carryless, carrylessIn, remainder, remainderIn, timesT}
 use Rattle.gf64.proofs.Inverse.{inverse-unique}
 use Rattle.poly.specs.Carrier.{gf64}
-use Rattle.poly.specs.Polynomial.{All, Distinct, Zeros, DegreeBelow, evaluate, plus, scale, timesLinear, vanishingPolynomial}
+use Rattle.poly.specs.Polynomial.{All, Distinct, Zeros, evaluate, plus, scale, timesLinear, vanishingPolynomial}
 use Rattle.poly.proofs.AtField.{gf64-laws}
 use Rattle.poly.proofs.Evaluation.{evaluate-zeros}
 use Rattle.poly.proofs.Interpolation.{interpolant-elements}
@@ -30,7 +30,7 @@ use Rattle.fold.specs.Halving.{lineAt, halvedEntries}
 use Rattle.fold.specs.Exceptional.{Exceptional}
 use Rattle.fold.specs.Theorems.{IsWord, FoldCases}
 use Rattle.fold.proofs.Exceptional.{exceptional-bound}
-use Rattle.fold.proofs.Halving.{halved-entries}
+use Rattle.fold.proofs.Lines.{halved-entries}
 
 -- ---- case D
 

@@ -1,5 +1,8 @@
 pub mod Folding
 pub mod Exceptional
-pub mod Halving
+pub mod Lines
 pub mod Theorems
 pub mod Cases
+mod Checks
+mod Cosets
+mod AllCosets

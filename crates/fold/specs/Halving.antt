@@ -1,10 +1,10 @@
 -- How the value of a coset's interpolant at a challenge is computed: the coset is halved until one entry is left. Only inner functions cite
 -- this.
-use mathlib.Core.List.{List, [], _∷_}
+use mathlib.Core.List.{List, [], _∷_, map}
 use Prim.Native.Nat.{ℕ, suc, _*_, _^_}
-use lib.ListN.{length, getD}
+use lib.ListN.{length, getD, take, drop}
 use Rattle.gf64.specs.Field.{sum, product}
-use Rattle.coset.specs.Coset.{tabulated}
+use Rattle.coset.specs.Coset.{point, tabulated}
 
 -- the value at x of the line with value u at p and v at the neighbour of p, where inverse is that of the difference of the two points
 unfoldable pub lineAt : ℕ → ℕ → ℕ → ℕ → ℕ → ℕ
@@ -26,3 +26,12 @@ valueAt (inverse ∷ inverses) [] points entries = 0
 valueAt (inverse ∷ inverses) (x ∷ challenges) points entries =
     let count = 2 ^ length inverses in
     valueAt inverses challenges (halvedPoints count points) (halvedEntries inverse x count points entries)
+
+-- the values of the cosets one after the other: coset j has point j of the others for its first point, and the next entries of the word
+unfoldable pub cosetValue : List ℕ → List ℕ → List ℕ → ℕ → List ℕ → List ℕ → ℕ → ℕ
+cosetValue inverses challenges span offset others word j =
+    valueAt inverses challenges (map (sum (point offset others j)) span) (take (length span) (drop (j * length span) word))
+
+unfoldable pub cosetValues : List ℕ → List ℕ → List ℕ → ℕ → List ℕ → List ℕ → List ℕ
+cosetValues inverses challenges span offset others word =
+    tabulated (cosetValue inverses challenges span offset others word) 0 (2 ^ length others)

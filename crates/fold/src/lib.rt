@@ -1,1 +1,254 @@
-// The fold of a word over a coset.
+// The fold of a word over a coset of at most 2^20 points.
+mod halving;
+
+use field::Element;
+use halving::Coset;
+use refusal::Cause;
+use refusal::Outcome;
+use refusal::Position;
+ghost use mathlib.Core.Path.{_≡_};
+ghost use mathlib.Core.List.{map};
+ghost use Prim.Native.Nat.{_*_, _-_, _^_, _≤_};
+ghost use lib.ListN.{length};
+ghost use Rattle.gf64.specs.Field.{inverse};
+ghost use Rattle.poly.specs.Carrier.{gf64};
+ghost use Rattle.poly.specs.Polynomial.{padded};
+ghost use Rattle.refusal.specs.Checks.{andThen};
+ghost use Rattle.coset.specs.Coset.{points};
+ghost use Rattle.coset.specs.Span.{firstDependent, Independent};
+ghost use Rattle.coset.specs.Subspace.{nextOffset, nextBasis};
+ghost use Rattle.coset.specs.Steps.{stepElements};
+ghost use Rattle.fold.specs.Fold.{folded};
+ghost use Rattle.fold.specs.Halving.{cosetValues};
+ghost use Rattle.fold.specs.Answers.{rangesOutcome, lengthsOutcome, outcomeOfNextBasis, basesOutcome, foldOutcome, foldAnswer, valuesAfter, nextBasisAfter};
+
+// What a fold answers.
+pub enum Folded {
+    NextOffset(Element),
+    Refused(Cause),
+}
+
+// The fold of a word at the challenge, with the step, into `values`; the basis of the next coset into `next_basis`; its offset as the
+// answer. Refused, in this order: k outside 2..20 (4); a step outside 1..3 (6); k below the step (7); a list of another length than its
+// own, the lowest of 1, 3, 6 and 7 (13); a dependent basis (8); a dependent next basis (16). A refusal leaves both lists as they were.
+pub fn fold(
+    k: usize,
+    step: usize,
+    offset: Element,
+    basis: &[u64],
+    word: &[u64],
+    challenge: Element,
+    values: &mut [u64],
+    next_basis: &mut [u64],
+) -> Folded
+    ensures answer { λ r. ⌜ r ≡ foldAnswer k step (offset .0) (now (basis .entry)) (now (word .entry)) (now (values .entry)) (now («next_basis» .entry)) ⌝ }
+    ensures output { λ _. ⌜ now (values .exit) ≡ valuesAfter k step (offset .0) (now (basis .entry)) (now (word .entry)) (challenge .0) (now (values .entry)) (now («next_basis» .entry)) ⌝ }
+    ensures basis { λ _. ⌜ now («next_basis» .exit) ≡ nextBasisAfter k step (now (basis .entry)) (now (word .entry)) (now (values .entry)) (now («next_basis» .entry)) ⌝ }
+{
+    let outcome = checked(k, step, basis, word.len(), values.len(), next_basis.len());
+    match outcome {
+        Outcome::Done => Folded::NextOffset(fold_checked(
+            step,
+            offset,
+            basis,
+            word,
+            challenge,
+            values,
+            next_basis,
+        )),
+        Outcome::Refused(cause) => Folded::Refused(cause),
+    }
+}
+
+// The fold after the checks: values and next basis are filled in, and the next offset is the answer.
+fn fold_checked(
+    step: usize,
+    offset: Element,
+    basis: &[u64],
+    word: &[u64],
+    challenge: Element,
+    values: &mut [u64],
+    next: &mut [u64],
+) -> Element
+    requires { ⌜ (1 ≤ step) × (step ≤ 3) × (step ≤ length (now basis)) × (length (now basis) ≤ 20) × Independent (now basis)
+        × (length (now word) ≡ 2 ^ length (now basis)) × (length (now values) ≡ 2 ^ (length (now basis) - step))
+        × (length (now next) ≡ length (now basis) - step) ⌝ }
+    ensures answer { λ r. ⌜ r .0 ≡ nextOffset step (offset .0) (now (basis .entry)) ⌝ }
+    ensures output { λ _. ⌜ now (values .exit) ≡ folded step (offset .0) (now (basis .entry)) (now (word .entry)) (challenge .0) ⌝ }
+    ensures basis { λ _. ⌜ now (next .exit) ≡ nextBasis step (now (basis .entry)) ⌝ }
+{
+    let elements = coset::step_elements(basis, step);
+    fill_values(&elements[..step], offset, basis, word, challenge, values);
+    coset::fill_through(&elements[..step], &basis[step..], next);
+    coset::through(&elements[..step], offset)
+}
+
+fn checked(k: usize, step: usize, basis: &[u64], word: usize, values: usize, next: usize) -> Outcome
+    ensures { λ r. ⌜ r ≡ andThen (rangesOutcome k step) (andThen (lengthsOutcome k step (length (now (basis .entry))) word values next) (basesOutcome step (now (basis .entry)))) ⌝ }
+{
+    let ranges = checked_ranges(k, step);
+    match ranges {
+        Outcome::Done => {
+            let lengths = checked_lengths(k, step, basis.len(), word, values, next);
+            match lengths {
+                Outcome::Done => checked_bases(step, basis),
+                Outcome::Refused(cause) => Outcome::Refused(cause),
+            }
+        }
+        Outcome::Refused(cause) => Outcome::Refused(cause),
+    }
+}
+
+fn checked_ranges(k: usize, step: usize) -> Outcome
+    ensures { λ r. ⌜ r ≡ rangesOutcome k step ⌝ }
+{
+    if k < 2 || k > 20 {
+        return Outcome::Refused(Cause::DimensionOutOfRange);
+    }
+    if step < 1 || step > 3 {
+        return Outcome::Refused(Cause::StepOutOfRange);
+    }
+    if k < step {
+        return Outcome::Refused(Cause::DimensionTooSmall);
+    }
+    Outcome::Done
+}
+
+fn checked_lengths(
+    k: usize,
+    step: usize,
+    basis: usize,
+    word: usize,
+    values: usize,
+    next: usize,
+) -> Outcome
+    requires { ⌜ (k ≤ 20) × (step ≤ k) ⌝ }
+    ensures { λ r. ⌜ r ≡ lengthsOutcome k step basis word values next ⌝ }
+{
+    if basis != k {
+        return Outcome::Refused(Cause::WrongLength { list: 1 });
+    }
+    if word != 1 << k {
+        return Outcome::Refused(Cause::WrongLength { list: 3 });
+    }
+    if values != 1 << (k - step) {
+        return Outcome::Refused(Cause::WrongLength { list: 6 });
+    }
+    if next != k - step {
+        return Outcome::Refused(Cause::WrongLength { list: 7 });
+    }
+    Outcome::Done
+}
+
+fn checked_bases(step: usize, basis: &[u64]) -> Outcome
+    requires { ⌜ (step ≤ 3) × (step ≤ length (now basis)) × (length (now basis) ≤ 20) ⌝ }
+    ensures { λ r. ⌜ r ≡ basesOutcome step (now (basis .entry)) ⌝ }
+{
+    let outcome = coset::checked_basis(basis);
+    match outcome {
+        Outcome::Done => checked_next_basis(step, basis),
+        Outcome::Refused(cause) => Outcome::Refused(cause),
+    }
+}
+
+// No independent basis is refused here.
+fn checked_next_basis(step: usize, basis: &[u64]) -> Outcome
+    requires { ⌜ (step ≤ 3) × (step ≤ length (now basis)) × (length (now basis) ≤ 20) ⌝ }
+    ensures { λ r. ⌜ r ≡ outcomeOfNextBasis (firstDependent (nextBasis step (now (basis .entry)))) ⌝ }
+{
+    let count = basis.len() - step;
+    let elements = coset::step_elements(basis, step);
+    let mut next = [0u64; 20];
+    coset::fill_through(&elements[..step], &basis[step..], &mut next);
+    let dependent = coset::first_dependent(&next[..count]);
+    match dependent {
+        Position::At(_) => Outcome::Refused(Cause::LaterBasisDependent { round: 0 }),
+        Position::Absent => Outcome::Done,
+    }
+}
+
+// The fold. The elements are those that the subspace polynomial of the step goes through; what they need for every coset is got once.
+fn fill_values(
+    elements: &[u64],
+    offset: Element,
+    basis: &[u64],
+    word: &[u64],
+    challenge: Element,
+    values: &mut [u64],
+)
+    requires { ⌜ (1 ≤ length (now elements)) × (length (now elements) ≤ 3) × (length (now elements) ≤ length (now basis)) × (length (now basis) ≤ 20)
+        × (now elements ≡ stepElements (length (now elements)) (now basis)) × Independent (now basis)
+        × (length (now word) ≡ 2 ^ length (now basis)) × (length (now values) ≡ 2 ^ (length (now basis) - length (now elements))) ⌝ }
+    ensures { λ _. ⌜ now (values .exit) ≡ folded (length (now (elements .entry))) (offset .0) (now (basis .entry)) (now (word .entry)) (challenge .0) ⌝ }
+{
+    let step = elements.len();
+    let size = 1 << step;
+    let inverses = inverses_of(elements);
+    let challenges = coset::before(elements, challenge);
+    let span = span_of(&basis[..step]);
+    fill_cosets(
+        &inverses[..step],
+        &challenges[..step],
+        &span[..size],
+        offset,
+        &basis[step..],
+        word,
+        values,
+    );
+}
+
+// One value for each coset.
+fn fill_cosets(
+    inverses: &[u64],
+    challenges: &[u64],
+    span: &[u64],
+    offset: Element,
+    others: &[u64],
+    word: &[u64],
+    values: &mut [u64],
+)
+    requires { ⌜ (1 ≤ length (now inverses)) × (length (now inverses) ≤ 3) × (length (now challenges) ≡ length (now inverses))
+        × (length (now span) ≡ 2 ^ length (now inverses)) × (length (now others) ≤ 20) × (length (now values) ≡ 2 ^ length (now others))
+        × (length (now word) ≡ length (now values) * length (now span)) ⌝ }
+    ensures { λ _. ⌜ now (values .exit) ≡ cosetValues (now (inverses .entry)) (now (challenges .entry)) (now (span .entry)) (offset .0) (now (others .entry)) (now (word .entry)) ⌝ }
+{
+    let sums = coset::prefix_sums(others);
+    let mut first = offset;
+    let mut j: usize = 0;
+    while j < values.len() {
+        let start = j * span.len();
+        let coset = Coset::read(span, first, &word[start..start + span.len()]);
+        values[j] = coset.value_at(inverses, challenges).0;
+        j += 1;
+        first = coset::stepped(&sums, first, j);
+    }
+}
+
+// The inverses of at most three elements, and zeros: all that a fold inverts, whatever the number of cosets.
+fn inverses_of(elements: &[u64]) -> [u64; 3]
+    requires { ⌜ length (now elements) ≤ 3 ⌝ }
+    ensures { λ r. ⌜ r ≡ padded gf64 3 (map inverse (now (elements .entry))) ⌝ }
+{
+    let mut inverses = [0u64; 3];
+    let mut t: usize = 0;
+    while t < elements.len() {
+        inverses[t] = Element(elements[t]).inverse_or_zero().0;
+        t += 1;
+    }
+    inverses
+}
+
+// The span of at most three elements in point order, and zeros.
+fn span_of(basis: &[u64]) -> [u64; 8]
+    requires { ⌜ length (now basis) ≤ 3 ⌝ }
+    ensures { λ r. ⌜ r ≡ padded gf64 8 (points 0 (now (basis .entry))) ⌝ }
+{
+    let size = 1 << basis.len();
+    let mut span = [0u64; 8];
+    let mut i: usize = 0;
+    while i < size {
+        span[i] = coset::point(Element::ZERO, basis, i).0;
+        i += 1;
+    }
+    span
+}

@@ -1,13 +1,13 @@
 -- A list that is being filled from the front: j entries of the target, and after them those it held before. Assumes nothing.
-use mathlib.Core.Path.{_≡_, refl, sym, ap, _∙_}
+use mathlib.Core.Path.{_≡_, refl, sym, ap, ap₂, _∙_}
 use mathlib.Core.List.{List, [], _∷_, _++_, map}
 use mathlib.Core.Logic.{_⊎_, inl, inr, ⊎-elim}
 use Prim.Native.Nat.{ℕ, zero, suc, _+_, _-_, _≤_, _<_}
 use native.Mathlib.Nat.{le-trans}
 use native.Mathlib.Numerals.{add-one}
 use native.Mathlib.Omega.{arith}
-use lib.ListN.{length, getD, take, drop, set, replicate, length-replicate, List·getD-eq-default}
-use lib.Seq.{ext-getD, take-append-seam}
+use lib.ListN.{length, getD, take, drop, set, replicate, length-replicate, length-append, length-drop, List·getD-eq-default, List·getD-append}
+use lib.Seq.{ext-getD, take-append-seam, take-at, take-append-le, length-take-le, getD-append-add, getD-drop}
 use Rattle.poly.specs.Carrier.{gf64}
 use Rattle.poly.specs.Polynomial.{padded}
 use Rattle.poly.proofs.Evaluation.{length-padded}
@@ -111,3 +111,45 @@ filled-padded n p j h l =
 pub take-padded : (n : ℕ) (p : List ℕ) → take (length p) (padded gf64 n p) ≡ p
 unfolding padded
 take-padded n p = take-append-seam p (replicate (n - length p) 0)
+
+-- the entries before the zeros
+pub padded-taken : (n m : ℕ) (p held : List ℕ) → held ≡ padded gf64 n p → length p ≡ m → take m held ≡ p
+padded-taken n m p held e l = ap₂ take (sym l) e ∙ take-padded n p
+
+pub padded-next : (n : ℕ) (p : List ℕ) (j v : ℕ) → j < length p → length p ≤ n → v ≡ getD p j 0
+    → set (filled (padded gf64 n p) (replicate n 0) j) j v ≡ filled (padded gf64 n p) (replicate n 0) (j + 1)
+padded-next n p j v h l e =
+    filled-next (padded gf64 n p) (replicate n 0) j v (omega (arith, length-replicate {A = ℕ} n 0)) (length-padded gf64 n p l ∙ sym (length-replicate n 0))
+    (e ∙ sym (getD-padded n p j))
+
+-- its first j entries
+pub take-filled : (n : ℕ) (p : List ℕ) (j : ℕ) → j ≤ length p → length p ≤ n → take j (filled (padded gf64 n p) (replicate n 0) j) ≡ take j p
+unfolding filled padded
+take-filled n p j h l =
+    take-at (take j (padded gf64 n p)) (drop j (replicate n 0)) j (length-take-le j (padded gf64 n p) (omega (arith, length-padded gf64 n p l)))
+    ∙ take-append-le j p (replicate (n - length p) 0) h
+
+-- ---- the front of a list that may be longer
+
+length-front : (front held : List ℕ) → length front ≤ length held → length (front ++ drop (length front) held) ≡ length held
+length-front front held h = length-append front (drop (length front) held) ∙ omega (arith, length-drop (length front) held)
+
+pub front-next : (front held : List ℕ) (i v : ℕ) → i < length front → length front ≤ length held → v ≡ getD front i 0
+    → set (filled (front ++ drop (length front) held) held i) i v ≡ filled (front ++ drop (length front) held) held (i + 1)
+front-next front held i v h l e =
+    filled-next (front ++ drop (length front) held) held i v (omega arith) (length-front front held l)
+    (e ∙ sym (List·getD-append front (drop (length front) held) 0 i h))
+
+pub front-done : (front held : List ℕ) (i : ℕ) → length front ≤ i → length front ≤ length held
+    → filled (front ++ drop (length front) held) held i ≡ front ++ drop (length front) held
+front-done front held i h l =
+    filled-done (front ++ drop (length front) held) held i (length-front front held l) (λ n k. at n (le-trans h k))
+  where
+    at : (n : ℕ) → length front ≤ n → getD (front ++ drop (length front) held) n 0 ≡ getD held n 0
+    at n k =
+        ap (λ (m : ℕ). getD (front ++ drop (length front) held) m 0) (sym whole)
+        ∙ getD-append-add front (drop (length front) held) (n - length front) 0
+        ∙ getD-drop (length front) held (n - length front) 0 ∙ ap (λ (m : ℕ). getD held m 0) whole
+      where
+        whole : length front + (n - length front) ≡ n
+        whole = omega arith

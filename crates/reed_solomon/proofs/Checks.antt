@@ -1,10 +1,9 @@
 -- The order of the refusals, one check after the other, and what holds where all have passed. Assumes nothing.
-use mathlib.Core.Path.{_≡_, refl, sym, ap, ap₂, _∙_, subst}
-use mathlib.Core.Bool.{Bool, true, false, cond, not}
+use mathlib.Core.Path.{_≡_, refl, sym, ap, ap₂, _∙_}
+use mathlib.Core.Bool.{Bool, true, false, cond}
 use mathlib.Core.List.{List}
 use Prim.Native.Nat.{ℕ, _^_, _≤_, _<_}
-use native.Mathlib.Omega.{arith}
-use lib.Dec.{T, leb, eqb, leb→le, eqb→eq}
+use lib.Dec.{leb}
 use lib.ListN.{length}
 use borrow.Author.Tests.{le-leb, lt-leb}
 use Rattle.refusal.specs.declared.Cause.{Cause}
@@ -14,15 +13,10 @@ use Rattle.refusal.specs.declared.Outcome.the-variants.{Done, Refused}
 use Rattle.refusal.specs.declared.Position.{Position}
 use Rattle.refusal.specs.declared.Position.the-variants.{At, Absent}
 use Rattle.coset.specs.Span.{firstDependent, Independent}
-use Rattle.reed_solomon.specs.Answers.{outcomeOfBasis, checked, afterwards}
-
-pub not-true : (a : Bool) → not a ≡ true → a ≡ false
-not-true true e = sym e
-not-true false e = refl
-
-pub not-false : (a : Bool) → not a ≡ false → a ≡ true
-not-false true e = refl
-not-false false e = sym e
+use Rattle.refusal.specs.Checks.{afterwards}
+use Rattle.refusal.proofs.Checks.{le-of-test, refused-not-done, done-holds, refused-holds}
+use Rattle.coset.specs.Answers.{outcomeOfBasis}
+use Rattle.reed_solomon.specs.Answers.{checked}
 
 -- the checks as a function of their results
 unfoldable picked : Bool → Bool → Bool → Outcome → Outcome
@@ -52,21 +46,12 @@ module _ (basis : List ℕ) (fits3 fits6 : Bool) where
       (ap₂ (λ (k a : Bool). picked k a fits6 (outcomeOfBasis (firstDependent basis))) (le-leb (length basis) 12 h) e
       ∙ ap (λ (b : Bool). picked true true b (outcomeOfBasis (firstDependent basis))) f)
 
-pub equal-of-test : (m n : ℕ) → eqb m n ≡ true → m ≡ n
-equal-of-test m n e = eqb→eq m n (subst T (sym e) tt)
-
-pub le-of-test : (m n : ℕ) → leb m n ≡ true → m ≤ n
-le-of-test m n e = leb→le m n (subst T (sym e) tt)
-
 -- where all have passed
 pub record Passed (basis : List ℕ) (fits3 fits6 : Bool) : Type 0 where
   pub small : length basis ≤ 12
   pub list3 : fits3 ≡ true
   pub list6 : fits6 ≡ true
   pub independent : Independent basis
-
-refused-not-done : (cause : Cause) → Refused cause ≡ Done → ⊥
-refused-not-done cause e = let impossible : _≡_ {A = ℕ} 0 1 = cc in omega arith
 
 pub passed : (basis : List ℕ) (fits3 fits6 : Bool) → checked basis fits3 fits6 ≡ Done → Passed basis fits3 fits6
 unfolding picked
@@ -102,8 +87,8 @@ passes basis fits3 fits6 h e f d = sym (basis-looked-at basis fits3 fits6 h e f)
 -- both clauses where it is done, and where it is refused
 pub done-both : (outcome : Outcome) (wanted held held′ : List ℕ) → outcome ≡ Done → held′ ≡ wanted
     → (Done ≡ outcome) × (held′ ≡ afterwards outcome wanted held)
-done-both outcome wanted held held′ e w = (sym e, w ∙ sym (ap (λ (o : Outcome). afterwards o wanted held) e))
+done-both outcome wanted held held′ e w = (sym e, done-holds outcome wanted held held′ e w)
 
 pub refused-both : (outcome : Outcome) (cause : Cause) (wanted held : List ℕ) → outcome ≡ Refused cause
     → (Refused cause ≡ outcome) × (held ≡ afterwards outcome wanted held)
-refused-both outcome cause wanted held e = (sym e, sym (ap (λ (o : Outcome). afterwards o wanted held) e))
+refused-both outcome cause wanted held e = (sym e, refused-holds outcome cause wanted held e)

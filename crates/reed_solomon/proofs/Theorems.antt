@@ -15,12 +15,14 @@ use Rattle.coset.specs.Span.{Independent}
 use Rattle.coset.proofs.Points.{length-points, points-distinct, points-elements}
 use Rattle.reed_solomon.specs.Codes.{encoded, interpolated, WordDegreeBelow}
 use Rattle.reed_solomon.specs.Theorems.{RoundTrips, Accepted, Told, Refusals, Encoding}
-use Rattle.reed_solomon.specs.Answers.{outcomeOfBasis, checked}
+use Rattle.reed_solomon.specs.Answers.{checked}
+use Rattle.coset.specs.Answers.{outcomeOfBasis}
 use Rattle.refusal.specs.declared.Cause.the-variants.{DimensionOutOfRange, BasisDependent, WrongLength}
 use Rattle.refusal.specs.declared.Outcome.{Outcome}
 use Rattle.refusal.specs.declared.Outcome.the-variants.{Done, Refused}
 use Rattle.refusal.specs.Numbers.{numberOfOutcome, placeOfOutcome}
-use Rattle.reed_solomon.proofs.Checks.{dimension-refused, list3-refused, list6-refused, basis-looked-at, passed, passes, equal-of-test, le-of-test}
+use Rattle.reed_solomon.proofs.Checks.{dimension-refused, list3-refused, list6-refused, basis-looked-at, passed, passes}
+use Rattle.refusal.proofs.Checks.{equal-of-test, le-of-test}
 use lib.Dec.{leb, eqb}
 use borrow.Author.Tests.{le-leb, eq-eqb}
 use Rattle.reed_solomon.proofs.Values.{length-encoded, encoded-getD}

@@ -1,26 +1,15 @@
 -- What encoding and interpolation answer, and what the lent list holds afterwards. The dimension k is the length of the basis.
-use mathlib.Core.Bool.{Bool, cond}
+use mathlib.Core.Bool.{Bool}
 use mathlib.Core.List.{List}
 use Prim.Native.Nat.{ℕ, _^_}
 use lib.Dec.{leb, eqb}
 use lib.ListN.{length}
-use Rattle.refusal.specs.declared.Cause.{Cause}
-use Rattle.refusal.specs.declared.Cause.the-variants.{DimensionOutOfRange, BasisDependent, WrongLength}
+use Rattle.refusal.specs.declared.Cause.the-variants.{DimensionOutOfRange, WrongLength}
 use Rattle.refusal.specs.declared.Outcome.{Outcome}
-use Rattle.refusal.specs.declared.Outcome.the-variants.{Done, Refused}
-use Rattle.refusal.specs.declared.Position.{Position}
-use Rattle.refusal.specs.declared.Position.the-variants.{At, Absent}
+use Rattle.refusal.specs.Checks.{refusedUnless, afterwards}
 use Rattle.coset.specs.Span.{firstDependent}
+use Rattle.coset.specs.Answers.{outcomeOfBasis}
 use Rattle.reed_solomon.specs.Codes.{encoded, interpolated}
-
--- a dependent basis is refused at its first dependent place
-abbrev pub outcomeOfBasis : Position → Outcome
-outcomeOfBasis (At place) = Refused (BasisDependent place)
-outcomeOfBasis Absent = Done
-
--- refused with the cause unless the test holds, and then as the checks after it say
-abbrev pub refusedUnless : Bool → Cause → Outcome → Outcome
-refusedUnless holds cause after = cond holds after (Refused cause)
 
 -- in the order of document 01: k over 12 (number 4); the lowest list that does not fit, 3 or 6 (13); a dependent basis (8)
 abbrev pub checked : List ℕ → Bool → Bool → Outcome
@@ -39,11 +28,6 @@ encodeOutcome basis coefficients values =
 abbrev pub interpolateOutcome : List ℕ → List ℕ → List ℕ → Outcome
 interpolateOutcome basis word coefficients =
     checked basis (eqb (length word) (2 ^ length basis)) (eqb (length coefficients) (2 ^ length basis))
-
--- what the lent list holds afterwards: what was asked for, or, after a refusal, what it held
-abbrev pub afterwards : Outcome → List ℕ → List ℕ → List ℕ
-afterwards Done wanted held = wanted
-afterwards (Refused cause) wanted held = held
 
 -- what the list of values holds after encoding
 abbrev pub valuesAfter : ℕ → List ℕ → List ℕ → List ℕ → List ℕ

@@ -2,7 +2,6 @@
 use field::Element;
 use refusal::Cause;
 use refusal::Outcome;
-use refusal::Position;
 ghost use mathlib.Core.Path.{_≡_};
 ghost use mathlib.Core.Bool.{cond};
 ghost use Prim.Native.Nat.{_^_, _≤_};
@@ -74,11 +73,7 @@ fn checked(basis: &[u64], fits3: bool, fits6: bool) -> Outcome
     if !fits6 {
         return Outcome::Refused(Cause::WrongLength { list: 6 });
     }
-    let dependent = coset::first_dependent(basis);
-    match dependent {
-        Position::At(place) => Outcome::Refused(Cause::BasisDependent { place }),
-        Position::Absent => Outcome::Done,
-    }
+    coset::checked_basis(basis)
 }
 
 fn fill_values(offset: Element, basis: &[u64], coefficients: &[u64], values: &mut [u64])

@@ -6,7 +6,8 @@ use lib.Dec.{leb, eqb}
 use Rattle.refusal.specs.declared.Outcome.the-variants.{Done}
 use Rattle.reed_solomon.specs.Codes.{encoded}
 use Rattle.reed_solomon.specs.Answers.{encodeOutcome}
-use Rattle.reed_solomon.proofs.Checks.{passed, answered-by-size, equal-of-test, done-both, refused-both}
+use Rattle.reed_solomon.proofs.Checks.{passed, answered-by-size, done-both, refused-both}
+use Rattle.refusal.proofs.Checks.{equal-of-test}
 use borrow.Author.Needs.{needs}
 use Rattle.reed_solomon.proofs.encode.Statement.{statement}
 use Rattle.reed_solomon.proofs.encode.Tie as tie

@@ -12,7 +12,8 @@ use Rattle.poly.proofs.Filling.{filled, filled-start, filled-next, filled-all}
 use Rattle.coset.specs.Coset.{point}
 use Rattle.coset.proofs.Dependence.{point-first}
 use Rattle.reed_solomon.specs.Codes.{encoded}
-use Rattle.reed_solomon.proofs.Values.{point-stepped, length-encoded, encoded-getD}
+use Rattle.reed_solomon.proofs.Values.{length-encoded, encoded-getD}
+use Rattle.coset.proofs.Sequence.{point-stepped}
 use borrow.Author.Needs.{needs}
 use native.Mathlib.Omega.{arith}
 use Rattle.reed_solomon.proofs.fill_values.Statement.{statement}
@@ -74,7 +75,7 @@ loop-again c =
       length-set (l .values) (l .j) (c .before .before .evaluate .result .0) ∙ l .inv .2,
       λ h. c .stepped .ensures
           ∙ ap (λ (sums : List ℕ). sum (l .x .0) (getD sums (trailingZeros 64 (l .j + 1)) 0)) (c .before .before .before .before .before .prefix-sums .ensures)
-          ∙ point-stepped (a .offset .0) (a .basis .now) (l .j) (l .x .0) (start .pre .0) (l .inv .3 inside) (omega (arith, start .pre .1)),
+          ∙ point-stepped (a .offset .0) (a .basis .now) (l .j) (l .x .0) (omega (arith, start .pre .0)) (l .inv .3 inside) (omega (arith, start .pre .1)),
     )
 
 same-length : tie.Need-same-length Inv-loop μ-loop

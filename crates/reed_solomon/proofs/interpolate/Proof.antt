@@ -12,7 +12,8 @@ use Rattle.coset.proofs.Points.{length-points}
 use Rattle.refusal.specs.declared.Outcome.the-variants.{Done}
 use Rattle.reed_solomon.specs.Codes.{interpolated}
 use Rattle.reed_solomon.specs.Answers.{interpolateOutcome}
-use Rattle.reed_solomon.proofs.Checks.{passed, answered-by-size, equal-of-test, done-both, refused-both}
+use Rattle.reed_solomon.proofs.Checks.{passed, answered-by-size, done-both, refused-both}
+use Rattle.refusal.proofs.Checks.{equal-of-test}
 use Rattle.reed_solomon.proofs.Interpolating.{expanded-interpolated}
 use borrow.Author.Needs.{needs}
 use native.Mathlib.Omega.{arith}

@@ -11,7 +11,7 @@ use Rattle.poly.specs.Newton.{newtonValue, vanishing}
 use Rattle.coset.specs.Coset.{point, points}
 use Rattle.coset.proofs.Dependence.{point-first}
 use Rattle.coset.proofs.Points.{length-points, getD-points}
-use Rattle.reed_solomon.proofs.Values.{point-stepped}
+use Rattle.coset.proofs.Sequence.{point-stepped}
 use Rattle.reed_solomon.proofs.NewtonSteps.{value-next, vanishing-next, coefficient-end}
 use borrow.Author.Needs.{needs}
 use native.Mathlib.Omega.{arith}
@@ -83,7 +83,7 @@ loop-again c =
           ∙ vanishing-next (points (a .offset .0) (a .basis .now)) (l .j) (a .z .0) (l .vanishing .0) among (l .inv .2),
       λ h. c .stepped .ensures
           ∙ ap (λ (sums : List ℕ). sum (l .x .0) (getD sums (trailingZeros 64 (l .j + 1)) 0)) (c .before .before .before .before .before .before .before .before .before .prefix-sums .ensures)
-          ∙ point-stepped (a .offset .0) (a .basis .now) (l .j) (l .x .0) (start .pre .0) (l .inv .3 inside) (omega (arith, start .pre .1)),
+          ∙ point-stepped (a .offset .0) (a .basis .now) (l .j) (l .x .0) (omega (arith, start .pre .0)) (l .inv .3 inside) (omega (arith, start .pre .1)),
     )
 
 sum-requires-3 : tie.Need-sum-requires-3 Inv-loop μ-loop

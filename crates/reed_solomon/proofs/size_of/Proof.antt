@@ -2,13 +2,10 @@
 use mathlib.Core.Path.{sym, ap, _∙_}
 use mathlib.Core.Bool.{Bool, cond}
 use Prim.Native.Nat.{_^_}
-use native.Mathlib.Nat.{one-mul}
-use lib.Dec.{lit<}
-use lib.Pow.{shl-exact}
+use Rattle.coset.proofs.Sizes.{size-shifted}
 use borrow.Author.Tests.{le-leb, lt-leb}
 use borrow.Author.Needs.{needs}
 use native.Mathlib.Omega.{arith}
-use borrow.Author.Needs.{needs}
 use Rattle.reed_solomon.proofs.size_of.Statement.{statement}
 use Rattle.reed_solomon.proofs.size_of.Tie as tie
 
@@ -17,7 +14,7 @@ shl-result c = search needs
 
 returns : tie.Need-returns
 returns c =
-    shl-exact 1 (c .before .args .k) 64 (lit< tt) (omega arith) ∙ one-mul (2 ^ c .before .args .k)
+    size-shifted (c .before .args .k) (omega arith)
     ∙ sym (ap (λ (b : Bool). cond b (2 ^ c .before .args .k) 0) (le-leb (c .before .args .k) 12 (c .if1 .taken)))
 
 returns-2 : tie.Need-returns-2

@@ -1,7 +1,7 @@
 -- Halving a coset until one entry is left gives the value of its interpolant at the challenge. Assumes nothing.
 use mathlib.Core.Path.{_≡_, refl, sym, ap, ap₂, _∙_, subst}
 use mathlib.Core.List.{List, [], _∷_, map}
-use Prim.Native.Nat.{ℕ, zero, suc, _+_, _*_, _-_, _/_, _%_, _^_, _<_, _≤_}
+use Prim.Native.Nat.{ℕ, zero, suc, _+_, _*_, _-_, _^_, _<_, _≤_}
 use native.Mathlib.Nat.{pow-suc, le-of-eq, zero-add}
 use native.Mathlib.Omega.{arith}
 use lib.ListN.{length, getD, take, drop, length-map, length-drop}
@@ -9,13 +9,12 @@ use lib.Seq.{length-take-le, drop-cons, ext-getD}
 use lib.Bits.{bitXor, xor-comm, xor-self, xor-zero-r}
 use Rattle.gf64.specs.Field.{IsElement, sum, product, inverse}
 use Rattle.gf64.proofs.Ring.{product-comm, product-zero-r}
-use Rattle.gf64.proofs.Xor.{xor-assoc, xor-cancel}
+use Rattle.gf64.proofs.Xor.{xor-assoc}
 use Rattle.poly.specs.Carrier.{gf64}
 use Rattle.poly.proofs.AtField.{gf64-laws}
 use Rattle.poly.proofs.Evaluation.{evaluate-timesLinear}
-use Rattle.poly.specs.Polynomial.{All, evaluate, plus, scale, timesLinear, dividedDifferences, interpolant}
+use Rattle.poly.specs.Polynomial.{All, evaluate, dividedDifferences, interpolant}
 use Rattle.coset.specs.Coset.{point, tabulated, points}
-use Rattle.coset.specs.Span.{Independent}
 use Rattle.coset.specs.Subspace.{nextOffset, nextBasis, image}
 use Rattle.coset.specs.Steps.{oneStep, through, stepElements, before}
 use Rattle.coset.proofs.Points.{point-even, point-odd, point-image, point-element, point-parted, getD-points, length-tabulated, getD-tabulated, tabulated-agree}
@@ -45,6 +44,10 @@ two-points p p′ u v x =
   where
     slope : ℕ
     slope = product (inverse (bitXor p′ p)) (bitXor v u)
+
+pub line-is : (i x p u v : ℕ) → sum u (product (sum x p) (product (sum u v) i)) ≡ lineAt i x p u v
+unfolding lineAt
+line-is i x p u v = refl
 
 -- ---- folding with step 1 is halving
 

@@ -1,0 +1,66 @@
+-- `coset::through` meets its contract. The loop's invariant: y through the maps that are left is x through all. Assumes nothing.
+use mathlib.Core.Path.{_≡_, refl, sym, ap, _∙_}
+use Prim.Native.Nat.{_+_, _-_, _≤_}
+use lib.ListN.{length, drop}
+use Rattle.gf64.specs.Field.{product}
+use Rattle.coset.specs.Steps.{through}
+use Rattle.coset.proofs.Steps.{through-next, through-end}
+use borrow.Author.Needs.{needs}
+use native.Mathlib.Omega.{arith}
+use Rattle.coset.proofs.through.Statement.{statement}
+use Rattle.coset.proofs.through.Tie as tie
+
+abbrev Inv-loop : tie.InvT-loop
+Inv-loop elements y₀ t₀ y t = (t ≤ length elements) × (through (drop t elements) (y .0) ≡ through elements (y₀ .0))
+
+abbrev μ-loop : tie.MeasureT-loop
+μ-loop elements y₀ t₀ y t = length elements - t
+
+loop-holds : tie.Need-loop-holds Inv-loop μ-loop
+loop-holds c = (search needs, refl)
+
+mul-t5 : tie.Need-mul-t5 Inv-loop μ-loop
+mul-t5 c = search needs
+
+shared-slice-read-t9 : tie.Need-shared-slice-read-t9 Inv-loop μ-loop
+shared-slice-read-t9 c = search needs
+
+sum-requires : tie.Need-sum-requires Inv-loop μ-loop
+sum-requires c κs = search needs
+
+product-requires : tie.Need-product-requires Inv-loop μ-loop
+product-requires c κs = search needs
+
+add-t : tie.Need-add-t Inv-loop μ-loop
+add-t c = search needs
+
+loop-less : tie.Need-loop-less Inv-loop μ-loop
+loop-less c = search needs
+
+loop-again : tie.Need-loop-again Inv-loop μ-loop
+loop-again c =
+    let elements = c .before .before .before .before .before .before .args .elements .now in
+    let l = c .before .before .before .before .loop in
+    (search needs, ap (through (drop (l .t + 1) elements)) (c .product .ensures .0 ∙ ap (product (l .y .0)) (c .before .sum .ensures)) ∙ through-next elements (l .t) (l .y .0) (omega arith) ∙ l .inv .1)
+
+returns : tie.Need-returns Inv-loop μ-loop
+returns c =
+    let elements = c .before .before .before .args .elements .now in
+    let l = c .before .loop in
+    sym (through-end elements (l .t) (l .y .0) (c .loop-test .left)) ∙ l .inv .1
+
+pub through-spec : {M : Type 1} → statement M
+through-spec =
+    tie.close
+    (tie.spec
+    Inv-loop
+    μ-loop
+    loop-holds
+    mul-t5
+    shared-slice-read-t9
+    sum-requires
+    product-requires
+    add-t
+    loop-less
+    loop-again
+    returns)

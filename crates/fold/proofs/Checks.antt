@@ -1,0 +1,188 @@
+-- The refusals of a lone fold, one check after the other, and what holds where all have passed. Assumes nothing.
+use mathlib.Core.Path.{_≡_, refl, sym, ap, _∙_, subst}
+use mathlib.Core.Bool.{true, false, _&&_}
+use mathlib.Core.List.{List}
+use Prim.Native.Nat.{ℕ, _-_, _^_, _≤_}
+use lib.Dec.{leb, eqb}
+use lib.ListN.{length}
+use Rattle.refusal.specs.declared.Cause.the-variants.{DimensionOutOfRange, StepOutOfRange, DimensionTooSmall, WrongLength, BasisDependent}
+use Rattle.refusal.specs.declared.Outcome.{Outcome}
+use Rattle.refusal.specs.declared.Outcome.the-variants.{Done, Refused}
+use Rattle.refusal.specs.declared.Position.{Position}
+use Rattle.refusal.specs.declared.Position.the-variants.{At, Absent}
+use Rattle.refusal.specs.declared.Cause.{Cause}
+use Rattle.refusal.specs.Checks.{refusedUnless, andThen, afterwards}
+use Rattle.refusal.proofs.Checks.{refused-not-done, equal-of-test, le-of-test, passed-by, refused-by, unless-done, then-done, each-true, done-holds, refused-holds}
+use Rattle.field.specs.declared.Element.{Element}
+use Rattle.coset.specs.Answers.{outcomeOfBasis}
+use Rattle.coset.specs.Span.{firstDependent, Independent}
+use Rattle.coset.specs.Subspace.{nextBasis}
+use Rattle.fold.specs.declared.Folded.the-variants as folded
+use Rattle.fold.specs.Answers.{rangesOutcome, lengthsOutcome, outcomeOfNextBasis, basesOutcome, foldOutcome, answerOf}
+
+-- ---- ranges
+
+module _ (k step : ℕ) where
+  abbrev smallEnough : Outcome
+  smallEnough = refusedUnless (leb step k) DimensionTooSmall Done
+
+  abbrev stepChecked : Outcome
+  stepChecked = refusedUnless (leb 1 step && leb step 3) StepOutOfRange smallEnough
+
+  pub dimension-refused : (leb 2 k && leb k 20) ≡ false → Refused DimensionOutOfRange ≡ rangesOutcome k step
+  dimension-refused e = refused-by (leb 2 k && leb k 20) DimensionOutOfRange stepChecked e
+
+  pub step-refused : (leb 2 k && leb k 20) ≡ true → (leb 1 step && leb step 3) ≡ false → Refused StepOutOfRange ≡ rangesOutcome k step
+  step-refused e f =
+      refused-by (leb 1 step && leb step 3) StepOutOfRange smallEnough f
+      ∙ passed-by (leb 2 k && leb k 20) DimensionOutOfRange stepChecked e
+
+  pub too-small-refused : (leb 2 k && leb k 20) ≡ true → (leb 1 step && leb step 3) ≡ true → leb step k ≡ false
+      → Refused DimensionTooSmall ≡ rangesOutcome k step
+  too-small-refused e f g =
+      refused-by (leb step k) DimensionTooSmall Done g
+      ∙ passed-by (leb 1 step && leb step 3) StepOutOfRange smallEnough f
+      ∙ passed-by (leb 2 k && leb k 20) DimensionOutOfRange stepChecked e
+
+  pub ranges-pass : (leb 2 k && leb k 20) ≡ true → (leb 1 step && leb step 3) ≡ true → leb step k ≡ true → Done ≡ rangesOutcome k step
+  ranges-pass e f g =
+      passed-by (leb step k) DimensionTooSmall Done g
+      ∙ passed-by (leb 1 step && leb step 3) StepOutOfRange smallEnough f
+      ∙ passed-by (leb 2 k && leb k 20) DimensionOutOfRange stepChecked e
+
+pub record InRange (k step : ℕ) : Type 0 where
+  pub at-least-2 : 2 ≤ k
+  pub at-most-20 : k ≤ 20
+  pub step-at-least-1 : 1 ≤ step
+  pub step-at-most-3 : step ≤ 3
+  pub step-fits : step ≤ k
+
+pub in-range : (k step : ℕ) → rangesOutcome k step ≡ Done → InRange k step
+in-range k step e =
+    let first = unless-done (leb 2 k && leb k 20) DimensionOutOfRange (stepChecked k step) e in
+    let second = unless-done (leb 1 step && leb step 3) StepOutOfRange (smallEnough k step) (first .1) in
+    let third = unless-done (leb step k) DimensionTooSmall Done (second .1) in
+    let ks = each-true (leb 2 k) (leb k 20) (first .0) in
+    let steps = each-true (leb 1 step) (leb step 3) (second .0) in
+    record {
+      at-least-2 = le-of-test 2 k (ks .0);
+      at-most-20 = le-of-test k 20 (ks .1);
+      step-at-least-1 = le-of-test 1 step (steps .0);
+      step-at-most-3 = le-of-test step 3 (steps .1);
+      step-fits = le-of-test step k (third .0);
+    }
+
+-- ---- lengths
+
+module _ (k step list1 list3 list6 list7 : ℕ) where
+  abbrev after6 : Outcome
+  after6 = refusedUnless (eqb list7 (k - step)) (WrongLength 7) Done
+
+  abbrev after3 : Outcome
+  after3 = refusedUnless (eqb list6 (2 ^ (k - step))) (WrongLength 6) after6
+
+  abbrev after1 : Outcome
+  after1 = refusedUnless (eqb list3 (2 ^ k)) (WrongLength 3) after3
+
+  pub list1-refused : eqb list1 k ≡ false → Refused (WrongLength 1) ≡ lengthsOutcome k step list1 list3 list6 list7
+  list1-refused e = refused-by (eqb list1 k) (WrongLength 1) after1 e
+
+  list1-passed : eqb list1 k ≡ true → after1 ≡ lengthsOutcome k step list1 list3 list6 list7
+  list1-passed e = passed-by (eqb list1 k) (WrongLength 1) after1 e
+
+  pub list3-refused : eqb list1 k ≡ true → eqb list3 (2 ^ k) ≡ false → Refused (WrongLength 3) ≡ lengthsOutcome k step list1 list3 list6 list7
+  list3-refused e f = refused-by (eqb list3 (2 ^ k)) (WrongLength 3) after3 f ∙ list1-passed e
+
+  list3-passed : eqb list1 k ≡ true → eqb list3 (2 ^ k) ≡ true → after3 ≡ lengthsOutcome k step list1 list3 list6 list7
+  list3-passed e f = passed-by (eqb list3 (2 ^ k)) (WrongLength 3) after3 f ∙ list1-passed e
+
+  pub list6-refused : eqb list1 k ≡ true → eqb list3 (2 ^ k) ≡ true → eqb list6 (2 ^ (k - step)) ≡ false
+      → Refused (WrongLength 6) ≡ lengthsOutcome k step list1 list3 list6 list7
+  list6-refused e f g = refused-by (eqb list6 (2 ^ (k - step))) (WrongLength 6) after6 g ∙ list3-passed e f
+
+  list6-passed : eqb list1 k ≡ true → eqb list3 (2 ^ k) ≡ true → eqb list6 (2 ^ (k - step)) ≡ true
+      → after6 ≡ lengthsOutcome k step list1 list3 list6 list7
+  list6-passed e f g = passed-by (eqb list6 (2 ^ (k - step))) (WrongLength 6) after6 g ∙ list3-passed e f
+
+  pub list7-refused : eqb list1 k ≡ true → eqb list3 (2 ^ k) ≡ true → eqb list6 (2 ^ (k - step)) ≡ true → eqb list7 (k - step) ≡ false
+      → Refused (WrongLength 7) ≡ lengthsOutcome k step list1 list3 list6 list7
+  list7-refused e f g h = refused-by (eqb list7 (k - step)) (WrongLength 7) Done h ∙ list6-passed e f g
+
+  pub lengths-pass : eqb list1 k ≡ true → eqb list3 (2 ^ k) ≡ true → eqb list6 (2 ^ (k - step)) ≡ true → eqb list7 (k - step) ≡ true
+      → Done ≡ lengthsOutcome k step list1 list3 list6 list7
+  lengths-pass e f g h = passed-by (eqb list7 (k - step)) (WrongLength 7) Done h ∙ list6-passed e f g
+
+pub record Fitting (k step list1 list3 list6 list7 : ℕ) : Type 0 where
+  pub list1-fits : list1 ≡ k
+  pub list3-fits : list3 ≡ 2 ^ k
+  pub list6-fits : list6 ≡ 2 ^ (k - step)
+  pub list7-fits : list7 ≡ k - step
+
+pub fitting : (k step list1 list3 list6 list7 : ℕ) → lengthsOutcome k step list1 list3 list6 list7 ≡ Done → Fitting k step list1 list3 list6 list7
+fitting k step list1 list3 list6 list7 e =
+    let first = unless-done (eqb list1 k) (WrongLength 1) (after1 k step list1 list3 list6 list7) e in
+    let second = unless-done (eqb list3 (2 ^ k)) (WrongLength 3) (after3 k step list1 list3 list6 list7) (first .1) in
+    let third = unless-done (eqb list6 (2 ^ (k - step))) (WrongLength 6) (after6 k step list1 list3 list6 list7) (second .1) in
+    let fourth = unless-done (eqb list7 (k - step)) (WrongLength 7) Done (third .1) in
+    record {
+      list1-fits = equal-of-test list1 k (first .0);
+      list3-fits = equal-of-test list3 (2 ^ k) (second .0);
+      list6-fits = equal-of-test list6 (2 ^ (k - step)) (third .0);
+      list7-fits = equal-of-test list7 (k - step) (fourth .0);
+    }
+
+-- ---- all checks
+
+independent-of : (p : Position) → outcomeOfBasis p ≡ Done → p ≡ Absent
+independent-of (At place) e = absurd (refused-not-done (BasisDependent place) e)
+independent-of Absent e = refl
+
+pub record Passed (k step : ℕ) (basis word values next : List ℕ) : Type 0 where
+  pub ranges : InRange k step
+  pub lengths : Fitting k step (length basis) (length word) (length values) (length next)
+  pub independent : Independent basis
+
+pub passed : (k step : ℕ) (basis word values next : List ℕ) → foldOutcome k step basis word values next ≡ Done → Passed k step basis word values next
+passed k step basis word values next e =
+    let lengths = lengthsOutcome k step (length basis) (length word) (length values) (length next) in
+    let first = then-done (rangesOutcome k step) (andThen lengths (basesOutcome step basis)) e in
+    let second = then-done lengths (basesOutcome step basis) (first .1) in
+    let third = then-done (outcomeOfBasis (firstDependent basis)) (outcomeOfNextBasis (firstDependent (nextBasis step basis))) (second .1) in
+    record {
+      ranges = in-range k step (first .0);
+      lengths = fitting k step (length basis) (length word) (length values) (length next) (second .0);
+      independent = independent-of (firstDependent basis) (third .0);
+    }
+
+-- ---- the three clauses
+
+-- what holds where all checks pass, as the code asks for it
+pub passed-facts : (k step : ℕ) (basis word values next : List ℕ) → Passed k step basis word values next
+    → (1 ≤ step) × (step ≤ 3) × (step ≤ length basis) × (length basis ≤ 20) × Independent basis
+    × (length word ≡ 2 ^ length basis) × (length values ≡ 2 ^ (length basis - step)) × (length next ≡ length basis - step)
+passed-facts k step basis word values next p =
+    let same : k ≡ length basis = sym (p .lengths .list1-fits) in (
+      p .ranges .step-at-least-1,
+      p .ranges .step-at-most-3,
+      subst (λ (n : ℕ). step ≤ n) same (p .ranges .step-fits),
+      subst (λ (n : ℕ). n ≤ 20) same (p .ranges .at-most-20),
+      p .independent,
+      subst (λ (n : ℕ). length word ≡ 2 ^ n) same (p .lengths .list3-fits),
+      subst (λ (n : ℕ). length values ≡ 2 ^ (n - step)) same (p .lengths .list6-fits),
+      subst (λ (n : ℕ). length next ≡ n - step) same (p .lengths .list7-fits),
+    )
+
+pub done-all : (outcome : Outcome) (offset : Element) (wanted : ℕ) (values values′ wanted6 next next′ wanted7 : List ℕ) → outcome ≡ Done
+    → offset .0 ≡ wanted → values′ ≡ wanted6 → next′ ≡ wanted7
+    → (folded.NextOffset offset ≡ answerOf outcome wanted) × ((values′ ≡ afterwards outcome wanted6 values) × (next′ ≡ afterwards outcome wanted7 next))
+done-all outcome offset wanted values values′ wanted6 next next′ wanted7 e o v n = (
+  ap (λ (x : ℕ). folded.NextOffset (record { 0 = x })) o ∙ sym (ap (λ (t : Outcome). answerOf t wanted) e),
+  (done-holds outcome wanted6 values values′ e v, done-holds outcome wanted7 next next′ e n),
+)
+
+pub refused-all : (outcome : Outcome) (cause : Cause) (wanted : ℕ) (values wanted6 next wanted7 : List ℕ) → outcome ≡ Refused cause
+    → (folded.Refused cause ≡ answerOf outcome wanted) × ((values ≡ afterwards outcome wanted6 values) × (next ≡ afterwards outcome wanted7 next))
+refused-all outcome cause wanted values wanted6 next wanted7 e = (
+  sym (ap (λ (t : Outcome). answerOf t wanted) e),
+  (refused-holds outcome cause wanted6 values e, refused-holds outcome cause wanted7 next e),
+)

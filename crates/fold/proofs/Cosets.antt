@@ -1,0 +1,150 @@
+-- The coset value: equal where its three parts are; what halving it gives, and the values of the cosets one after the other. Assumes nothing.
+use mathlib.Core.Path.{_≡_, refl, sym, ap, ap₂, _∙_, subst}
+use mathlib.Core.List.{List, [], _∷_, map}
+use Prim.Native.Nat.{ℕ, suc, _+_, _*_, _-_, _/_, _^_, _<_, _≤_}
+use native.Mathlib.Nat.{zero-add, pow-suc, le-trans, mul-le-mul}
+use lib.Pow.{pow-mono}
+use native.Mathlib.Numerals.{add-one}
+use native.Mathlib.Omega.{arith}
+use lib.ListN.{length, getD, take, drop, length-drop, drop-of-length-le}
+use lib.Seq.{drop-cons}
+use Rattle.gf64.specs.Field.{sum, product}
+use Rattle.poly.specs.Carrier.{gf64}
+use Rattle.poly.specs.Polynomial.{padded}
+use Rattle.poly.proofs.Filling.{getD-padded}
+use Rattle.coset.specs.Coset.{point, tabulated}
+use Rattle.coset.proofs.Points.{length-tabulated, getD-tabulated, tabulated-agree}
+use Rattle.fold.proofs.Folding.{coset-within}
+use Rattle.fold.specs.declared.halving.Coset.{Coset}
+use Rattle.fold.specs.Halving.{lineAt, halvedPoints, halvedEntries, valueAt, cosetValue, cosetValues}
+
+abbrev pub coset : List ℕ → List ℕ → ℕ → Coset
+coset points entries count = record { points = points; entries = entries; count = count }
+
+pub coset-equal : (points points′ entries entries′ : List ℕ) (count count′ : ℕ) → points ≡ points′ → entries ≡ entries′ → count ≡ count′
+    → coset points entries count ≡ coset points′ entries′ count′
+coset-equal points points′ entries entries′ count count′ p e n =
+    ap₂ (λ (ps es : List ℕ). coset ps es count) p e ∙ ap (coset points′ entries′) n
+
+-- ---- one halving
+
+pub length-halvedPoints : (count : ℕ) (points : List ℕ) → length (halvedPoints count points) ≡ count
+unfolding halvedPoints
+length-halvedPoints count points = length-tabulated (λ i. product (getD points (i * 2) 0) (getD points (suc (i * 2)) 0)) 0 count
+
+pub halvedPoints-at : (count : ℕ) (points : List ℕ) (i : ℕ) → i < count
+    → getD (halvedPoints count points) i 0 ≡ product (getD points (i * 2) 0) (getD points (suc (i * 2)) 0)
+unfolding halvedPoints
+halvedPoints-at count points i h =
+    getD-tabulated (λ n. product (getD points (n * 2) 0) (getD points (suc (n * 2)) 0)) 0 count i h
+    ∙ ap (λ (n : ℕ). product (getD points (n * 2) 0) (getD points (suc (n * 2)) 0)) (zero-add i)
+
+module _ (inverse x count : ℕ) (points entries : List ℕ) where
+  line : ℕ → ℕ
+  line i = lineAt inverse x (getD points (i * 2) 0) (getD entries (i * 2) 0) (getD entries (suc (i * 2)) 0)
+
+  pub length-halvedEntries : length (halvedEntries inverse x count points entries) ≡ count
+  unfolding halvedEntries line
+  length-halvedEntries = length-tabulated line 0 count
+
+  pub halvedEntries-at : (i : ℕ) → i < count
+      → getD (halvedEntries inverse x count points entries) i 0 ≡ lineAt inverse x (getD points (i * 2) 0) (getD entries (i * 2) 0) (getD entries (suc (i * 2)) 0)
+  unfolding halvedEntries line
+  halvedEntries-at i h = getD-tabulated line 0 count i h ∙ ap line (zero-add i)
+
+-- ---- zeros behind a list change no value
+
+halvedPoints-padded : (m count : ℕ) (points : List ℕ) → halvedPoints count (padded gf64 m points) ≡ halvedPoints count points
+unfolding halvedPoints
+halvedPoints-padded m count points =
+    tabulated-agree (λ i. product (getD (padded gf64 m points) (i * 2) 0) (getD (padded gf64 m points) (suc (i * 2)) 0))
+    (λ i. product (getD points (i * 2) 0) (getD points (suc (i * 2)) 0)) 0 count
+    (λ i l u. ap₂ product (getD-padded m points (i * 2)) (getD-padded m points (suc (i * 2))))
+
+halvedEntries-padded : (m inverse x count : ℕ) (points entries : List ℕ)
+    → halvedEntries inverse x count (padded gf64 m points) (padded gf64 m entries) ≡ halvedEntries inverse x count points entries
+unfolding halvedEntries line
+halvedEntries-padded m inverse x count points entries =
+    tabulated-agree (line inverse x count (padded gf64 m points) (padded gf64 m entries)) (line inverse x count points entries) 0 count
+    (λ i l u. ap (λ (p : ℕ). lineAt inverse x p (getD (padded gf64 m entries) (i * 2) 0) (getD (padded gf64 m entries) (suc (i * 2)) 0)) (getD-padded m points (i * 2))
+    ∙ ap₂ (lineAt inverse x (getD points (i * 2) 0)) (getD-padded m entries (i * 2)) (getD-padded m entries (suc (i * 2))))
+
+pub value-padded : (inverses challenges : List ℕ) (m : ℕ) (points entries : List ℕ)
+    → valueAt inverses challenges (padded gf64 m points) (padded gf64 m entries) ≡ valueAt inverses challenges points entries
+unfolding valueAt
+value-padded [] challenges m points entries = getD-padded m entries 0
+value-padded (i ∷ inverses) [] m points entries = refl
+value-padded (i ∷ inverses) (x ∷ challenges) m points entries =
+    ap₂ (valueAt inverses challenges) (halvedPoints-padded m (2 ^ length inverses) points) (halvedEntries-padded m i x (2 ^ length inverses) points entries)
+
+-- ---- from one halving to the next
+
+pub halved-count : (n t count : ℕ) → t < n → count ≡ 2 ^ (n - t) → count / 2 ≡ 2 ^ (n - suc t)
+halved-count n t count h e = omega (arith, ap (λ (m : ℕ). 2 ^ m) one-more, pow-suc 2 (n - suc t), e)
+  where
+    one-more : n - t ≡ suc (n - suc t)
+    one-more = omega arith
+
+module _ (inverses challenges : List ℕ) (same : length challenges ≡ length inverses) where
+  pub value-next : (t n : ℕ) (points entries : List ℕ) → t < length inverses → n ≡ 2 ^ (length inverses - suc t)
+      → valueAt (drop (t + 1) inverses) (drop (t + 1) challenges) (padded gf64 8 (halvedPoints n points))
+      (padded gf64 8 (halvedEntries (getD inverses t 0) (getD challenges t 0) n points entries))
+      ≡ valueAt (drop t inverses) (drop t challenges) points entries
+  unfolding valueAt
+  value-next t n points entries h e =
+      value-padded (drop (t + 1) inverses) (drop (t + 1) challenges) 8 (halvedPoints n points) (halvedEntries (getD inverses t 0) (getD challenges t 0) n points entries)
+      ∙ ap₂ (λ (is xs : List ℕ). valueAt is xs (halvedPoints n points) (halvedEntries (getD inverses t 0) (getD challenges t 0) n points entries))
+      (ap (λ (m : ℕ). drop m inverses) (add-one t)) (ap (λ (m : ℕ). drop m challenges) (add-one t))
+      ∙ ap (λ (m : ℕ). valueAt (drop (suc t) inverses) (drop (suc t) challenges) (halvedPoints m points) (halvedEntries (getD inverses t 0) (getD challenges t 0) m points entries))
+      (e ∙ ap (λ (m : ℕ). 2 ^ m) (sym (length-drop (suc t) inverses)))
+      ∙ sym (ap₂ (λ (is xs : List ℕ). valueAt is xs points entries) (drop-cons inverses t 0 h) (drop-cons challenges t 0 (omega arith)))
+
+  pub value-last : (t : ℕ) (points entries : List ℕ) → suc t ≡ length inverses
+      → lineAt (getD inverses t 0) (getD challenges t 0) (getD points 0 0) (getD entries 0 0) (getD entries 1 0)
+      ≡ valueAt (drop t inverses) (drop t challenges) points entries
+  unfolding valueAt halvedEntries tabulated
+  value-last t points entries e =
+      sym
+      (ap₂ (λ (is xs : List ℕ). valueAt is xs points entries)
+      (drop-cons inverses t 0 (omega arith) ∙ ap {B = List ℕ} (λ l. getD inverses t 0 ∷ l) (drop-of-length-le inverses {i = suc t} (omega arith)))
+      (drop-cons challenges t 0 (omega arith) ∙ ap {B = List ℕ} (λ l. getD challenges t 0 ∷ l) (drop-of-length-le challenges {i = suc t} (omega arith))))
+
+-- ---- the cosets one after the other
+
+module _ (inverses challenges span : List ℕ) (offset : ℕ) (others word : List ℕ) where
+  pub length-cosetValues : length (cosetValues inverses challenges span offset others word) ≡ 2 ^ length others
+  unfolding cosetValues
+  length-cosetValues = length-tabulated (cosetValue inverses challenges span offset others word) 0 (2 ^ length others)
+
+  pub cosetValues-at : (j : ℕ) → j < 2 ^ length others
+      → getD (cosetValues inverses challenges span offset others word) j 0 ≡ cosetValue inverses challenges span offset others word j
+  unfolding cosetValues
+  cosetValues-at j h =
+      getD-tabulated (cosetValue inverses challenges span offset others word) 0 (2 ^ length others) j h
+      ∙ ap (cosetValue inverses challenges span offset others word) (zero-add j)
+
+  pub cosetValue-is : (j first : ℕ) (part : List ℕ) → first ≡ point offset others j → part ≡ take (length span) (drop (j * length span) word)
+      → valueAt inverses challenges (padded gf64 8 (map (sum first) span)) (padded gf64 8 part) ≡ cosetValue inverses challenges span offset others word j
+  unfolding cosetValue
+  cosetValue-is j first part e f =
+      value-padded inverses challenges 8 (map (sum first) span) part
+      ∙ ap₂ (λ (p : ℕ) (l : List ℕ). valueAt inverses challenges (map (sum p) span) l) e f
+
+-- ---- where a coset's entries lie
+
+pub record Part (j m whole : ℕ) : Type 0 where
+  pub within : j * m + m ≤ whole
+  -- far below what a word holds
+  pub small : j * m + m ≤ 8388608
+  pub eight : m ≤ 8
+
+pub part-of : (j m n i k whole : ℕ) → j < n → n ≡ 2 ^ k → k ≤ 20 → m ≡ 2 ^ i → i ≤ 3 → whole ≡ n * m → Part j m whole
+part-of j m n i k whole h e l f u w =
+    let many : n ≤ 1048576 = subst (λ (s : ℕ). s ≤ 1048576) (sym e) (pow-mono {i = k} {j = 20} l) in
+    let few : m ≤ 8 = subst (λ (s : ℕ). s ≤ 8) (sym f) (pow-mono {i = i} {j = 3} u) in
+    let within = coset-within j n m h in
+    record {
+      within = subst (λ (s : ℕ). j * m + m ≤ s) (sym w) within;
+      small = le-trans within (mul-le-mul many few);
+      eight = few;
+    }

@@ -1,0 +1,184 @@
+-- `fold::fill_cosets` meets its contract. The loop's invariant: j values are filled in, the others as they were, and first is point j of the
+-- others. Assumes nothing.
+use mathlib.Core.Path.{_≡_, refl, sym, ap, _∙_}
+use mathlib.Core.List.{List}
+use Prim.Native.Nat.{ℕ, _+_, _*_, _-_, _≤_, _<_}
+use lib.ListN.{length, getD, take, drop, set, length-set, length-drop}
+use lib.Seq.{length-take-le}
+use lib.Count.{trailingZeros}
+use Rattle.gf64.specs.Field.{sum}
+use Rattle.poly.proofs.Filling.{filled, filled-start, filled-next, filled-all}
+use Rattle.coset.specs.Coset.{point}
+use Rattle.coset.proofs.Dependence.{point-first}
+use Rattle.coset.proofs.Sequence.{point-stepped}
+use Rattle.fold.specs.declared.halving.Coset.{Coset}
+use Rattle.fold.specs.Halving.{valueAt, cosetValues}
+use Rattle.fold.proofs.Cosets.{part-of, cosetValue-is, length-cosetValues, cosetValues-at}
+use borrow.Author.Needs.{needs}
+use native.Mathlib.Omega.{arith}
+use Rattle.fold.proofs.fill_cosets.Statement.{statement}
+use Rattle.fold.proofs.fill_cosets.Tie as tie
+
+back : (n m : ℕ) → n + m - n ≡ m
+back n m = omega arith
+
+length-part : (m n : ℕ) (word : List ℕ) → n + m ≤ length word → length (take (n + m - n) (drop n word)) ≡ m
+length-part m n word h =
+    ap (λ (k : ℕ). length (take k (drop n word))) (back n m) ∙ length-take-le m (drop n word) (omega (arith, length-drop n word))
+
+abbrev Inv-loop : tie.InvT-loop
+Inv-loop inverses challenges span others word values₀ sums first₀ j₀ values first j =
+    (j ≤ length values₀) × (values ≡ filled (cosetValues inverses challenges span (first₀ .0) others word) values₀ j) × (length values ≡ length values₀)
+    × (j < length values₀ → first .0 ≡ point (first₀ .0) others j)
+
+abbrev μ-loop : tie.MeasureT-loop
+μ-loop inverses challenges span others word values₀ sums first₀ j₀ values first j = length values₀ - j
+
+prefix-sums-requires : tie.Need-prefix-sums-requires Inv-loop μ-loop
+prefix-sums-requires c κs = search needs
+
+loop-holds : tie.Need-loop-holds Inv-loop μ-loop
+loop-holds c =
+    let a = c .before .before .before .before .before .before .before .args in (
+      search needs,
+      filled-start (cosetValues (a .inverses .now) (a .challenges .now) (a .span .now) (a .offset .0) (a .others .now) (a .word .now)) (a .values .now),
+      refl,
+      λ h. sym (point-first (a .offset .0) (a .others .now)),
+    )
+
+mul-start : tie.Need-mul-start Inv-loop μ-loop
+mul-start c =
+    let start = c .before .before .before .before .before .before .before .before .before in
+    let a = start .args in
+    let l = c .before .loop in
+    let inside : l .j < length (a .values .now) = omega (arith, l .inv .2) in
+    let part = part-of (l .j) (length (a .span .now)) (length (a .values .now)) (length (a .inverses .now)) (length (a .others .now)) (length (a .word .now)) inside (start .pre .5) (start .pre .4) (start .pre .3) (start .pre .1) (start .pre .6) in
+    omega (arith, part .small)
+
+add-read : tie.Need-add-read Inv-loop μ-loop
+add-read c =
+    let start = c .before .before .before .before .before .before .before .before .before in
+    let a = start .args in
+    let l = c .before .loop in
+    let inside : l .j < length (a .values .now) = omega (arith, l .inv .2) in
+    let part = part-of (l .j) (length (a .span .now)) (length (a .values .now)) (length (a .inverses .now)) (length (a .others .now)) (length (a .word .now)) inside (start .pre .5) (start .pre .4) (start .pre .3) (start .pre .1) (start .pre .6) in
+    omega (arith, part .small)
+
+mul-read : tie.Need-mul-read Inv-loop μ-loop
+mul-read c =
+    let start = c .before .before .before .before .before .before .before .before .before in
+    let a = start .args in
+    let l = c .before .loop in
+    let inside : l .j < length (a .values .now) = omega (arith, l .inv .2) in
+    let part = part-of (l .j) (length (a .span .now)) (length (a .values .now)) (length (a .inverses .now)) (length (a .others .now)) (length (a .word .now)) inside (start .pre .5) (start .pre .4) (start .pre .3) (start .pre .1) (start .pre .6) in
+    omega (arith, part .small)
+
+sub-read : tie.Need-sub-read Inv-loop μ-loop
+sub-read c = omega arith
+
+part-read-start : tie.Need-part-read-start Inv-loop μ-loop
+part-read-start c = search needs
+
+part-read-end : tie.Need-part-read-end Inv-loop μ-loop
+part-read-end c =
+    let start = c .before .before .before .before .before .before .before .before .before in
+    let a = start .args in
+    let l = c .before .loop in
+    let inside : l .j < length (a .values .now) = omega (arith, l .inv .2) in
+    let part = part-of (l .j) (length (a .span .now)) (length (a .values .now)) (length (a .inverses .now)) (length (a .others .now)) (length (a .word .now)) inside (start .pre .5) (start .pre .4) (start .pre .3) (start .pre .1) (start .pre .6) in
+    part .within
+
+read-requires : tie.Need-read-requires Inv-loop μ-loop
+read-requires c κs =
+    let start = c .before .before .before .before .before .before .before .before .before .before in
+    let a = start .args in
+    let l = c .before .before .loop in
+    let inside : l .j < length (a .values .now) = omega (arith, l .inv .2) in
+    let part = part-of (l .j) (length (a .span .now)) (length (a .values .now)) (length (a .inverses .now)) (length (a .others .now)) (length (a .word .now)) inside (start .pre .5) (start .pre .4) (start .pre .3) (start .pre .1) (start .pre .6) in
+    (part .eight, length-part (length (a .span .now)) (l .j * length (a .span .now)) (a .word .now) (part .within))
+
+value-at-requires : tie.Need-value-at-requires Inv-loop μ-loop
+value-at-requires c κs =
+    let start = c .before .before .before .before .before .before .before .before .before .before .before in
+    (start .pre .0, start .pre .1, start .pre .2, ap (λ (r : Coset). r .count) (c .read .ensures) ∙ start .pre .3)
+
+mul-values : tie.Need-mul-values Inv-loop μ-loop
+mul-values c = search needs
+
+slice-write-values : tie.Need-slice-write-values Inv-loop μ-loop
+slice-write-values c = search needs
+
+add-j : tie.Need-add-j Inv-loop μ-loop
+add-j c = search needs
+
+slice-aggregate-stepped : tie.Need-slice-aggregate-stepped Inv-loop μ-loop
+slice-aggregate-stepped c = search needs
+
+stepped-requires : tie.Need-stepped-requires Inv-loop μ-loop
+stepped-requires c κs = search needs
+
+loop-less : tie.Need-loop-less Inv-loop μ-loop
+loop-less c = search needs
+
+loop-again : tie.Need-loop-again Inv-loop μ-loop
+loop-again c =
+    let start = c .before .before .before .before .before .before .before .before .before .before .before .before .before .before in
+    let a = start .args in
+    let l = c .before .before .before .before .before .before .loop in
+    let m = length (a .span .now) in
+    let inside : l .j < length (a .values .now) = omega (arith, l .inv .2) in
+    let target = cosetValues (a .inverses .now) (a .challenges .now) (a .span .now) (a .offset .0) (a .others .now) (a .word .now) in
+    let value = c .before .before .value-at .result .0 in (
+      search needs,
+      ap (λ (held : List ℕ). set held (l .j) value) (l .inv .1)
+          ∙ filled-next target (a .values .now) (l .j) value inside
+          (length-cosetValues (a .inverses .now) (a .challenges .now) (a .span .now) (a .offset .0) (a .others .now) (a .word .now) ∙ sym (start .pre .5))
+          (c .before .before .value-at .ensures
+          ∙ ap (λ (r : Coset). valueAt (a .inverses .now) (a .challenges .now) (r .points) (r .entries)) (c .before .before .before .read .ensures)
+          ∙ cosetValue-is (a .inverses .now) (a .challenges .now) (a .span .now) (a .offset .0) (a .others .now) (a .word .now) (l .j) (l .first .0)
+          (take (l .j * m + m - l .j * m) (drop (l .j * m) (a .word .now))) (l .inv .3 inside)
+          (ap (λ (n : ℕ). take n (drop (l .j * m) (a .word .now))) (back (l .j * m) m))
+          ∙ sym (cosetValues-at (a .inverses .now) (a .challenges .now) (a .span .now) (a .offset .0) (a .others .now) (a .word .now) (l .j) (omega (arith, start .pre .5)))),
+      length-set (l .values) (l .j) value ∙ l .inv .2,
+      λ h. c .stepped .ensures
+          ∙ ap (λ (sums : List ℕ). sum (l .first .0) (getD sums (trailingZeros 64 (l .j + 1)) 0)) (c .before .before .before .before .before .before .before .prefix-sums .ensures)
+          ∙ point-stepped (a .offset .0) (a .others .now) (l .j) (l .first .0) (start .pre .4) (l .inv .3 inside) (omega (arith, start .pre .5)),
+    )
+
+same-length : tie.Need-same-length Inv-loop μ-loop
+same-length c = search needs
+
+returns : tie.Need-returns Inv-loop μ-loop
+returns c =
+    let start = c .before .before .before .before .before .before .before .before .before in
+    let a = start .args in
+    let l = c .before .loop in
+    l .inv .1
+    ∙ filled-all (cosetValues (a .inverses .now) (a .challenges .now) (a .span .now) (a .offset .0) (a .others .now) (a .word .now)) (a .values .now) (l .j) (omega (arith, l .inv .2))
+    (length-cosetValues (a .inverses .now) (a .challenges .now) (a .span .now) (a .offset .0) (a .others .now) (a .word .now) ∙ sym (start .pre .5))
+
+pub fill-cosets-spec : {M : Type 1} → statement M
+fill-cosets-spec =
+    tie.close
+    (tie.spec
+    Inv-loop
+    μ-loop
+    prefix-sums-requires
+    loop-holds
+    mul-start
+    add-read
+    mul-read
+    sub-read
+    part-read-start
+    part-read-end
+    read-requires
+    value-at-requires
+    mul-values
+    slice-write-values
+    add-j
+    slice-aggregate-stepped
+    stepped-requires
+    loop-less
+    loop-again
+    same-length
+    returns)

@@ -1,0 +1,86 @@
+-- What a lone fold answers, and what the lent lists hold afterwards.
+use mathlib.Core.Bool.{_&&_}
+use mathlib.Core.List.{List}
+use Prim.Native.Nat.{ℕ, _-_, _^_}
+use lib.Dec.{leb, eqb}
+use lib.ListN.{length}
+use Rattle.refusal.specs.declared.Cause.the-variants.{DimensionOutOfRange, StepOutOfRange, DimensionTooSmall, WrongLength, LaterBasisDependent}
+use Rattle.refusal.specs.declared.Outcome.{Outcome}
+use Rattle.refusal.specs.declared.Outcome.the-variants.{Done, Refused}
+use Rattle.refusal.specs.declared.Position.{Position}
+use Rattle.refusal.specs.declared.Position.the-variants.{At, Absent}
+use Rattle.refusal.specs.Checks.{refusedUnless, andThen, afterwards}
+use Rattle.refusal.specs.Numbers.{numberOf, placeOf, roundOf}
+use Rattle.coset.specs.Span.{firstDependent}
+use Rattle.coset.specs.Answers.{outcomeOfBasis}
+use Rattle.coset.specs.Subspace.{nextOffset, nextBasis}
+use Rattle.fold.specs.declared.Folded.{Folded}
+use Rattle.fold.specs.declared.Folded.the-variants as folded
+use Rattle.fold.specs.Fold.{folded}
+
+-- the ranges: k 2..20 (number 4), the step 1..3 (6), k at least the step (7)
+abbrev pub rangesOutcome : ℕ → ℕ → Outcome
+rangesOutcome k step =
+    refusedUnless (leb 2 k && leb k 20) DimensionOutOfRange
+    (refusedUnless (leb 1 step && leb step 3) StepOutOfRange
+    (refusedUnless (leb step k) DimensionTooSmall
+    Done))
+
+-- the lengths of basis, word, values and next basis: the lowest list that has another length than its own (13)
+abbrev pub lengthsOutcome : ℕ → ℕ → ℕ → ℕ → ℕ → ℕ → Outcome
+lengthsOutcome k step list1 list3 list6 list7 =
+    refusedUnless (eqb list1 k) (WrongLength 1)
+    (refusedUnless (eqb list3 (2 ^ k)) (WrongLength 3)
+    (refusedUnless (eqb list6 (2 ^ (k - step))) (WrongLength 6)
+    (refusedUnless (eqb list7 (k - step)) (WrongLength 7)
+    Done)))
+
+-- a dependent next basis is refused (16); a lone fold is round 0
+abbrev pub outcomeOfNextBasis : Position → Outcome
+outcomeOfNextBasis (At place) = Refused (LaterBasisDependent 0)
+outcomeOfNextBasis Absent = Done
+
+-- the basis (8), then the next one
+abbrev pub basesOutcome : ℕ → List ℕ → Outcome
+basesOutcome step basis =
+    andThen (outcomeOfBasis (firstDependent basis)) (outcomeOfNextBasis (firstDependent (nextBasis step basis)))
+
+-- all checks, in the order of document 01: 4, 6, 7, 13, 8, 16
+abbrev pub foldOutcome : ℕ → ℕ → List ℕ → List ℕ → List ℕ → List ℕ → Outcome
+foldOutcome k step basis word values next =
+    andThen (rangesOutcome k step)
+    (andThen (lengthsOutcome k step (length basis) (length word) (length values) (length next))
+    (basesOutcome step basis))
+
+-- the next offset, or the refusal
+abbrev pub answerOf : Outcome → ℕ → Folded
+answerOf Done offset = folded.NextOffset (record { 0 = offset })
+answerOf (Refused cause) offset = folded.Refused cause
+
+-- what a fold answers
+abbrev pub foldAnswer : ℕ → ℕ → ℕ → List ℕ → List ℕ → List ℕ → List ℕ → Folded
+foldAnswer k step offset basis word values next = answerOf (foldOutcome k step basis word values next) (nextOffset step offset basis)
+
+-- what list 6 holds afterwards
+abbrev pub valuesAfter : ℕ → ℕ → ℕ → List ℕ → List ℕ → ℕ → List ℕ → List ℕ → List ℕ
+valuesAfter k step offset basis word x values next =
+    afterwards (foldOutcome k step basis word values next) (folded step offset basis word x) values
+
+-- what list 7 holds afterwards
+abbrev pub nextBasisAfter : ℕ → ℕ → List ℕ → List ℕ → List ℕ → List ℕ → List ℕ
+nextBasisAfter k step basis word values next =
+    afterwards (foldOutcome k step basis word values next) (nextBasis step basis) next
+
+-- the number of an answer: 0 where there is a next offset, else that of the cause
+abbrev pub numberOfFolded : Folded → ℕ
+numberOfFolded (folded.NextOffset offset) = 0
+numberOfFolded (folded.Refused cause) = numberOf cause
+
+-- its place and its round: those of the cause
+abbrev pub placeOfFolded : Folded → Position
+placeOfFolded (folded.NextOffset offset) = Absent
+placeOfFolded (folded.Refused cause) = placeOf cause
+
+abbrev pub roundOfFolded : Folded → Position
+roundOfFolded (folded.NextOffset offset) = Absent
+roundOfFolded (folded.Refused cause) = roundOf cause

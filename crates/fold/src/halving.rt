@@ -1,0 +1,90 @@
+// A coset of the fold, and the value of its interpolant at a challenge by halving: two neighbours have a line, whose value at the challenge
+// is an entry of the half.
+use field::Element;
+ghost use mathlib.Core.Path.{_≡_};
+ghost use mathlib.Core.List.{map};
+ghost use Prim.Native.Nat.{suc, _*_, _/_, _^_, _≤_};
+ghost use lib.ListN.{length, getD};
+ghost use Rattle.gf64.specs.Field.{sum};
+ghost use Rattle.poly.specs.Carrier.{gf64};
+ghost use Rattle.poly.specs.Polynomial.{padded};
+ghost use Rattle.fold.specs.Halving.{lineAt, halvedPoints, halvedEntries, valueAt};
+
+// Two, four or eight points with the word's entries there; behind the count are zeros.
+pub struct Coset {
+    pub points: [u64; 8],
+    pub entries: [u64; 8],
+    pub count: usize,
+}
+
+impl Coset {
+    // The coset with the first point given, whose other points differ from it by the span, and the word's entries at them.
+    pub fn read(span: &[u64], first: Element, word: &[u64]) -> Coset
+        requires { ⌜ (length (now span) ≤ 8) × (length (now word) ≡ length (now span)) ⌝ }
+        ensures { λ r. ⌜ r ≡ record { points = padded gf64 8 (map (sum (first .0)) (now (span .entry))); entries = padded gf64 8 (now (word .entry)); count = length (now (span .entry)) } ⌝ }
+    {
+        let mut points = [0u64; 8];
+        let mut entries = [0u64; 8];
+        let mut i: usize = 0;
+        while i < span.len() {
+            points[i] = first.sum(Element(span[i])).0;
+            entries[i] = word[i];
+            i += 1;
+        }
+        Coset {
+            points,
+            entries,
+            count: i,
+        }
+    }
+
+    // The value at the challenge of the polynomial with these entries at these points. There is an inverse and a challenge for each halving.
+    pub fn value_at(self, inverses: &[u64], challenges: &[u64]) -> Element
+        requires { ⌜ (1 ≤ length (now inverses)) × (length (now inverses) ≤ 3) × (length (now challenges) ≡ length (now inverses))
+            × (self .count ≡ 2 ^ length (now inverses)) ⌝ }
+        ensures { λ r. ⌜ r .0 ≡ valueAt (now (inverses .entry)) (now (challenges .entry)) (self .points) (self .entries) ⌝ }
+    {
+        let last = inverses.len() - 1;
+        let mut coset = self;
+        let mut t: usize = 0;
+        while t < last {
+            coset = coset.halved(Element(inverses[t]), Element(challenges[t]));
+            t += 1;
+        }
+        coset.line(0, Element(inverses[last]), Element(challenges[last]))
+    }
+
+    // One entry for each two neighbours, at their images under X · (X - e), where e is the difference of the two.
+    fn halved(self, inverse: Element, x: Element) -> Coset
+        requires { ⌜ self .count ≤ 8 ⌝ }
+        ensures { λ r. ⌜ r ≡ record { points = padded gf64 8 (halvedPoints (self .count / 2) (self .points)); entries = padded gf64 8 (halvedEntries (inverse .0) (x .0) (self .count / 2) (self .points) (self .entries)); count = self .count / 2 } ⌝ }
+    {
+        let half = self.count / 2;
+        let mut points = [0u64; 8];
+        let mut entries = [0u64; 8];
+        let mut i: usize = 0;
+        while i < half {
+            points[i] = Element(self.points[i * 2])
+                .product(Element(self.points[i * 2 + 1]))
+                .0;
+            entries[i] = self.line(i, inverse, x).0;
+            i += 1;
+        }
+        Coset {
+            points,
+            entries,
+            count: half,
+        }
+    }
+
+    // The value at x of the line through points 2 i and 2 i + 1.
+    fn line(self, i: usize, inverse: Element, x: Element) -> Element
+        requires { ⌜ i ≤ 3 ⌝ }
+        ensures { λ r. ⌜ r .0 ≡ lineAt (inverse .0) (x .0) (getD (self .points) (i * 2) 0) (getD (self .entries) (i * 2) 0) (getD (self .entries) (suc (i * 2)) 0) ⌝ }
+    {
+        let u = Element(self.entries[i * 2]);
+        let v = Element(self.entries[i * 2 + 1]);
+        let slope = u.sum(v).product(inverse);
+        u.sum(x.sum(Element(self.points[i * 2])).product(slope))
+    }
+}

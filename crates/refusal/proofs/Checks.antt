@@ -1,0 +1,73 @@
+-- Tests, and what checks and lent lists come to where all pass and where one fails. Assumes nothing.
+use mathlib.Core.Path.{_≡_, refl, sym, ap, ap₂, _∙_, subst}
+use mathlib.Core.Bool.{Bool, true, false, cond, not, _&&_}
+use mathlib.Core.List.{List}
+use Prim.Native.Nat.{ℕ, _≤_}
+use native.Mathlib.Omega.{arith}
+use lib.Dec.{T, leb, eqb, leb→le, eqb→eq}
+use Rattle.refusal.specs.declared.Cause.{Cause}
+use Rattle.refusal.specs.declared.Outcome.{Outcome}
+use Rattle.refusal.specs.declared.Outcome.the-variants.{Done, Refused}
+use Rattle.refusal.specs.Checks.{refusedUnless, andThen, afterwards}
+
+pub not-true : (a : Bool) → not a ≡ true → a ≡ false
+not-true true e = sym e
+not-true false e = refl
+
+pub not-false : (a : Bool) → not a ≡ false → a ≡ true
+not-false true e = refl
+not-false false e = sym e
+
+pub equal-of-test : (m n : ℕ) → eqb m n ≡ true → m ≡ n
+equal-of-test m n e = eqb→eq m n (subst T (sym e) tt)
+
+pub le-of-test : (m n : ℕ) → leb m n ≡ true → m ≤ n
+le-of-test m n e = leb→le m n (subst T (sym e) tt)
+
+pub refused-not-done : (cause : Cause) → Refused cause ≡ Done → ⊥
+refused-not-done cause e = let impossible : _≡_ {A = ℕ} 0 1 = cc in omega arith
+
+-- what a lent list holds where it is done, and where it is refused
+pub done-holds : (outcome : Outcome) (wanted held held′ : List ℕ) → outcome ≡ Done → held′ ≡ wanted → held′ ≡ afterwards outcome wanted held
+done-holds outcome wanted held held′ e w = w ∙ sym (ap (λ (o : Outcome). afterwards o wanted held) e)
+
+pub refused-holds : (outcome : Outcome) (cause : Cause) (wanted held : List ℕ) → outcome ≡ Refused cause → held ≡ afterwards outcome wanted held
+refused-holds outcome cause wanted held e = sym (ap (λ (o : Outcome). afterwards o wanted held) e)
+
+-- ---- one check after the other
+
+pub passed-by : (test : Bool) (cause : Cause) (after : Outcome) → test ≡ true → after ≡ refusedUnless test cause after
+passed-by test cause after e = sym (ap (λ (t : Bool). refusedUnless t cause after) e)
+
+pub refused-by : (test : Bool) (cause : Cause) (after : Outcome) → test ≡ false → Refused cause ≡ refusedUnless test cause after
+refused-by test cause after e = sym (ap (λ (t : Bool). refusedUnless t cause after) e)
+
+pub unless-done : (test : Bool) (cause : Cause) (after : Outcome) → refusedUnless test cause after ≡ Done → (test ≡ true) × (after ≡ Done)
+unless-done true cause after e = (refl, e)
+unless-done false cause after e = absurd (refused-not-done cause e)
+
+pub then-passed : (first after : Outcome) → first ≡ Done → after ≡ andThen first after
+then-passed first after e = sym (ap (λ (o : Outcome). andThen o after) e)
+
+pub then-refused : (first after : Outcome) (cause : Cause) → first ≡ Refused cause → Refused cause ≡ andThen first after
+then-refused first after cause e = sym (ap (λ (o : Outcome). andThen o after) e)
+
+pub then-done : (first after : Outcome) → andThen first after ≡ Done → (first ≡ Done) × (after ≡ Done)
+then-done Done after e = (refl, e)
+then-done (Refused cause) after e = absurd (refused-not-done cause e)
+
+-- ---- two tests in one
+
+pub both-true : (a b : Bool) → a ≡ true → b ≡ true → (a && b) ≡ true
+both-true a b e f = ap₂ _&&_ e f
+
+pub first-false : (a b : Bool) → a ≡ false → (a && b) ≡ false
+first-false a b e = ap (λ (t : Bool). t && b) e
+
+pub second-false : (a b : Bool) → b ≡ false → (a && b) ≡ false
+second-false true b e = e
+second-false false b e = refl
+
+pub each-true : (a b : Bool) → (a && b) ≡ true → (a ≡ true) × (b ≡ true)
+each-true true b e = (refl, e)
+each-true false b e = absurd (let impossible : _≡_ {A = ℕ} 0 1 = ap (λ (t : Bool). cond t 1 0) e in omega arith)
