@@ -6,9 +6,8 @@ use Prim.Native.Nat.{ℕ}
 use native.Mathlib.Omega.{arith}
 use lib.ListN.{length, set}
 use borrow.Author.Tests.{eq-eqb, ne-eqb}
-use Rattle.refusal.specs.declared.Outcome.{Outcome}
 use Rattle.capi.specs.declared.Answer.{Answer}
-use Rattle.capi.specs.Answers.{numbersOf, answered, whereAnswered, answerOfOutcome}
+use Rattle.capi.specs.Answers.{numbersOf, answered, whereAnswered}
 
 pub five-stores : (l : List ℕ) (v w x y z : ℕ) → length l ≡ 5
     → set (set (set (set (set l 0 v) 1 w) 2 x) 3 y) 4 z ≡ v ∷ w ∷ x ∷ y ∷ z ∷ []
@@ -23,23 +22,21 @@ five-stores (a ∷ b ∷ c ∷ d ∷ e ∷ f ∷ l) v w x y z h = absurd (omega 
 pub answered-five : (a : Answer) (lent : List ℕ) → length lent ≡ 5 → numbersOf a ≡ answered a lent
 answered-five a lent h = sym (ap (λ (b : Bool). cond b (numbersOf a) lent) (eq-eqb (length lent) 5 h))
 
-whereAnswered-five : (lent left held : List ℕ) → length lent ≡ 5 → left ≡ whereAnswered lent left held
+pub whereAnswered-five : (lent left held : List ℕ) → length lent ≡ 5 → left ≡ whereAnswered lent left held
 whereAnswered-five lent left held h = sym (ap (λ (b : Bool). cond b left held) (eq-eqb (length lent) 5 h))
 
-whereAnswered-other : (lent left held : List ℕ) → (length lent ≡ 5 → ⊥) → held ≡ whereAnswered lent left held
+pub whereAnswered-other : (lent left held : List ℕ) → (length lent ≡ 5 → ⊥) → held ≡ whereAnswered lent left held
 whereAnswered-other lent left held h = sym (ap (λ (b : Bool). cond b left held) (ne-eqb (length lent) 5 h))
 
 pub answered-other : (a : Answer) (lent : List ℕ) → (length lent ≡ 5 → ⊥) → lent ≡ answered a lent
 answered-other a lent h = sym (ap (λ (b : Bool). cond b (numbersOf a) lent) (ne-eqb (length lent) 5 h))
 
--- both lent lists of an operation that gives no value: nothing is done where the answer's list has another length
-pub left-alone : (outcome : Outcome) (lent left held : List ℕ) → (length lent ≡ 5 → ⊥)
-    → (lent ≡ answered (answerOfOutcome outcome) lent) × (held ≡ whereAnswered lent left held)
-left-alone outcome lent left held h = (answered-other (answerOfOutcome outcome) lent h, whereAnswered-other lent left held h)
+-- nothing is done where the answer's list has another length
+pub left-alone : (a : Answer) (lent left held : List ℕ) → (length lent ≡ 5 → ⊥) → (lent ≡ answered a lent) × (held ≡ whereAnswered lent left held)
+left-alone a lent left held h = (answered-other a lent h, whereAnswered-other lent left held h)
 
 -- and else the answer is written and the operation's list is as it leaves it
-pub written : (outcome given : Outcome) (answer : Answer) (lent left held lent′ held′ : List ℕ) → length lent ≡ 5
-    → lent′ ≡ numbersOf answer → answer ≡ answerOfOutcome given → given ≡ outcome → held′ ≡ left
-    → (lent′ ≡ answered (answerOfOutcome outcome) lent) × (held′ ≡ whereAnswered lent left held)
-written outcome given answer lent left held lent′ held′ five w a g l =
-    (w ∙ ap numbersOf (a ∙ ap answerOfOutcome g) ∙ answered-five (answerOfOutcome outcome) lent five, l ∙ whereAnswered-five lent left held five)
+pub written : (a given : Answer) (lent left held lent′ held′ : List ℕ) → length lent ≡ 5
+    → lent′ ≡ numbersOf given → given ≡ a → held′ ≡ left → (lent′ ≡ answered a lent) × (held′ ≡ whereAnswered lent left held)
+written a given lent left held lent′ held′ five w g l =
+    (w ∙ ap numbersOf g ∙ answered-five a lent five, l ∙ whereAnswered-five lent left held five)

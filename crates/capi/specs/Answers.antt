@@ -11,6 +11,8 @@ use Rattle.refusal.specs.declared.Position.the-variants.{At, Absent}
 use Rattle.refusal.specs.Numbers.{numberOf, placeOf, roundOf, numberOfOutcome, placeOfOutcome, roundOfOutcome}
 use Rattle.field.specs.declared.Inverted.{Inverted}
 use Rattle.field.specs.declared.Inverted.the-variants.{Value, Refused}
+use Rattle.fold.specs.declared.Folded.{Folded}
+use Rattle.fold.specs.declared.Folded.the-variants as folded
 use Rattle.capi.specs.declared.Answer.{Answer}
 
 -- stands for a place, a round or a value that there is none of
@@ -41,6 +43,11 @@ answerOfCause cause reads =
 abbrev pub answerOfInverted : Inverted → Answer
 answerOfInverted (Value x) = answerOfValue 0 (x .0)
 answerOfInverted (Refused cause) = answerOfCause cause 0
+
+-- the answer of a fold, whose value is the next offset; only a judge counts reads
+abbrev pub answerOfFolded : Folded → Answer
+answerOfFolded (folded.NextOffset offset) = answerOfValue 0 (offset .0)
+answerOfFolded (folded.Refused cause) = answerOfCause cause 0
 
 -- the answer of an operation that reads nothing and gives no value
 abbrev pub answerOfOutcome : Outcome → Answer

@@ -1,6 +1,7 @@
 // The C interface. include/razgwilh.h says the same to C.
 use field::Element;
 use field::Inverted;
+use fold::Folded;
 use refusal::Cause;
 use refusal::Outcome;
 use refusal::Position;
@@ -9,7 +10,8 @@ ghost use lib.ListN.{length};
 ghost use Rattle.gf64.specs.Field.{sum, product};
 ghost use Rattle.field.specs.Answers.{invertedOf};
 ghost use Rattle.reed_solomon.specs.Answers.{encodeOutcome, interpolateOutcome, valuesAfter, coefficientsAfter};
-ghost use Rattle.capi.specs.Answers.{orNone, answerOfValue, answerOfCause, answerOfInverted, answerOfOutcome, numbersOf, answered, whereAnswered};
+ghost use Rattle.fold.specs.Answers.{foldAnswer, foldValuesAfter, nextBasisAfter};
+ghost use Rattle.capi.specs.Answers.{orNone, answerOfValue, answerOfCause, answerOfInverted, answerOfFolded, answerOfOutcome, numbersOf, answered, whereAnswered};
 
 // The five numbers of an answer.
 pub struct Answer {
@@ -66,6 +68,15 @@ impl Answer {
         match inverted {
             Inverted::Value(x) => Answer::of_value(0, x.0),
             Inverted::Refused(cause) => Answer::of_cause(cause, 0),
+        }
+    }
+
+    fn of_folded(folded: Folded) -> Answer
+        ensures { λ r. ⌜ r ≡ answerOfFolded folded ⌝ }
+    {
+        match folded {
+            Folded::NextOffset(offset) => Answer::of_value(0, offset.0),
+            Folded::Refused(cause) => Answer::of_cause(cause, 0),
         }
     }
 
@@ -148,4 +159,36 @@ pub extern "C" fn rz_interpolate(
     }
     let outcome = reed_solomon::interpolate(Element(offset), basis, word, coefficients);
     Answer::of_outcome(outcome).write(answer);
+}
+
+#[no_mangle]
+pub extern "C" fn rz_fold(
+    k: usize,
+    step: usize,
+    offset: u64,
+    basis: &[u64],
+    word: &[u64],
+    challenge: u64,
+    values: &mut [u64],
+    next_basis: &mut [u64],
+    answer: &mut [u64],
+)
+    ensures answer { λ _. ⌜ now (answer .exit) ≡ answered (answerOfFolded (foldAnswer k step offset (now (basis .entry)) (now (word .entry)) (now (values .entry)) (now («next_basis» .entry)))) (now (answer .entry)) ⌝ }
+    ensures output { λ _. ⌜ now (values .exit) ≡ whereAnswered (now (answer .entry)) (foldValuesAfter k step offset (now (basis .entry)) (now (word .entry)) challenge (now (values .entry)) (now («next_basis» .entry))) (now (values .entry)) ⌝ }
+    ensures basis { λ _. ⌜ now («next_basis» .exit) ≡ whereAnswered (now (answer .entry)) (nextBasisAfter k step (now (basis .entry)) (now (word .entry)) (now (values .entry)) (now («next_basis» .entry))) (now («next_basis» .entry)) ⌝ }
+{
+    if answer.len() != ANSWER_LENGTH {
+        return;
+    }
+    let folded = fold::fold(
+        k,
+        step,
+        Element(offset),
+        basis,
+        word,
+        Element(challenge),
+        values,
+        next_basis,
+    );
+    Answer::of_folded(folded).write(answer);
 }

@@ -62,8 +62,8 @@ abbrev pub foldAnswer : ℕ → ℕ → ℕ → List ℕ → List ℕ → List �
 foldAnswer k step offset basis word values next = answerOf (foldOutcome k step basis word values next) (nextOffset step offset basis)
 
 -- what list 6 holds afterwards
-abbrev pub valuesAfter : ℕ → ℕ → ℕ → List ℕ → List ℕ → ℕ → List ℕ → List ℕ → List ℕ
-valuesAfter k step offset basis word x values next =
+abbrev pub foldValuesAfter : ℕ → ℕ → ℕ → List ℕ → List ℕ → ℕ → List ℕ → List ℕ → List ℕ
+foldValuesAfter k step offset basis word x values next =
     afterwards (foldOutcome k step basis word values next) (folded step offset basis word x) values
 
 -- what list 7 holds afterwards

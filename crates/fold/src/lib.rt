@@ -20,7 +20,7 @@ ghost use Rattle.coset.specs.Subspace.{nextOffset, nextBasis};
 ghost use Rattle.coset.specs.Steps.{stepElements};
 ghost use Rattle.fold.specs.Fold.{folded};
 ghost use Rattle.fold.specs.Halving.{cosetValues};
-ghost use Rattle.fold.specs.Answers.{rangesOutcome, lengthsOutcome, outcomeOfNextBasis, basesOutcome, foldOutcome, foldAnswer, valuesAfter, nextBasisAfter};
+ghost use Rattle.fold.specs.Answers.{rangesOutcome, lengthsOutcome, outcomeOfNextBasis, basesOutcome, foldOutcome, foldAnswer, foldValuesAfter, nextBasisAfter};
 
 // What a fold answers.
 pub enum Folded {
@@ -42,7 +42,7 @@ pub fn fold(
     next_basis: &mut [u64],
 ) -> Folded
     ensures answer { λ r. ⌜ r ≡ foldAnswer k step (offset .0) (now (basis .entry)) (now (word .entry)) (now (values .entry)) (now («next_basis» .entry)) ⌝ }
-    ensures output { λ _. ⌜ now (values .exit) ≡ valuesAfter k step (offset .0) (now (basis .entry)) (now (word .entry)) (challenge .0) (now (values .entry)) (now («next_basis» .entry)) ⌝ }
+    ensures output { λ _. ⌜ now (values .exit) ≡ foldValuesAfter k step (offset .0) (now (basis .entry)) (now (word .entry)) (challenge .0) (now (values .entry)) (now («next_basis» .entry)) ⌝ }
     ensures basis { λ _. ⌜ now («next_basis» .exit) ≡ nextBasisAfter k step (now (basis .entry)) (now (word .entry)) (now (values .entry)) (now («next_basis» .entry)) ⌝ }
 {
     let outcome = checked(k, step, basis, word.len(), values.len(), next_basis.len());

@@ -27,6 +27,22 @@ extern "C" {
         answer: *mut u64,
         answer_length: usize,
     );
+    fn rz_fold(
+        k: usize,
+        step: usize,
+        offset: u64,
+        basis: *const u64,
+        basis_length: usize,
+        word: *const u64,
+        word_length: usize,
+        challenge: u64,
+        values: *mut u64,
+        values_length: usize,
+        next_basis: *mut u64,
+        next_basis_length: usize,
+        answer: *mut u64,
+        answer_length: usize,
+    );
 }
 
 /// How many numbers an answer has.
@@ -154,6 +170,49 @@ pub fn interpolate_into(
             word.len(),
             coefficients.as_mut_ptr(),
             coefficients.len(),
+            answer.as_mut_ptr(),
+            answer.len(),
+        )
+    }
+}
+
+/// What is given to a fold.
+#[derive(Clone, Copy, Debug)]
+pub struct Fold<'a> {
+    pub k: usize,
+    pub step: usize,
+    pub offset: u64,
+    pub basis: &'a [u64],
+    pub word: &'a [u64],
+    pub challenge: u64,
+}
+
+/// Folds: `values` gets the fold of the word at the challenge, `next_basis` the basis of the next coset, and
+/// the value of the answer is that coset's offset. A refusal, number 4, 6, 7, 13, 8 or 16, leaves both lists as
+/// they were.
+pub fn fold(given: Fold, values: &mut [u64], next_basis: &mut [u64]) -> Answer {
+    let mut numbers = [0; ANSWER_LENGTH];
+    fold_into(given, values, next_basis, &mut numbers);
+    Answer::with_value(numbers)
+}
+
+/// The same by the C convention: where `answer` has another length than 5, nothing is written or done.
+pub fn fold_into(given: Fold, values: &mut [u64], next_basis: &mut [u64], answer: &mut [u64]) {
+    // SAFETY: each pointer and length are those of one slice, and the exclusive ones overlap no other.
+    unsafe {
+        rz_fold(
+            given.k,
+            given.step,
+            given.offset,
+            given.basis.as_ptr(),
+            given.basis.len(),
+            given.word.as_ptr(),
+            given.word.len(),
+            given.challenge,
+            values.as_mut_ptr(),
+            values.len(),
+            next_basis.as_mut_ptr(),
+            next_basis.len(),
             answer.as_mut_ptr(),
             answer.len(),
         )

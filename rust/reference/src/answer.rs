@@ -8,6 +8,12 @@ pub const NONE: u64 = u64::MAX;
 /// The number for a dimension out of range.
 pub const K_OUT_OF_RANGE: u64 = 4;
 
+/// The number for a step out of range.
+pub const STEP_OUT_OF_RANGE: u64 = 6;
+
+/// The number for a lone fold whose dimension is below its step.
+pub const K_BELOW_STEP: u64 = 7;
+
 /// The number for a basis element that lies in the span of earlier ones.
 pub const DEPENDENT_BASIS: u64 = 8;
 
@@ -16,6 +22,12 @@ pub const WRONG_LENGTH: u64 = 13;
 
 /// The number for the inverse of zero.
 pub const INVERSE_OF_ZERO: u64 = 15;
+
+/// The number for a dependent basis of a later layer.
+pub const DEPENDENT_LATER_BASIS: u64 = 16;
+
+/// The length that the list of an answer must have.
+pub const ANSWER_LENGTH: usize = 5;
 
 /// The answer of an operation that went well and gives one value.
 pub fn went_well(value: u64) -> Answer {
@@ -59,8 +71,16 @@ pub fn refused_at(number: u64, place: u64) -> Answer {
     }
 }
 
+/// The answer that carries the number of its cause and a round.
+pub fn refused_in_round(number: u64, round: u64) -> Answer {
+    Answer {
+        round: Some(round),
+        ..refused(number)
+    }
+}
+
 /// The five numbers that the C interface writes for an answer.
-pub fn raw(answer: &Answer) -> [u64; 5] {
+pub fn raw(answer: &Answer) -> [u64; ANSWER_LENGTH] {
     [
         answer.number,
         answer.place.unwrap_or(NONE),
@@ -88,5 +108,6 @@ mod tests {
         assert_eq!(raw(&done()), [0, NONE, NONE, 0, NONE]);
         assert_eq!(raw(&refused(15)), [15, NONE, NONE, 0, NONE]);
         assert_eq!(raw(&refused_at(8, 2)), [8, 2, NONE, 0, NONE]);
+        assert_eq!(raw(&refused_in_round(16, 0)), [16, NONE, 0, 0, NONE]);
     }
 }

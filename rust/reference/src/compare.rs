@@ -4,7 +4,14 @@
 //! A part of the library adds a file here with its own inputs and comparisons.
 
 pub mod field;
+pub mod fold;
 pub mod reed_solomon;
+
+mod cosets;
+mod lent;
+mod lists;
+#[cfg(test)]
+mod wrong;
 
 use razgwilh::Answer;
 

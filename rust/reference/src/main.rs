@@ -5,9 +5,13 @@
 
 mod answer;
 mod compare;
+mod coset;
 mod field;
+mod fold;
+mod polynomial;
 mod random;
 mod reed_solomon;
+mod refusal;
 
 use std::process::ExitCode;
 
@@ -19,6 +23,7 @@ fn main() -> ExitCode {
             &compare::reed_solomon::RAZGWILH,
             &compare::reed_solomon::FULL,
         ),
+        compare::fold::comparisons(&compare::fold::RAZGWILH, &compare::fold::FULL),
     ];
     let report = compare::report(&parts.concat());
     print!("{}", report.text);

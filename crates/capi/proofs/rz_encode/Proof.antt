@@ -1,8 +1,9 @@
 -- `capi::rz_encode` meets its contract: where the answer's list has another length nothing is done. Assumes nothing.
-use lib.ListN.{length}
+use mathlib.Core.Path.{ap, _∙_}
 use native.Mathlib.Omega.{arith}
 use borrow.Author.Needs.{needs}
 use Rattle.reed_solomon.specs.Answers.{encodeOutcome, valuesAfter}
+use Rattle.capi.specs.Answers.{answerOfOutcome}
 use Rattle.capi.proofs.Five.{left-alone, written}
 use Rattle.capi.proofs.rz_encode.Statement.{statement}
 use Rattle.capi.proofs.rz_encode.Tie as tie
@@ -11,7 +12,7 @@ returns : tie.Need-returns
 returns c =
     let a = c .before .before .before .before .before .args in
     let outcome = encodeOutcome (a .basis .now) (a .coefficients .now) (a .values .now) in
-    left-alone outcome (a .answer .now) (valuesAfter (a .offset) (a .basis .now) (a .coefficients .now) (a .values .now)) (a .values .now) (c .if1 .taken)
+    left-alone (answerOfOutcome outcome) (a .answer .now) (valuesAfter (a .offset) (a .basis .now) (a .coefficients .now) (a .values .now)) (a .values .now) (c .if1 .taken)
 
 encode-requires : tie.Need-encode-requires
 encode-requires c κs = search needs
@@ -32,9 +33,9 @@ returns-2 : tie.Need-returns-2
 returns-2 c =
     let a = c .before .before .before .before .before .before .before .before .before .before .before .before .before .before .args in
     let outcome = encodeOutcome (a .basis .now) (a .coefficients .now) (a .values .now) in
-    written outcome (c .before .before .before .before .before .before .before .encode .result) (c .before .before .before .before .of-outcome .result) (a .answer .now) (valuesAfter (a .offset) (a .basis .now) (a .coefficients .now) (a .values .now)) (a .values .now)
+    written (answerOfOutcome outcome) (c .before .before .before .before .of-outcome .result) (a .answer .now) (valuesAfter (a .offset) (a .basis .now) (a .coefficients .now) (a .values .now)) (a .values .now)
     (c .before .before .write .last .1 .0) (c .before .before .before .before .before .before .before .encode .last .1 .1 .1 .0) (omega arith) (c .before .before .write .ensures)
-    (c .before .before .before .before .of-outcome .ensures) (c .before .before .before .before .before .before .before .encode .ensures .0) (c .before .before .before .before .before .before .before .encode .ensures .1)
+    (c .before .before .before .before .of-outcome .ensures ∙ ap answerOfOutcome (c .before .before .before .before .before .before .before .encode .ensures .0)) (c .before .before .before .before .before .before .before .encode .ensures .1)
 
 pub rz-encode-spec : {M : Type 1} → statement M
 rz-encode-spec =

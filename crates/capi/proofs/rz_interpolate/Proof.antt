@@ -1,8 +1,9 @@
 -- `capi::rz_interpolate` meets its contract: where the answer's list has another length nothing is done. Assumes nothing.
-use lib.ListN.{length}
+use mathlib.Core.Path.{ap, _∙_}
 use native.Mathlib.Omega.{arith}
 use borrow.Author.Needs.{needs}
 use Rattle.reed_solomon.specs.Answers.{interpolateOutcome, coefficientsAfter}
+use Rattle.capi.specs.Answers.{answerOfOutcome}
 use Rattle.capi.proofs.Five.{left-alone, written}
 use Rattle.capi.proofs.rz_interpolate.Statement.{statement}
 use Rattle.capi.proofs.rz_interpolate.Tie as tie
@@ -11,7 +12,7 @@ returns : tie.Need-returns
 returns c =
     let a = c .before .before .before .before .before .args in
     let outcome = interpolateOutcome (a .basis .now) (a .word .now) (a .coefficients .now) in
-    left-alone outcome (a .answer .now) (coefficientsAfter (a .offset) (a .basis .now) (a .word .now) (a .coefficients .now)) (a .coefficients .now) (c .if1 .taken)
+    left-alone (answerOfOutcome outcome) (a .answer .now) (coefficientsAfter (a .offset) (a .basis .now) (a .word .now) (a .coefficients .now)) (a .coefficients .now) (c .if1 .taken)
 
 interpolate-requires : tie.Need-interpolate-requires
 interpolate-requires c κs = search needs
@@ -32,9 +33,9 @@ returns-2 : tie.Need-returns-2
 returns-2 c =
     let a = c .before .before .before .before .before .before .before .before .before .before .before .before .before .before .args in
     let outcome = interpolateOutcome (a .basis .now) (a .word .now) (a .coefficients .now) in
-    written outcome (c .before .before .before .before .before .before .before .interpolate .result) (c .before .before .before .before .of-outcome .result) (a .answer .now) (coefficientsAfter (a .offset) (a .basis .now) (a .word .now) (a .coefficients .now)) (a .coefficients .now)
+    written (answerOfOutcome outcome) (c .before .before .before .before .of-outcome .result) (a .answer .now) (coefficientsAfter (a .offset) (a .basis .now) (a .word .now) (a .coefficients .now)) (a .coefficients .now)
     (c .before .before .write .last .1 .0) (c .before .before .before .before .before .before .before .interpolate .last .1 .1 .1 .0) (omega arith) (c .before .before .write .ensures)
-    (c .before .before .before .before .of-outcome .ensures) (c .before .before .before .before .before .before .before .interpolate .ensures .0) (c .before .before .before .before .before .before .before .interpolate .ensures .1)
+    (c .before .before .before .before .of-outcome .ensures ∙ ap answerOfOutcome (c .before .before .before .before .before .before .before .interpolate .ensures .0)) (c .before .before .before .before .before .before .before .interpolate .ensures .1)
 
 pub rz-interpolate-spec : {M : Type 1} → statement M
 rz-interpolate-spec =

@@ -1,14 +1,14 @@
 //! The comparisons of the field of 2^64 elements.
 
+use super::lent::{Lent, FILLS, MARGIN};
 use super::{
     compare, Comparison, Fixed, Input, Show, LEFT_AND_RIGHT, PAPER_AND_LIBRARY,
     REFERENCE_AND_LIBRARY,
 };
-use crate::answer::{raw, refused, went_well, INVERSE_OF_ZERO};
+use crate::answer::{raw, refused, went_well, ANSWER_LENGTH, INVERSE_OF_ZERO};
 use crate::field;
 use crate::random::Random;
 use razgwilh::Answer;
-use std::ops::Range;
 
 /// The functions under test.
 #[derive(Clone, Copy)]
@@ -366,27 +366,17 @@ fn case_c(library: &Library) -> Comparison {
 
 // The list that an answer is written into.
 
-/// The length that the list of an answer must have.
-const ANSWER_LENGTH: usize = 5;
-
-/// How many numbers before and after a lent list are watched as well.
-const MARGIN: usize = 8;
-
-/// What lent lists are filled with. With two fills no number that is written
-/// can be taken for one that was left.
-const FILLS: [u64; 2] = [0xa5a5_a5a5_a5a5_a500, 0x5a5a_5a5a_5a5a_5a00];
-
 /// An element, and the list that is lent for its inverse.
 #[derive(Clone)]
-struct Lent {
+struct Call {
     a: u64,
     length: usize,
     fill: u64,
 }
 
-impl Show for Lent {
+impl Show for Call {
     fn show(&self) -> String {
-        let Lent { a, length, fill } = self;
+        let Call { a, length, fill } = self;
         format!(
             "{a:x}, with a list of length {length} \
              and {MARGIN} numbers around it on both sides, filled from {fill:x}"
@@ -394,7 +384,7 @@ impl Show for Lent {
     }
 }
 
-impl Input for Lent {
+impl Input for Call {
     type Size = (usize, (u32, u64), u64);
 
     fn size(&self) -> Self::Size {
@@ -402,39 +392,37 @@ impl Input for Lent {
     }
 
     /// The length stays, since it is what the comparison is about.
-    fn simpler(&self) -> Vec<Lent> {
-        let with = |a| Lent { a, ..self.clone() };
+    fn simpler(&self) -> Vec<Call> {
+        let with = |a| Call { a, ..self.clone() };
         self.a.simpler().into_iter().map(with).collect()
     }
 }
 
-fn lent_lists(values: impl IntoIterator<Item = u64>, length: usize) -> Vec<Lent> {
-    let lists = |a| FILLS.map(|fill| Lent { a, length, fill });
+fn lent_lists(values: impl IntoIterator<Item = u64>, length: usize) -> Vec<Call> {
+    let lists = |a| FILLS.map(|fill| Call { a, length, fill });
     values.into_iter().flat_map(lists).collect()
 }
 
-/// Fills a list with its surroundings, has it written to, and gives all of it.
-/// The writer gets the place of the lent list in the whole.
-fn after(lent: &Lent, write: impl FnOnce(&mut [u64], Range<usize>)) -> Vec<u64> {
-    let whole = lent.length + 2 * MARGIN;
-    let mut numbers: Vec<u64> = (lent.fill..).take(whole).collect();
-    write(&mut numbers, MARGIN..MARGIN + lent.length);
-    numbers
+/// Lends a list, has it written to, and gives all of it. The writer gets it with
+/// its surroundings.
+fn after(call: &Call, write: impl FnOnce(&mut Lent)) -> Lent {
+    let mut answer = Lent::filled(call.length, call.fill);
+    write(&mut answer);
+    answer
 }
 
 /// A list of five holds the answer; one of another length is left alone.
-fn after_reference(lent: &Lent) -> Vec<u64> {
-    after(lent, |numbers, list| {
-        if list.len() == ANSWER_LENGTH {
-            numbers[list].copy_from_slice(&raw(&inverse_due(lent.a)));
+fn after_reference(call: &Call) -> Lent {
+    after(call, |answer| {
+        if call.length == ANSWER_LENGTH {
+            let due = raw(&inverse_due(call.a));
+            answer.list().copy_from_slice(&due);
         }
     })
 }
 
-fn after_library(lent: &Lent, library: &Library) -> Vec<u64> {
-    after(lent, |numbers, list| {
-        (library.inverse_into)(lent.a, &mut numbers[list])
-    })
+fn after_library(call: &Call, library: &Library) -> Lent {
+    after(call, |answer| (library.inverse_into)(call.a, answer.list()))
 }
 
 fn lent_other_lengths(library: &Library) -> Comparison {
@@ -463,7 +451,7 @@ fn lent_five_random(library: &Library, amounts: &Amounts) -> Comparison {
 
 fn lent(
     name: &'static str,
-    lists: impl IntoIterator<Item = Lent>,
+    lists: impl IntoIterator<Item = Call>,
     library: &Library,
 ) -> Comparison {
     compare(
@@ -471,7 +459,7 @@ fn lent(
         lists,
         REFERENCE_AND_LIBRARY,
         after_reference,
-        |lent| after_library(lent, library),
+        |call| after_library(call, library),
     )
 }
 

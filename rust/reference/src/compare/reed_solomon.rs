@@ -3,16 +3,17 @@
 mod call;
 mod inputs;
 
+use super::lent::{Lent, FILLS};
 use super::{compare, Comparison, Fixed, Show, PAPER_AND_LIBRARY, REFERENCE_AND_LIBRARY};
-use crate::answer::{done, raw, refused_at};
+use crate::answer::{done, raw, refused_at, ANSWER_LENGTH};
 use crate::random::Random;
 use crate::reed_solomon::{self, LARGEST_K};
-use call::{Call, Lent, ANSWER_LENGTH};
-use inputs::{TooLarge, FILLS};
+use call::Call;
+use inputs::TooLarge;
 use razgwilh::Answer;
 
 /// Takes offset, basis, list 3 and list 6.
-type SafeCall = fn(u64, &[u64], &[u64], &mut [u64]) -> Answer;
+pub type SafeCall = fn(u64, &[u64], &[u64], &mut [u64]) -> Answer;
 
 /// Takes the list for the answer too.
 type CCall = fn(u64, &[u64], &[u64], &mut [u64], &mut [u64]);
@@ -179,17 +180,17 @@ fn after(call: &Call, write: impl FnOnce(&mut Lent, &mut Lent)) -> After {
 fn after_reference(call: &Call, operation: Operation) -> After {
     after(call, |answer, output| {
         if call.answer == ANSWER_LENGTH {
-            let given = write_due(operation.due(call), output);
+            let given = write_due(operation.due(call), output.list());
             answer.list().copy_from_slice(&raw(&given));
         }
     })
 }
 
 /// Writes what is due in list 6, and gives the answer that is due.
-fn write_due(due: Result<Vec<u64>, Answer>, output: &mut Lent) -> Answer {
+pub fn write_due(due: Result<Vec<u64>, Answer>, output: &mut [u64]) -> Answer {
     match due {
         Ok(list) => {
-            output.list().copy_from_slice(&list);
+            output.copy_from_slice(&list);
             done()
         }
         Err(refusal) => refusal,
@@ -468,7 +469,7 @@ fn outcome(call: &Call, write: impl FnOnce(&mut Lent) -> Answer) -> Outcome {
 }
 
 fn outcome_due(call: &Call, due: Result<Vec<u64>, Answer>) -> Outcome {
-    outcome(call, |output| write_due(due, output))
+    outcome(call, |output| write_due(due, output.list()))
 }
 
 fn outcome_of_library(call: &Call, safe_call: SafeCall) -> Outcome {

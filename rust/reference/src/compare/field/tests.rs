@@ -1,5 +1,6 @@
 use super::*;
 use crate::answer::NONE;
+use crate::compare::wrong::{self, changed, into_five};
 use std::collections::HashSet;
 
 /// Few enough to run without optimisation.
@@ -19,9 +20,7 @@ const RIGHT: Library = Library {
 };
 
 fn right_inverse_into(a: u64, answer: &mut [u64]) {
-    if answer.len() == 5 {
-        answer.copy_from_slice(&raw(&inverse_due(a)));
-    }
+    into_five(answer, || inverse_due(a));
 }
 
 fn with_sum(sum: fn(u64, u64) -> u64) -> Library {
@@ -45,9 +44,7 @@ fn with_inverse_into(inverse_into: fn(u64, &mut [u64])) -> Library {
 
 /// The names of the comparisons that do not agree.
 fn differing(library: &Library) -> Vec<&'static str> {
-    let all = comparisons(library, &FEW);
-    let wrong = all.iter().filter(|comparison| !comparison.agrees());
-    wrong.map(|comparison| comparison.name).collect()
+    wrong::differing(&comparisons(library, &FEW))
 }
 
 fn smallest(comparison: Comparison) -> String {
@@ -255,21 +252,13 @@ fn an_inverse_that_answers_its_argument() {
 }
 
 /// The inverse with one of the five numbers changed.
-fn changed<const PLACE: usize>(a: u64) -> Answer {
-    let mut answer = inverse_due(a);
-    match PLACE {
-        0 => answer.number ^= 1,
-        1 => answer.place = Some(0),
-        2 => answer.round = Some(0),
-        3 => answer.reads += 1,
-        _ => answer.value = Some(answer.value.map_or(0, |x| x ^ 1)),
-    }
-    answer
+fn changed_inverse<const PLACE: usize>(a: u64) -> Answer {
+    changed::<PLACE>(inverse_due(a))
 }
 
 fn changed_for_zero<const PLACE: usize>(a: u64) -> Answer {
     if a == 0 {
-        changed::<PLACE>(a)
+        changed_inverse::<PLACE>(a)
     } else {
         inverse_due(a)
     }
@@ -278,11 +267,11 @@ fn changed_for_zero<const PLACE: usize>(a: u64) -> Answer {
 #[test]
 fn an_inverse_with_one_of_the_five_numbers_wrong() {
     let wrong: [fn(u64) -> Answer; 5] = [
-        changed::<0>,
-        changed::<1>,
-        changed::<2>,
-        changed::<3>,
-        changed::<4>,
+        changed_inverse::<0>,
+        changed_inverse::<1>,
+        changed_inverse::<2>,
+        changed_inverse::<3>,
+        changed_inverse::<4>,
     ];
     for library in wrong.map(with_inverse) {
         assert!(!inverse_zero(&library).agrees());
@@ -399,19 +388,19 @@ fn zero_is_written_for_a_value_there_is_none_of() {
 #[test]
 fn a_number_beside_the_list_is_written_to() {
     for length in [0, 1, 4, 5, 6, 64] {
-        for lent in lent_lists([0, 2], length) {
-            let before = |numbers: &mut [u64], list: Range<usize>| {
-                right_inverse_into(lent.a, &mut numbers[list.clone()]);
-                numbers[list.start - 1] = NONE;
+        for call in lent_lists([0, 2], length) {
+            let before = |answer: &mut Lent| {
+                right_inverse_into(call.a, answer.list());
+                answer.numbers[answer.list.start - 1] = NONE;
             };
-            let behind = |numbers: &mut [u64], list: Range<usize>| {
-                right_inverse_into(lent.a, &mut numbers[list.clone()]);
-                numbers[list.end] = 0;
+            let behind = |answer: &mut Lent| {
+                right_inverse_into(call.a, answer.list());
+                answer.numbers[answer.list.end] = 0;
             };
-            let due = after_reference(&lent);
-            assert_eq!(after_library(&lent, &RIGHT), due);
-            assert_ne!(after(&lent, before), due);
-            assert_ne!(after(&lent, behind), due);
+            let due = after_reference(&call);
+            assert!(after_library(&call, &RIGHT) == due);
+            assert!(after(&call, before) != due);
+            assert!(after(&call, behind) != due);
         }
     }
 }

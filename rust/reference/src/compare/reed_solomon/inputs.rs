@@ -1,15 +1,17 @@
 //! The calls that are compared: right ones, and ones damaged in every way that
 //! is refused.
 
-use super::call::{Call, ANSWER_LENGTH};
+use super::call::Call;
 use super::Operation;
+use crate::answer::ANSWER_LENGTH;
+use crate::compare::cosets::{
+    self, any_basis, basis, longest_basis, offset, with_repetition, with_zero, wrong_lengths,
+};
+use crate::compare::lent::{other_answer_lengths, FILLS};
+use crate::coset::points;
 use crate::random::Random;
-use crate::reed_solomon::{first_dependent, point, points, LARGEST_K};
+use crate::reed_solomon::LARGEST_K;
 use std::ops::RangeInclusive;
-
-/// What lent lists are filled from. A call takes one of the two, so that numbers
-/// which are written but happen to be those of one fill are seen with the other.
-pub const FILLS: [u64; 2] = [0xa5a5_a5a5_a5a5_a500, 0x5a5a_5a5a_5a5a_5a00];
 
 // Right calls. The basis, the offset and list 3 are each of one of a few sorts,
 // in turn. There are 3, 4 and 5 sorts, and as these numbers have no common
@@ -47,39 +49,6 @@ fn right(operation: Operation, random: &mut Random, k: usize, turn: usize) -> Ca
     }
 }
 
-/// An independent basis of any numbers, of numbers that span all of k bits, or
-/// of numbers that only one bit keeps from being dependent.
-fn basis(random: &mut Random, k: usize, turn: usize) -> Vec<u64> {
-    let mut basis = Vec::new();
-    while basis.len() < k {
-        let any = random.number();
-        basis.push(match turn % 3 {
-            0 => any,
-            1 => any >> (64 - k),
-            _ => point(1 << random.below(64), &basis, any),
-        });
-        if first_dependent(&basis).is_some() {
-            basis.pop();
-        }
-    }
-    basis
-}
-
-/// An independent basis of any numbers.
-fn any_basis(random: &mut Random, k: usize) -> Vec<u64> {
-    basis(random, k, 0)
-}
-
-/// Any offset, none, one in the span, or one of all ones.
-fn offset(random: &mut Random, basis: &[u64], turn: usize) -> u64 {
-    match turn % 4 {
-        0 => random.number(),
-        1 => 0,
-        2 => point(0, basis, random.number()),
-        _ => u64::MAX,
-    }
-}
-
 /// As many coefficients as there may be, one less, some, one or none.
 fn coefficients(random: &mut Random, k: usize, turn: usize) -> Vec<u64> {
     let all = 1 << k;
@@ -93,20 +62,11 @@ fn coefficients(random: &mut Random, k: usize, turn: usize) -> Vec<u64> {
     random.list(count)
 }
 
-/// A word of any values, with one value that is not zero, of zeros, of all ones,
-/// or of the points themselves.
+/// A word of one of the common sorts, or of the points themselves.
 fn word(random: &mut Random, offset: u64, basis: &[u64], turn: usize) -> Vec<u64> {
-    let length = 1 << basis.len();
     match turn % 5 {
-        0 => random.list(length),
-        1 => {
-            let mut word = vec![0; length];
-            word[random.below(length)] = random.number();
-            word
-        }
-        2 => vec![0; length],
-        3 => vec![u64::MAX; length],
-        _ => points(offset, basis),
+        4 => points(offset, basis),
+        sort => cosets::word(random, 1 << basis.len(), sort),
     }
 }
 
@@ -137,17 +97,6 @@ fn any_full(random: &mut Random, k: usize) -> Call {
 }
 
 // Wrong lengths.
-
-/// The lengths near the right one, the shortest ones, half and twice the right
-/// one, less those that fit.
-fn wrong_lengths(points: usize, fits: impl Fn(usize) -> bool) -> Vec<usize> {
-    let near = points.saturating_sub(4)..=points + 4;
-    let all = near.chain([0, 1, 2, points / 2, 2 * points]);
-    let mut wrong: Vec<usize> = all.filter(|&length| !fits(length)).collect();
-    wrong.sort_unstable();
-    wrong.dedup();
-    wrong
-}
 
 fn wrong_lengths_of_list_3(operation: Operation, k: usize) -> Vec<usize> {
     let points = 1 << k;
@@ -190,74 +139,26 @@ pub fn both_lists_wrong(operation: Operation, random: &mut Random, largest: usiz
 
 // Dependent bases.
 
-/// Makes the element at a place the sum of some earlier ones: of those whose bit
-/// is set.
-fn insert_sum(basis: &mut Vec<u64>, place: usize, picked: u64) {
-    let sum = point(0, &basis[..place], picked);
-    basis.insert(place, sum);
-}
-
-/// A full call whose basis is dependent at one place alone.
-fn dependent(random: &mut Random, k: usize, place: usize, picked: u64) -> Call {
-    let mut basis = any_basis(random, k - 1);
-    insert_sum(&mut basis, place, picked);
+/// A full call whose basis is dependent at any one place.
+fn any_dependent(random: &mut Random, k: usize) -> Call {
+    let basis = cosets::any_dependent(random, k);
     full(random, basis)
 }
 
-/// A full call whose basis is dependent at any one place.
-fn any_dependent(random: &mut Random, k: usize) -> Call {
-    let (place, picked) = (random.below(k), random.number());
-    dependent(random, k, place, picked)
-}
-
-/// All dimensions up to the largest, each with all places of its basis.
-fn all_places(largest: usize) -> impl Iterator<Item = (usize, usize)> {
-    let places_of = |k| (0..k).map(move |place| (k, place));
-    (1..=largest).flat_map(places_of)
-}
-
 pub fn zero_elements(random: &mut Random, largest: usize) -> Vec<Call> {
-    all_places(largest)
-        .map(|(k, place)| dependent(random, k, place, 0))
-        .collect()
+    cosets::zero_elements(random, 1..=largest, full)
 }
 
 pub fn repeated_elements(random: &mut Random, largest: usize) -> Vec<Call> {
-    let mut calls = Vec::new();
-    for (k, place) in all_places(largest) {
-        for earlier in 0..place {
-            calls.push(dependent(random, k, place, 1 << earlier));
-        }
-    }
-    calls
+    cosets::repeated_elements(random, 1..=largest, full)
 }
 
-/// Sums of two earlier elements or more: of any two next to each other, of all,
-/// and of any.
 pub fn sums_of_elements(random: &mut Random, largest: usize) -> Vec<Call> {
-    let mut calls = Vec::new();
-    for (k, place) in all_places(largest) {
-        for earlier in 1..place {
-            let two = 3 << (earlier - 1);
-            for picked in [two, u64::MAX, two | random.number()] {
-                calls.push(dependent(random, k, place, picked));
-            }
-        }
-    }
-    calls
+    cosets::sums_of_elements(random, 1..=largest, full)
 }
 
 pub fn two_dependent_places(random: &mut Random, largest: usize) -> Vec<Call> {
-    let mut calls = Vec::new();
-    for (k, second) in all_places(largest) {
-        for first in 0..second {
-            let mut basis = any_basis(random, k - 2);
-            insert_sum(&mut basis, first, random.number());
-            insert_sum(&mut basis, second, random.number());
-            calls.push(full(random, basis));
-        }
-    }
-    calls
+    cosets::two_dependent_places(random, 1..=largest, full)
 }
 
 // Dimensions out of range.
@@ -289,22 +190,6 @@ pub fn too_large_and_damaged(random: &mut Random, dimensions: &[TooLarge]) -> Ve
         calls.push(with_lengths(random, basis, 0, length + 1));
     }
     calls
-}
-
-/// A basis that is independent for as far as it can be.
-fn longest_basis(random: &mut Random, k: usize) -> Vec<u64> {
-    let mut basis = any_basis(random, k.min(64));
-    basis.extend(random.list(k - basis.len()));
-    basis
-}
-
-fn with_zero(basis: &[u64]) -> Vec<u64> {
-    [&[0], &basis[1..]].concat()
-}
-
-/// The last element is the first one again.
-fn with_repetition(basis: &[u64]) -> Vec<u64> {
-    [&basis[..basis.len() - 1], &basis[..1]].concat()
 }
 
 // More than one cause.
@@ -371,15 +256,11 @@ pub fn of_every_sort(operation: Operation, random: &mut Random, turns: usize) ->
     calls
 }
 
-/// Each with an answer list of every length from 0 to 8 and of one far longer,
-/// but not of the right one.
+/// Each with answer lists of other lengths.
 pub fn with_other_answers(operation: Operation, random: &mut Random) -> Vec<Call> {
     let mut calls = Vec::new();
     for call in of_every_sort(operation, random, 1) {
-        let lengths = (0..=8)
-            .chain([64])
-            .filter(|&length| length != ANSWER_LENGTH);
-        calls.extend(lengths.map(|answer| Call {
+        calls.extend(other_answer_lengths().map(|answer| Call {
             answer,
             ..call.clone()
         }));
@@ -391,6 +272,8 @@ pub fn with_other_answers(operation: Operation, random: &mut Random) -> Vec<Call
 mod tests {
     use super::*;
     use crate::answer::{refused, refused_at};
+    use crate::compare::cosets::all_places;
+    use crate::coset::first_dependent;
     use crate::reed_solomon::{may_encode, may_interpolate};
     use std::collections::HashSet;
 
@@ -467,7 +350,7 @@ mod tests {
             }
             met.insert((call.basis.len(), place));
         }
-        let due = all_places(largest).filter(|&(_, place)| place >= lowest);
+        let due = all_places(1..=largest).filter(|&(_, place)| place >= lowest);
         assert_eq!(met, due.collect());
     }
 

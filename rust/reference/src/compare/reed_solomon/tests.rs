@@ -1,6 +1,10 @@
 use super::*;
 use crate::answer::{refused, NONE};
-use crate::reed_solomon::{first_dependent, point};
+use crate::compare::wrong::{
+    self, but_the_first, but_the_last, changed, dependent, into_five, last_dependent, lower_halves,
+    only_sums_of_two, only_zero, only_zero_and_repeated, smallest, write_what_fits, BasisTest,
+};
+use crate::coset::first_dependent;
 use std::collections::HashSet;
 
 /// Few and small enough to run without optimisation.
@@ -51,13 +55,6 @@ macro_rules! library {
     };
 }
 
-/// Makes the call and writes its answer if there are five numbers for it.
-fn into_five(answer: &mut [u64], call: impl FnOnce() -> Answer) {
-    if answer.len() == 5 {
-        answer.copy_from_slice(&raw(&call()));
-    }
-}
-
 fn behave(
     behaviour: Behaviour,
     operation: Operation,
@@ -81,27 +78,12 @@ fn behave(
 const RIGHT: Library = library!(right);
 
 fn right(operation: Operation, call: &Call, output: &mut [u64]) -> Answer {
-    match operation.due(call) {
-        Ok(list) => {
-            output.copy_from_slice(&list);
-            done()
-        }
-        Err(refusal) => refusal,
-    }
+    write_due(operation.due(call), output)
 }
 
 /// The names of the comparisons that do not agree.
 fn differing(library: &Library) -> Vec<&'static str> {
-    let all = comparisons(library, &FEW);
-    let wrong = all.iter().filter(|comparison| !comparison.agrees());
-    wrong.map(|comparison| comparison.name).collect()
-}
-
-/// The smallest input of the comparison of this name.
-fn smallest(comparisons: Vec<Comparison>, name: &str) -> String {
-    let mut named = comparisons.into_iter().filter(|one| one.name == name);
-    let comparison = named.next().expect("a comparison of this name");
-    comparison.difference.expect("a difference").smallest
+    wrong::differing(&comparisons(library, &FEW))
 }
 
 // All comparisons, and those that a mistake of one sort shows in.
@@ -256,7 +238,7 @@ fn the_offset_is_ignored() {
     assert_differing(&wrong, &[SMALL, LARGE, SAFE]);
     let small = small_cosets(&wrong, &FEW);
     let one_point_away = "offset 1; basis 1; list 3: 0, 1; list 6 of length 2 ";
-    assert!(smallest(small, SMALL[0]).starts_with(one_point_away));
+    assert!(smallest(&small, SMALL[0]).starts_with(one_point_away));
 }
 
 #[test]
@@ -288,7 +270,7 @@ fn the_points_go_by_the_bits_from_above() {
     assert_differing(&wrong, &[SMALL, LARGE, SAFE, CASE_E]);
     let small = small_cosets(&wrong, &FEW);
     let two_elements = "offset 0; basis 1, 2; list 3: 0, 1; list 6 of length 4 ";
-    assert!(smallest(small, SMALL[0]).starts_with(two_elements));
+    assert!(smallest(&small, SMALL[0]).starts_with(two_elements));
 }
 
 #[test]
@@ -302,7 +284,7 @@ fn the_top_bit_of_the_offset_is_lost() {
     });
     let small = small_cosets(&wrong, &FEW);
     let top_bit = "offset 8000000000000000; basis 1; list 3: 0, 1; list 6 of length 2 ";
-    assert!(smallest(small, SMALL[0]).starts_with(top_bit));
+    assert!(smallest(&small, SMALL[0]).starts_with(top_bit));
 }
 
 // Wrong polynomials.
@@ -321,7 +303,7 @@ fn the_last_coefficient_is_not_encoded() {
     assert_eq!(names, due);
     let small = small_cosets(&wrong, &FEW);
     let one = "offset 0; basis nothing; list 3: 1; list 6 of length 1 ";
-    assert!(smallest(small, SMALL[0]).starts_with(one));
+    assert!(smallest(&small, SMALL[0]).starts_with(one));
 }
 
 #[test]
@@ -335,7 +317,7 @@ fn coefficients_left_off_are_one() {
     assert_eq!(names, [SMALL[0], TRIPS[0], SAFE[0], CASE_E[0]]);
     let small = small_cosets(&wrong, &FEW);
     let none = "offset 0; basis nothing; list 3: nothing; list 6 of length 1 ";
-    assert!(smallest(small, SMALL[0]).starts_with(none));
+    assert!(smallest(&small, SMALL[0]).starts_with(none));
 }
 
 /// Round trips stay silent, since both directions are wrong alike.
@@ -371,7 +353,7 @@ fn one_bit_of_the_word_makes_a_difference() {
     assert!(TRIPS.iter().all(|name| names.contains(name)));
     let small = small_cosets(&wrong, &FEW);
     let top_bit = "offset 0; basis nothing; list 3: 8000000000000000; list 6 of length 1 ";
-    assert!(smallest(small, SMALL[1]).starts_with(top_bit));
+    assert!(smallest(&small, SMALL[1]).starts_with(top_bit));
 }
 
 // Wrong writing.
@@ -391,7 +373,7 @@ fn the_last_number_is_not_written() {
     assert_differing(&wrong, &[SMALL, LARGE, TRIPS, SAFE, CASE_E]);
     let small = small_cosets(&wrong, &FEW);
     let one_point = "offset 0; basis nothing; list 3: 0; list 6 of length 1 ";
-    assert!(smallest(small, SMALL[1]).starts_with(one_point));
+    assert!(smallest(&small, SMALL[1]).starts_with(one_point));
 }
 
 #[test]
@@ -458,7 +440,7 @@ fn a_number_beside_a_list_is_written_to() {
         for call in inputs::of_every_sort(operation, &mut Random::named("beside"), 2) {
             let due = after_reference(&call, operation);
             let write_right = |answer: &mut Lent, output: &mut Lent| {
-                let given = write_due(operation.due(&call), output);
+                let given = write_due(operation.due(&call), output.list());
                 answer.list().copy_from_slice(&raw(&given));
             };
             let beside = |write: fn(&mut Lent)| {
@@ -493,12 +475,6 @@ const NOT_LOOKING_AT_THE_ANSWER: Library = Library {
     ..RIGHT
 };
 
-fn write_what_fits(due: Answer, answer: &mut [u64]) {
-    for (number, due) in answer.iter_mut().zip(raw(&due)) {
-        *number = due;
-    }
-}
-
 #[test]
 fn the_length_of_the_answer_is_not_looked_at() {
     assert_differing(&NOT_LOOKING_AT_THE_ANSWER, &[OTHER_ANSWER]);
@@ -530,7 +506,7 @@ fn a_longer_answer_is_written_to() {
         ..RIGHT
     };
     assert_eq!(differing(&wrong), OTHER_ANSWER[1..]);
-    let shown = smallest(other_answers(&wrong), OTHER_ANSWER[1]);
+    let shown = smallest(&other_answers(&wrong), OTHER_ANSWER[1]);
     assert!(shown.contains("and answer of length 6,"), "{shown}");
 }
 
@@ -570,18 +546,6 @@ fn a_number_of_the_answer_is_left_unwritten() {
         };
         assert_eq!(differing(&library), due);
     }
-}
-
-/// Changes one of the five numbers of an answer.
-fn changed<const PLACE: usize>(mut answer: Answer) -> Answer {
-    match PLACE {
-        0 => answer.number ^= 1,
-        1 => answer.place = Some(answer.place.map_or(0, |place| place ^ 1)),
-        2 => answer.round = Some(0),
-        3 => answer.reads += 1,
-        _ => answer.value = Some(0),
-    }
-    answer
 }
 
 fn changing<const PLACE: usize>(operation: Operation, call: &Call, output: &mut [u64]) -> Answer {
@@ -639,10 +603,6 @@ fn first_of_all(
     cause: Option<Answer>,
 ) -> Answer {
     cause.unwrap_or_else(|| right(operation, call, output))
-}
-
-fn dependent(basis: &[u64]) -> Option<Answer> {
-    first_dependent(basis).map(|place| refused_at(8, place as u64))
 }
 
 #[test]
@@ -729,30 +689,9 @@ fn the_place_is_counted_from_1() {
     });
     let due = [ZERO, REPEATED, SUMS, TWO_PLACES, SAFE, CASE_M];
     assert_differing(&wrong, &due);
-    let shown = smallest(zero_elements(&wrong, &FEW), ZERO[0]);
+    let shown = smallest(&zero_elements(&wrong, &FEW), ZERO[0]);
     let start = "offset 0; basis 0; list 3: nothing; list 6 of length 2 ";
     assert!(shown.starts_with(start), "{shown}");
-}
-
-/// The place at which a basis would be found dependent from behind.
-fn last_dependent(basis: &[u64]) -> Option<usize> {
-    let dependent = |&place: &usize| first_dependent(&without_dependent(&basis[..=place], place));
-    (0..basis.len())
-        .rev()
-        .find(|place| dependent(place).is_some())
-}
-
-/// The independent ones before a place, and the element there.
-fn without_dependent(basis: &[u64], place: usize) -> Vec<u64> {
-    let mut kept = Vec::new();
-    for &element in &basis[..place] {
-        kept.push(element);
-        if first_dependent(&kept).is_some() {
-            kept.pop();
-        }
-    }
-    kept.push(basis[place]);
-    kept
 }
 
 #[test]
@@ -768,12 +707,7 @@ fn the_last_dependent_place_is_given() {
 
 /// Takes a basis if this test of it finds nothing, and does no work for one that
 /// the reference refuses.
-fn testing(
-    operation: Operation,
-    call: &Call,
-    output: &mut [u64],
-    test: fn(&[u64]) -> Option<usize>,
-) -> Answer {
+fn testing(operation: Operation, call: &Call, output: &mut [u64], test: BasisTest) -> Answer {
     with_refusal(operation, call, output, |answer| match answer.number {
         8 => test(&call.basis).map_or(done(), |place| refused_at(8, place as u64)),
         _ => answer,
@@ -782,20 +716,16 @@ fn testing(
 
 #[test]
 fn the_last_element_is_not_tested() {
-    let wrong = library!(|operation, call, output| {
-        let but_the_last = |basis: &[u64]| first_dependent(&basis[..basis.len() - 1]);
-        testing(operation, call, output, but_the_last)
-    });
+    let wrong =
+        library!(|operation, call, output| { testing(operation, call, output, but_the_last) });
     let due = [ZERO, REPEATED, SUMS, SAFE, CASE_M];
     assert_differing(&wrong, &due);
 }
 
 #[test]
 fn the_first_element_is_not_tested() {
-    let wrong = library!(|operation, call, output| {
-        let but_the_first = |basis: &[u64]| first_dependent(&basis[1..]).map(|place| place + 1);
-        testing(operation, call, output, but_the_first)
-    });
+    let wrong =
+        library!(|operation, call, output| { testing(operation, call, output, but_the_first) });
     let names = differing(&wrong);
     assert!([ZERO, REPEATED, SUMS]
         .concat()
@@ -805,10 +735,7 @@ fn the_first_element_is_not_tested() {
 
 #[test]
 fn only_zero_is_found_dependent() {
-    let wrong = library!(|operation, call, output| {
-        let zero = |basis: &[u64]| basis.iter().position(|&element| element == 0);
-        testing(operation, call, output, zero)
-    });
+    let wrong = library!(|operation, call, output| { testing(operation, call, output, only_zero) });
     let names = differing(&wrong);
     assert!(!ZERO.iter().any(|name| names.contains(name)));
     assert!([REPEATED, SUMS]
@@ -820,11 +747,7 @@ fn only_zero_is_found_dependent() {
 #[test]
 fn only_zero_and_repeated_elements_are_found_dependent() {
     let wrong = library!(|operation, call, output| {
-        let repeated = |basis: &[u64]| {
-            let met = |place: &usize| basis[..*place].contains(&basis[*place]);
-            (0..basis.len()).find(|place| basis[*place] == 0 || met(place))
-        };
-        testing(operation, call, output, repeated)
+        testing(operation, call, output, only_zero_and_repeated)
     });
     let names = differing(&wrong);
     assert!(![ZERO, REPEATED]
@@ -837,14 +760,8 @@ fn only_zero_and_repeated_elements_are_found_dependent() {
 
 #[test]
 fn only_sums_of_two_are_found_dependent() {
-    let wrong = library!(|operation, call, output| {
-        let sum_of_two = |basis: &[u64]| {
-            let picks = |place: usize| (0..1 << place).filter(|pick: &u64| pick.count_ones() <= 2);
-            let is_sum = |place, pick| point(0, &basis[..place], pick) == basis[place];
-            (0..basis.len()).find(|&place| picks(place).any(|pick| is_sum(place, pick)))
-        };
-        testing(operation, call, output, sum_of_two)
-    });
+    let wrong =
+        library!(|operation, call, output| { testing(operation, call, output, only_sums_of_two) });
     let names = differing(&wrong);
     assert!(![ZERO, REPEATED, CASE_M]
         .concat()
@@ -857,13 +774,13 @@ fn only_sums_of_two_are_found_dependent() {
 #[test]
 fn only_the_lower_half_of_an_element_is_tested() {
     let wrong = library!(|operation, call, output| {
-        let halves: Vec<u64> = call.basis.iter().map(|b| b & (u64::MAX >> 32)).collect();
+        let halves = lower_halves(&call.basis);
         let cause = dependent(&halves).filter(|_| !operation.refuses(call));
         first_of_all(operation, call, output, cause)
     });
     let names = differing(&wrong);
     assert!(SMALL.iter().all(|name| names.contains(name)));
-    let shown = smallest(small_cosets(&wrong, &FEW), SMALL[0]);
+    let shown = smallest(&small_cosets(&wrong, &FEW), SMALL[0]);
     let upper_half = "offset 0; basis 100000000; list 3: nothing; list 6 of length 2 ";
     assert!(shown.starts_with(upper_half), "{shown}");
 }
@@ -888,7 +805,7 @@ fn as_many_coefficients_as_points_are_refused() {
     });
     let names = differing(&wrong);
     assert_eq!(names, [SMALL[0], LARGE[0], TRIPS[0], TRIPS[1], SAFE[0]]);
-    let shown = smallest(small_cosets(&wrong, &FEW), SMALL[0]);
+    let shown = smallest(&small_cosets(&wrong, &FEW), SMALL[0]);
     let one = "offset 0; basis nothing; list 3: 0; list 6 of length 1 ";
     assert!(shown.starts_with(one), "{shown}");
 }
@@ -905,7 +822,7 @@ fn coefficients_beyond_the_points_are_left_out() {
     });
     let names = differing(&wrong);
     assert_eq!(names, [LIST_3[0], BOTH_LISTS[0], SEVERAL[0], SAFE[0]]);
-    let shown = smallest(list_3_wrong(&wrong, &FEW), LIST_3[0]);
+    let shown = smallest(&list_3_wrong(&wrong, &FEW), LIST_3[0]);
     let two = "offset 0; basis nothing; list 3: 0 (2 times); list 6 of length 0 ";
     assert!(shown.starts_with(two), "{shown}");
 }
@@ -962,7 +879,7 @@ fn taking_too_large(operation: Operation, call: &Call, output: &mut [u64]) -> An
 fn a_basis_of_thirteen_is_taken() {
     let wrong = library!(taking_too_large);
     assert_differing(&wrong, &[TOO_LARGE_AND_DAMAGED, TOO_LARGE, SEVERAL, SAFE]);
-    let shown = smallest(too_large(&wrong, &FEW), TOO_LARGE[0]);
+    let shown = smallest(&too_large(&wrong, &FEW), TOO_LARGE[0]);
     let thirteen = "offset 0; basis 0 (13 times); list 3: nothing; list 6 of length 0 ";
     assert!(shown.starts_with(thirteen), "{shown}");
 }

@@ -1,0 +1,180 @@
+//! Bases, offsets and words that calls are made of, and lengths that lists must
+//! not have.
+
+use crate::coset::{first_dependent, point};
+use crate::random::Random;
+use std::ops::RangeInclusive;
+
+// Each is of one of a few sorts, in turn.
+
+/// An independent basis of any numbers, of numbers that span all of k bits, or
+/// of numbers that only one bit keeps from being dependent.
+pub fn basis(random: &mut Random, k: usize, turn: usize) -> Vec<u64> {
+    let mut basis = Vec::new();
+    while basis.len() < k {
+        let any = random.number();
+        basis.push(match turn % 3 {
+            0 => any,
+            1 => any >> (64 - k),
+            _ => point(1 << random.below(64), &basis, any),
+        });
+        if first_dependent(&basis).is_some() {
+            basis.pop();
+        }
+    }
+    basis
+}
+
+/// An independent basis of any numbers.
+pub fn any_basis(random: &mut Random, k: usize) -> Vec<u64> {
+    basis(random, k, 0)
+}
+
+/// Any offset, none, one in the span, or one of all ones.
+pub fn offset(random: &mut Random, basis: &[u64], turn: usize) -> u64 {
+    match turn % 4 {
+        0 => random.number(),
+        1 => 0,
+        2 => point(0, basis, random.number()),
+        _ => u64::MAX,
+    }
+}
+
+/// A word of any values, with one value that is not zero, of zeros, or of all
+/// ones. What else a word may be is up to the operation.
+pub fn word(random: &mut Random, length: usize, sort: usize) -> Vec<u64> {
+    match sort {
+        0 => random.list(length),
+        1 => {
+            let mut word = vec![0; length];
+            word[random.below(length)] = random.number();
+            word
+        }
+        2 => vec![0; length],
+        _ => vec![u64::MAX; length],
+    }
+}
+
+// Wrong lengths.
+
+/// The lengths near the right one, the shortest ones, half and twice the right
+/// one, less those that fit.
+pub fn wrong_lengths(right: usize, fits: impl Fn(usize) -> bool) -> Vec<usize> {
+    let near = right.saturating_sub(4)..=right + 4;
+    let all = near.chain([0, 1, 2, right / 2, 2 * right]);
+    let mut wrong: Vec<usize> = all.filter(|&length| !fits(length)).collect();
+    wrong.sort_unstable();
+    wrong.dedup();
+    wrong
+}
+
+// Dependent bases. Each is made into a call as soon as it is there.
+
+/// Makes the element at a place the sum of some earlier ones: of those whose bit
+/// is set.
+fn insert_sum(basis: &mut Vec<u64>, place: usize, picked: u64) {
+    let sum = point(0, &basis[..place], picked);
+    basis.insert(place, sum);
+}
+
+/// A basis that is dependent at one place alone.
+fn dependent(random: &mut Random, k: usize, place: usize, picked: u64) -> Vec<u64> {
+    let mut basis = any_basis(random, k - 1);
+    insert_sum(&mut basis, place, picked);
+    basis
+}
+
+/// A basis that is dependent at any one place.
+pub fn any_dependent(random: &mut Random, k: usize) -> Vec<u64> {
+    let (place, picked) = (random.below(k), random.number());
+    dependent(random, k, place, picked)
+}
+
+/// All of the dimensions, each with all places of its basis.
+pub fn all_places(dimensions: RangeInclusive<usize>) -> impl Iterator<Item = (usize, usize)> {
+    let places_of = |k| (0..k).map(move |place| (k, place));
+    dimensions.flat_map(places_of)
+}
+
+pub fn zero_elements<C>(
+    random: &mut Random,
+    dimensions: RangeInclusive<usize>,
+    call: impl Fn(&mut Random, Vec<u64>) -> C,
+) -> Vec<C> {
+    let mut calls = Vec::new();
+    for (k, place) in all_places(dimensions) {
+        let basis = dependent(random, k, place, 0);
+        calls.push(call(random, basis));
+    }
+    calls
+}
+
+pub fn repeated_elements<C>(
+    random: &mut Random,
+    dimensions: RangeInclusive<usize>,
+    call: impl Fn(&mut Random, Vec<u64>) -> C,
+) -> Vec<C> {
+    let mut calls = Vec::new();
+    for (k, place) in all_places(dimensions) {
+        for earlier in 0..place {
+            let basis = dependent(random, k, place, 1 << earlier);
+            calls.push(call(random, basis));
+        }
+    }
+    calls
+}
+
+/// Sums of two earlier elements or more: of any two next to each other, of all,
+/// and of any.
+pub fn sums_of_elements<C>(
+    random: &mut Random,
+    dimensions: RangeInclusive<usize>,
+    call: impl Fn(&mut Random, Vec<u64>) -> C,
+) -> Vec<C> {
+    let mut calls = Vec::new();
+    for (k, place) in all_places(dimensions) {
+        for earlier in 1..place {
+            let two = 3 << (earlier - 1);
+            for picked in [two, u64::MAX, two | random.number()] {
+                let basis = dependent(random, k, place, picked);
+                calls.push(call(random, basis));
+            }
+        }
+    }
+    calls
+}
+
+pub fn two_dependent_places<C>(
+    random: &mut Random,
+    dimensions: RangeInclusive<usize>,
+    call: impl Fn(&mut Random, Vec<u64>) -> C,
+) -> Vec<C> {
+    let mut calls = Vec::new();
+    for (k, second) in all_places(dimensions) {
+        for first in 0..second {
+            let mut basis = any_basis(random, k - 2);
+            insert_sum(&mut basis, first, random.number());
+            insert_sum(&mut basis, second, random.number());
+            calls.push(call(random, basis));
+        }
+    }
+    calls
+}
+
+// Bases of any length.
+
+/// A basis that is independent for as far as it can be.
+pub fn longest_basis(random: &mut Random, k: usize) -> Vec<u64> {
+    let mut basis = any_basis(random, k.min(64));
+    basis.extend(random.list(k - basis.len()));
+    basis
+}
+
+pub fn with_zero(basis: &[u64]) -> Vec<u64> {
+    [&[0], &basis[1..]].concat()
+}
+
+/// The last element is the first one again.
+pub fn with_repetition(basis: &[u64]) -> Vec<u64> {
+    [&basis[..basis.len() - 1], &basis[..1]].concat()
+}

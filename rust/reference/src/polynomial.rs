@@ -1,0 +1,178 @@
+//! Polynomials over the field: values, and Lagrange's interpolant over any points
+//! that differ. A polynomial is the list of its coefficients, constant first.
+
+use crate::field;
+
+/// The value of a polynomial at a point. Neighbours are joined by the point,
+/// then neighbours among these by its square, and so on. So a coefficient is
+/// multiplied by power 2^b of the point for every bit b that is set in its
+/// index, which makes the power of that index.
+pub fn value(polynomial: &[u64], point: u64) -> u64 {
+    let mut terms = polynomial.to_vec();
+    let mut power = point;
+    while terms.len() > 1 {
+        let factor = Factor::of(power);
+        let pairs = terms.chunks(2);
+        terms = pairs.map(|pair| joined(pair, &factor)).collect();
+        power = factor.times(power);
+    }
+    terms.first().copied().unwrap_or(0)
+}
+
+/// The first term plus the factor times the second, if there is one.
+fn joined(pair: &[u64], factor: &Factor) -> u64 {
+    let second = pair.get(1).map_or(0, |&term| factor.times(term));
+    field::sum(pair[0], second)
+}
+
+/// Lagrange's interpolant: the sum over all points of the polynomial that
+/// vanishes at the other points, scaled to the word's value at this one.
+pub fn interpolant(points: &[u64], word: &[u64]) -> Vec<u64> {
+    let vanishing = vanishing(points);
+    let mut sum = vec![0; points.len()];
+    for (&point, &due) in points.iter().zip(word) {
+        let others = divided(&vanishing, point);
+        let found = field::inverse(value(&others, point)).expect("the points differ");
+        let scale = Factor::of(field::product(due, found));
+        for (total, &coefficient) in sum.iter_mut().zip(&others) {
+            *total = field::sum(*total, scale.times(coefficient));
+        }
+    }
+    sum
+}
+
+/// The product of X - a over the points a.
+pub fn vanishing(points: &[u64]) -> Vec<u64> {
+    let mut product = vec![1];
+    for &point in points {
+        let factor = Factor::of(point);
+        let by_x = [&[0], &product[..]].concat();
+        product.push(0);
+        for (coefficient, above) in product.iter_mut().zip(by_x) {
+            *coefficient = field::sum(above, factor.times(*coefficient));
+        }
+    }
+    product
+}
+
+/// The quotient by X - a of a polynomial that vanishes at the point a, from the
+/// top coefficient down.
+fn divided(polynomial: &[u64], point: u64) -> Vec<u64> {
+    let factor = Factor::of(point);
+    let mut quotient = vec![0; polynomial.len() - 1];
+    let mut last = 0;
+    for power in (0..quotient.len()).rev() {
+        last = field::sum(polynomial[power + 1], factor.times(last));
+        quotient[power] = last;
+    }
+    quotient
+}
+
+// A product that is fast enough for 4,096 points and more.
+
+/// A factor of many products: its multiples by every number of four bits, at
+/// each of the sixteen places that four bits of the other factor can have.
+struct Factor {
+    multiples: [[u64; 16]; 16],
+}
+
+impl Factor {
+    fn of(element: u64) -> Factor {
+        let mut multiples = [[0; 16]; 16];
+        // The element times t to the power of the bit at hand.
+        let mut shifted = element;
+        for by_four_bits in &mut multiples {
+            for bit in 0..4 {
+                let highest = 1 << bit;
+                for lower in 0..highest {
+                    by_four_bits[highest + lower] = field::sum(by_four_bits[lower], shifted);
+                }
+                shifted = field::doubling(shifted);
+            }
+        }
+        Factor { multiples }
+    }
+
+    fn times(&self, other: u64) -> u64 {
+        let mut product = 0;
+        for (place, by_four_bits) in self.multiples.iter().enumerate() {
+            let four_bits = (other >> (4 * place)) & 15;
+            product = field::sum(product, by_four_bits[four_bits as usize]);
+        }
+        product
+    }
+}
+
+#[cfg(test)]
+mod tests {
+    use super::*;
+    use crate::coset::points;
+    use crate::random::Random;
+
+    /// The sum of the terms, each with a power made of as many products.
+    fn sum_of_terms(polynomial: &[u64], point: u64) -> u64 {
+        let power = |index| (0..index).fold(1, |power, _| field::product(power, point));
+        let term = |(index, &coefficient)| field::product(coefficient, power(index));
+        let terms = polynomial.iter().enumerate().map(term);
+        terms.fold(0, field::sum)
+    }
+
+    #[test]
+    fn a_factor_gives_the_product() {
+        let mut random = Random::named("a factor gives the product");
+        let edges = [0, 1, 2, 0x1b, 1 << 63, u64::MAX];
+        let numbers = [random.list(20), edges.to_vec()].concat();
+        for &a in &numbers {
+            let factor = Factor::of(a);
+            for &b in &numbers {
+                assert_eq!(factor.times(b), field::product(a, b));
+            }
+        }
+    }
+
+    #[test]
+    fn a_value_is_the_sum_of_the_terms() {
+        let mut random = Random::named("a value is the sum of the terms");
+        for length in 0..20 {
+            let polynomial = random.list(length);
+            for point in [0, 1, 2, random.number()] {
+                assert_eq!(value(&polynomial, point), sum_of_terms(&polynomial, point));
+            }
+        }
+    }
+
+    #[test]
+    fn the_vanishing_polynomial_vanishes() {
+        // X (X - 1) (X - 2) (X - 3) by hand.
+        assert_eq!(vanishing(&points(0, &[1, 2])), [0, 6, 7, 0, 1]);
+        let points = [3, 0x77, 1 << 63, u64::MAX];
+        let polynomial = vanishing(&points);
+        assert_eq!(polynomial.len(), 5);
+        assert_eq!(polynomial[4], 1);
+        assert!(points.iter().all(|&x| sum_of_terms(&polynomial, x) == 0));
+    }
+
+    #[test]
+    fn a_quotient_vanishes_at_the_other_points() {
+        let points = [3, 0x77, 1 << 63, u64::MAX];
+        for left_out in 0..points.len() {
+            let mut others = points.to_vec();
+            let point = others.remove(left_out);
+            assert_eq!(divided(&vanishing(&points), point), vanishing(&others));
+        }
+    }
+
+    /// The points need not form a coset.
+    #[test]
+    fn an_interpolant_has_the_values() {
+        let mut random = Random::named("an interpolant has the values");
+        for length in 0..20 {
+            let (points, word) = (random.list(length), random.list(length));
+            let polynomial = interpolant(&points, &word);
+            assert_eq!(polynomial.len(), length);
+            for (&point, due) in points.iter().zip(word) {
+                assert_eq!(sum_of_terms(&polynomial, point), due);
+            }
+        }
+    }
+}

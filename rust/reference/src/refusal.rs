@@ -1,0 +1,31 @@
+//! Refusals that several operations give, and the lists that they name.
+
+use crate::answer::{refused_at, DEPENDENT_BASIS, WRONG_LENGTH};
+use crate::coset::first_dependent;
+use razgwilh::Answer;
+
+/// The list of the basis.
+pub const LIST_OF_THE_BASIS: u64 = 1;
+
+/// The list of the word, or of the coefficients to encode.
+pub const LIST_OF_THE_GIVEN: u64 = 3;
+
+/// The list that the values, or the interpolated coefficients, are written to.
+pub const LIST_OF_THE_OUTPUT: u64 = 6;
+
+/// The list that the next basis is written to.
+pub const LIST_OF_THE_NEXT_BASIS: u64 = 7;
+
+pub fn right_length(list: u64, right: bool) -> Result<(), Answer> {
+    if !right {
+        return Err(refused_at(WRONG_LENGTH, list));
+    }
+    Ok(())
+}
+
+pub fn independent(basis: &[u64]) -> Result<(), Answer> {
+    match first_dependent(basis) {
+        Some(place) => Err(refused_at(DEPENDENT_BASIS, place as u64)),
+        None => Ok(()),
+    }
+}
