@@ -64,6 +64,48 @@ static void expect_codes(size_t length) {
     expect_list(output, filled_in, written, "rz_interpolate: coefficients");
 }
 
+/* Case D with the word of case E, with an answer's list of any length. */
+static void expect_fold(size_t length) {
+    const uint64_t next_offset[] = {0, RZ_NONE, RZ_NONE, 0, 0x48};
+    const uint64_t folded[] = {0x13, 0x13}, six[] = {6};
+    uint64_t answer[LENGTHS], values[LENGTHS], next_basis[LENGTHS];
+    size_t answers = length == RZ_ANSWER_LENGTH;
+
+    fill(answer);
+    fill(values);
+    fill(next_basis);
+    rz_fold(2, 1, 8, basis, 2, word, 4, 4, values, 2, next_basis, 1, answer, length);
+    expect_answer(answer, length, next_offset, "rz_fold: answer");
+    expect_list(values, folded, answers ? 2 : 0, "rz_fold: values");
+    expect_list(next_basis, six, answers ? 1 : 0, "rz_fold: next basis");
+}
+
+/* Each argument of a fold stands in its own place: a refusal names it, and both lists are left alone. */
+static void expect_fold_refused(size_t k, size_t step, size_t basis_length, size_t word_length, size_t values_length,
+                                size_t next_length, uint64_t number, uint64_t place) {
+    const uint64_t refused[] = {number, place, RZ_NONE, 0, RZ_NONE};
+    uint64_t answer[LENGTHS], values[LENGTHS], next_basis[LENGTHS];
+
+    fill(answer);
+    fill(values);
+    fill(next_basis);
+    rz_fold(k, step, 8, basis, basis_length, word, word_length, 4, values, values_length, next_basis, next_length, answer,
+            RZ_ANSWER_LENGTH);
+    expect_answer(answer, RZ_ANSWER_LENGTH, refused, "rz_fold: refusal");
+    expect_list(values, word, 0, "rz_fold: values after a refusal");
+    expect_list(next_basis, word, 0, "rz_fold: next basis after a refusal");
+}
+
+static void expect_folds_refused(void) {
+    expect_fold_refused(1, 1, 2, 4, 2, 1, 4, RZ_NONE);
+    expect_fold_refused(2, 4, 2, 4, 2, 1, 6, RZ_NONE);
+    expect_fold_refused(2, 3, 2, 4, 2, 1, 7, RZ_NONE);
+    expect_fold_refused(2, 1, 1, 3, 3, 2, 13, 1);
+    expect_fold_refused(2, 1, 2, 3, 3, 2, 13, 3);
+    expect_fold_refused(2, 1, 2, 4, 3, 2, 13, 6);
+    expect_fold_refused(2, 1, 2, 4, 2, 2, 13, 7);
+}
+
 /* Each length stands in its own place: a refusal names the list, and the output is left alone. */
 static void expect_refused(void) {
     const uint64_t list_3[] = {13, 3, RZ_NONE, 0, RZ_NONE};
@@ -97,7 +139,9 @@ int main(void) {
         expect_inverse(2, length, of_two);
         expect_inverse(0, length, of_zero);
         expect_codes(length);
+        expect_fold(length);
     }
     expect_refused();
+    expect_folds_refused();
     return failures != 0;
 }

@@ -4,5 +4,6 @@ pub mod Lines
 pub mod Theorems
 pub mod Cases
 mod Checks
+pub mod Outcomes
 mod Cosets
 mod AllCosets

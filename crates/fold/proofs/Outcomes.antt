@@ -1,0 +1,198 @@
+-- Which folds are done, and the numbers, places and rounds of the refusals. Assumes nothing.
+use mathlib.Core.Path.{_≡_, refl, sym, ap, _∙_, subst}
+use mathlib.Core.Logic.{_≢_, _⊎_, _↔_, ⊎-elim}
+use mathlib.Core.Bool.{Bool, true, false, _&&_}
+use mathlib.Core.List.{List}
+use Prim.Native.Nat.{ℕ, _-_, _^_, _≤_, _<_}
+use native.Mathlib.Omega.{arith}
+use lib.Dec.{leb, eqb}
+use lib.ListN.{length}
+use borrow.Author.Tests.{le-leb, lt-leb, eq-eqb, ne-eqb}
+use Rattle.gf64.specs.Field.{IsElement}
+use Rattle.poly.specs.Polynomial.{All}
+use Rattle.refusal.specs.declared.Cause.{Cause}
+use Rattle.refusal.specs.declared.Cause.the-variants.{DimensionOutOfRange, StepOutOfRange, DimensionTooSmall, WrongLength, BasisDependent, LaterBasisDependent}
+use Rattle.refusal.specs.declared.Outcome.{Outcome}
+use Rattle.refusal.specs.declared.Outcome.the-variants.{Done, Refused}
+use Rattle.refusal.specs.declared.Position.{Position}
+use Rattle.refusal.specs.declared.Position.the-variants.{At, Absent}
+use Rattle.refusal.specs.Checks.{refusedUnless, andThen}
+use Rattle.refusal.specs.Numbers.{numberOf, placeOf, roundOf, numberOfOutcome}
+use Rattle.refusal.proofs.Checks.{both-true, first-false, second-false, then-passed, then-refused}
+use Rattle.coset.specs.Span.{firstDependent, Independent}
+use Rattle.coset.specs.Answers.{outcomeOfBasis}
+use Rattle.coset.specs.Subspace.{nextBasis}
+use Rattle.coset.proofs.Subspace.{next-independent}
+use Rattle.fold.specs.Answers.{rangesOutcome, lengthsOutcome, outcomeOfNextBasis, basesOutcome, foldOutcome}
+use Rattle.fold.specs.Theorems.{InRange, Fits, FoldAccepted, Told, FoldRefusals}
+use Rattle.fold.proofs.Checks as checks
+
+in-range-k : (k step : ℕ) → InRange k step → (leb 2 k && leb k 20) ≡ true
+in-range-k k step r = both-true (leb 2 k) (leb k 20) (le-leb 2 k (r .0)) (le-leb k 20 (r .1))
+
+in-range-step : (k step : ℕ) → InRange k step → (leb 1 step && leb step 3) ≡ true
+in-range-step k step r = both-true (leb 1 step) (leb step 3) (le-leb 1 step (r .2)) (le-leb step 3 (r .3))
+
+outside : (low n high : ℕ) → (n < low) ⊎ (high < n) → (leb low n && leb n high) ≡ false
+outside low n high o =
+    ⊎-elim (λ (l : n < low). first-false (leb low n) (leb n high) (lt-leb low n l))
+    (λ (u : high < n). second-false (leb low n) (leb n high) (lt-leb n high u)) o
+
+module _ (k step : ℕ) (basis word values next : List ℕ) where
+  abbrev outcome : Outcome
+  outcome = foldOutcome k step basis word values next
+
+  abbrev lengths : Outcome
+  lengths = lengthsOutcome k step (length basis) (length word) (length values) (length next)
+
+  abbrev bases : Outcome
+  bases = basesOutcome step basis
+
+  ranges-refuse : (cause : Cause) → Refused cause ≡ rangesOutcome k step → Refused cause ≡ outcome
+  ranges-refuse cause e = then-refused (rangesOutcome k step) (andThen lengths bases) cause (sym e)
+
+  module _ (r : InRange k step) (fits : step ≤ k) where
+    ranges-passed : rangesOutcome k step ≡ Done
+    ranges-passed = sym (checks.ranges-pass k step (in-range-k k step r) (in-range-step k step r) (le-leb step k fits))
+
+    lengths-refuse : (cause : Cause) → Refused cause ≡ lengths → Refused cause ≡ outcome
+    lengths-refuse cause e = then-refused lengths bases cause (sym e) ∙ then-passed (rangesOutcome k step) (andThen lengths bases) ranges-passed
+
+    bases-decide : Fits k step basis word values next → bases ≡ outcome
+    bases-decide f =
+        then-passed lengths bases
+        (sym
+        (checks.lengths-pass k step (length basis) (length word) (length values) (length next) (eq-eqb (length basis) k (f .0)) (eq-eqb (length word) (2 ^ k) (f .1))
+        (eq-eqb (length values) (2 ^ (k - step)) (f .2)) (eq-eqb (length next) (k - step) (f .3))))
+        ∙ then-passed (rangesOutcome k step) (andThen lengths bases) ranges-passed
+
+-- an independent basis passes, and number 16 does not come
+bases-pass : (step : ℕ) (basis : List ℕ) → All IsElement basis → Independent basis → basesOutcome step basis ≡ Done
+bases-pass step basis h d =
+    sym (then-passed (outcomeOfBasis (firstDependent basis)) (outcomeOfNextBasis (firstDependent (nextBasis step basis))) (ap outcomeOfBasis d))
+    ∙ ap outcomeOfNextBasis (next-independent step basis h d)
+
+accepts : (k step : ℕ) (basis word values next : List ℕ) → All IsElement basis
+    → (foldOutcome k step basis word values next ≡ Done)
+    ↔ (InRange k step × (step ≤ k) × Fits k step basis word values next × Independent basis)
+accepts k step basis word values next h = (
+  λ e.
+      let p = checks.passed k step basis word values next e in
+      let r = p .ranges in
+      let l = p .lengths in
+      ((r .at-least-2, r .at-most-20, r .step-at-least-1, r .step-at-most-3), r .step-fits, (l .list1-fits, l .list3-fits, l .list6-fits, l .list7-fits), p .independent),
+  λ a. sym (bases-decide k step basis word values next (a .0) (a .1) (a .2)) ∙ bases-pass step basis h (a .3),
+)
+
+told : (outcome : Outcome) (cause : Cause) → Refused cause ≡ outcome → Told outcome (numberOf cause) (placeOf cause) (roundOf cause)
+told outcome cause e = subst (λ (o : Outcome). Told o (numberOf cause) (placeOf cause) (roundOf cause)) e (refl, refl, refl)
+
+dependent-refused : (step : ℕ) (basis : List ℕ) (place : ℕ) → firstDependent basis ≡ At place → Refused (BasisDependent place) ≡ basesOutcome step basis
+dependent-refused step basis place e =
+    then-refused (outcomeOfBasis (firstDependent basis)) (outcomeOfNextBasis (firstDependent (nextBasis step basis))) (BasisDependent place) (ap outcomeOfBasis e)
+
+-- ---- no call is refused with number 16
+
+-- the outcome is one of the others: a refusal whose number is below 16, or done
+Other : Outcome → Type 0
+Other outcome = numberOfOutcome outcome < 16
+
+other-unless : (test : Bool) (cause : Cause) (after : Outcome) → numberOf cause < 16 → Other after → Other (refusedUnless test cause after)
+unfolding Other
+other-unless true cause after c a = a
+other-unless false cause after c a = c
+
+other-then : (first after : Outcome) → Other first → Other after → Other (andThen first after)
+unfolding Other
+other-then Done after f a = a
+other-then (Refused cause) after f a = f
+
+other-bases : (step : ℕ) (basis : List ℕ) → All IsElement basis → Other (basesOutcome step basis)
+unfolding Other
+other-bases step basis h = by (firstDependent basis) refl
+  where
+    by : (p : Position) → firstDependent basis ≡ p → numberOfOutcome (basesOutcome step basis) < 16
+    by (At place) e = subst (λ (o : Outcome). numberOfOutcome o < 16) (dependent-refused step basis place e) (omega arith)
+    by Absent e = subst (λ (o : Outcome). numberOfOutcome o < 16) (sym (bases-pass step basis h e)) (omega arith)
+
+other-all : (k step : ℕ) (basis word values next : List ℕ) → All IsElement basis → Other (foldOutcome k step basis word values next)
+unfolding Other
+other-all k step basis word values next h =
+    other-then (rangesOutcome k step) (andThen lengths (basesOutcome step basis)) ranges-other (other-then lengths (basesOutcome step basis) lengths-other (other-bases step basis h))
+  where
+    lengths : Outcome
+    lengths = lengthsOutcome k step (length basis) (length word) (length values) (length next)
+
+    small : Outcome
+    small = refusedUnless (leb step k) DimensionTooSmall Done
+
+    ranges-other : Other (rangesOutcome k step)
+    ranges-other =
+        other-unless (leb 2 k && leb k 20) DimensionOutOfRange (refusedUnless (leb 1 step && leb step 3) StepOutOfRange small) (omega arith)
+        (other-unless (leb 1 step && leb step 3) StepOutOfRange small (omega arith) (other-unless (leb step k) DimensionTooSmall Done (omega arith) (omega arith)))
+
+    last : Outcome
+    last = refusedUnless (eqb (length next) (k - step)) (WrongLength 7) Done
+
+    after3 : Outcome
+    after3 = refusedUnless (eqb (length values) (2 ^ (k - step))) (WrongLength 6) last
+
+    after1 : Outcome
+    after1 = refusedUnless (eqb (length word) (2 ^ k)) (WrongLength 3) after3
+
+    lengths-other : Other lengths
+    lengths-other =
+        other-unless (eqb (length basis) k) (WrongLength 1) after1 (omega arith)
+        (other-unless (eqb (length word) (2 ^ k)) (WrongLength 3) after3 (omega arith)
+        (other-unless (eqb (length values) (2 ^ (k - step))) (WrongLength 6) last (omega arith)
+        (other-unless (eqb (length next) (k - step)) (WrongLength 7) Done (omega arith) (omega arith))))
+
+never : (k step : ℕ) (basis word values next : List ℕ) (round : ℕ) → All IsElement basis
+    → foldOutcome k step basis word values next ≢ Refused (LaterBasisDependent round)
+unfolding Other
+never k step basis word values next round h e =
+    not-below (subst (λ (o : Outcome). numberOfOutcome o < 16) e (other-all k step basis word values next h))
+  where
+    not-below : 16 < 16 → ⊥
+    not-below l = omega arith
+
+pub accepted : FoldAccepted
+accepted = record { done = accepts }
+
+pub refusals : FoldRefusals
+refusals =
+    record {
+      dimension = λ k step basis word values next o.
+          told (foldOutcome k step basis word values next) DimensionOutOfRange
+          (ranges-refuse k step basis word values next DimensionOutOfRange (checks.dimension-refused k step (outside 2 k 20 o)));
+      step = λ k step basis word values next l u o.
+          told (foldOutcome k step basis word values next) StepOutOfRange
+          (ranges-refuse k step basis word values next StepOutOfRange
+          (checks.step-refused k step (both-true (leb 2 k) (leb k 20) (le-leb 2 k l) (le-leb k 20 u)) (outside 1 step 3 o)));
+      too-small = λ k step basis word values next r s.
+          told (foldOutcome k step basis word values next) DimensionTooSmall
+          (ranges-refuse k step basis word values next DimensionTooSmall
+          (checks.too-small-refused k step (in-range-k k step r) (in-range-step k step r) (lt-leb step k s)));
+      list1 = λ k step basis word values next r s n.
+          told (foldOutcome k step basis word values next) (WrongLength 1)
+          (lengths-refuse k step basis word values next r s (WrongLength 1)
+          (checks.list1-refused k step (length basis) (length word) (length values) (length next) (ne-eqb (length basis) k n)));
+      list3 = λ k step basis word values next r s a n.
+          told (foldOutcome k step basis word values next) (WrongLength 3)
+          (lengths-refuse k step basis word values next r s (WrongLength 3)
+          (checks.list3-refused k step (length basis) (length word) (length values) (length next) (eq-eqb (length basis) k a) (ne-eqb (length word) (2 ^ k) n)));
+      list6 = λ k step basis word values next r s a b n.
+          told (foldOutcome k step basis word values next) (WrongLength 6)
+          (lengths-refuse k step basis word values next r s (WrongLength 6)
+          (checks.list6-refused k step (length basis) (length word) (length values) (length next) (eq-eqb (length basis) k a) (eq-eqb (length word) (2 ^ k) b)
+          (ne-eqb (length values) (2 ^ (k - step)) n)));
+      list7 = λ k step basis word values next r s a b v n.
+          told (foldOutcome k step basis word values next) (WrongLength 7)
+          (lengths-refuse k step basis word values next r s (WrongLength 7)
+          (checks.list7-refused k step (length basis) (length word) (length values) (length next) (eq-eqb (length basis) k a) (eq-eqb (length word) (2 ^ k) b)
+          (eq-eqb (length values) (2 ^ (k - step)) v) (ne-eqb (length next) (k - step) n)));
+      dependent = λ k step basis word values next place r s f e.
+          told (foldOutcome k step basis word values next) (BasisDependent place)
+          (dependent-refused step basis place e ∙ bases-decide k step basis word values next r s f);
+      never16 = never;
+    }
