@@ -5,18 +5,32 @@ use std::time::Instant;
 
 pub struct Work<'a> {
     pub name: &'a str,
-    pub run: Box<dyn Fn() -> u64 + 'a>,
+    pub run: Box<dyn FnMut() -> u64 + 'a>,
 }
 
 /// The least time of each piece of work over so many turns, in nanoseconds.
-pub fn least(works: &[Work], turns: usize) -> Vec<f64> {
+pub fn least(works: &mut [Work], turns: usize) -> Vec<f64> {
     let mut best = vec![f64::INFINITY; works.len()];
     for _ in 0..turns {
-        for (work, least) in works.iter().zip(best.iter_mut()) {
+        for (work, least) in works.iter_mut().zip(best.iter_mut()) {
             let start = Instant::now();
             black_box((work.run)());
             *least = least.min(start.elapsed().as_secs_f64() * 1e9);
         }
     }
     best
+}
+
+/// Prints a line for each piece of work: its least time in the unit, which is so many nanoseconds, and
+/// the first one's time over its own.
+pub fn table(works: &mut [Work], turns: usize, unit: &str, nanoseconds: f64) {
+    let times = least(works, turns);
+    for (work, time) in works.iter().zip(&times) {
+        println!(
+            "    {:<38}{:>7.1} {unit} {:>6.2}",
+            work.name,
+            time / nanoseconds,
+            times[0] / time
+        );
+    }
 }

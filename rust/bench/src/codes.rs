@@ -1,7 +1,8 @@
 //! Encoding and interpolation beside the same methods in Rust, over the largest coset.
 
-use crate::clock::{least, Work};
-use crate::field::windowed as product;
+use crate::clock::{table, Work};
+use crate::coset::{inputs, numbers, point, prefix_sums, stepped};
+use crate::field::{inverse, windowed as product};
 use std::hint::black_box;
 
 const DIMENSION: usize = 12;
@@ -11,7 +12,7 @@ const TURNS: usize = 10;
 type Operation = fn(u64, &[u64], &[u64], &mut [u64]);
 
 pub fn report() {
-    let (offset, basis, list) = inputs();
+    let (offset, basis, list) = inputs(DIMENSION, numbers());
     println!(
         "\nencoding and interpolation of {SIZE} entries, wanted at most 1.30 of the same method:"
     );
@@ -44,7 +45,7 @@ fn compare(
     basis: &[u64],
     list: &[u64],
 ) {
-    let works = [
+    let mut works = [
         work("the library", library, offset, basis, list),
         work("the same method in Rust", rust, offset, basis, list),
     ];
@@ -53,19 +54,11 @@ fn compare(
         (works[1].run)(),
         "{title}: the two differ"
     );
-    let times = least(&works, TURNS);
     println!(
         "  {title}, about {} million products:",
         products / 1_000_000
     );
-    for (work, time) in works.iter().zip(&times) {
-        println!(
-            "    {:<38}{:>7.1} ms {:>6.2}",
-            work.name,
-            time / 1e6,
-            times[0] / time
-        );
-    }
+    table(&mut works, TURNS, "ms", 1e6);
 }
 
 fn work<'a>(
@@ -91,22 +84,6 @@ fn by_library_encode(offset: u64, basis: &[u64], list: &[u64], output: &mut [u64
 
 fn by_library_interpolate(offset: u64, basis: &[u64], list: &[u64], output: &mut [u64]) {
     razgwilh::interpolate(offset, basis, list, output);
-}
-
-fn inputs() -> (u64, Vec<u64>, Vec<u64>) {
-    let mut x: u64 = 0x9e37_79b9_7f4a_7c15;
-    let mut next = || {
-        x = x
-            .wrapping_mul(0x5851_f42d_4c95_7f2d)
-            .wrapping_add(0x1405_7b7e_f767_814f);
-        x ^ x >> 29
-    };
-    // The lowest bits keep the basis independent.
-    let basis = (0..DIMENSION)
-        .map(|t| next() << DIMENSION | 1 << t)
-        .collect();
-    let list = (0..SIZE).map(|_| next()).collect();
-    (next(), basis, list)
 }
 
 /// Horner at each point, the points in sequence.
@@ -145,42 +122,4 @@ fn newton_coefficient(offset: u64, basis: &[u64], known: &[u64], z: u64, y: u64)
         x = stepped(&sums, x, j + 1);
     }
     product(y ^ value, inverse(weight))
-}
-
-fn point(offset: u64, basis: &[u64], j: usize) -> u64 {
-    let set = |t: &usize| j >> t & 1 == 1;
-    (0..basis.len())
-        .filter(set)
-        .fold(offset, |x, t| x ^ basis[t])
-}
-
-fn prefix_sums(basis: &[u64]) -> [u64; 20] {
-    let mut sums = [0; 20];
-    let mut sum = 0;
-    for (entry, b) in sums.iter_mut().zip(basis) {
-        sum ^= b;
-        *entry = sum;
-    }
-    sums
-}
-
-fn stepped(sums: &[u64; 20], point: u64, next: usize) -> u64 {
-    point ^ sums.get(next.trailing_zeros() as usize).unwrap_or(&0)
-}
-
-fn inverse(a: u64) -> u64 {
-    let ones_2 = raised(a, 1, a);
-    let ones_3 = raised(ones_2, 1, a);
-    let ones_6 = raised(ones_3, 3, ones_3);
-    let ones_12 = raised(ones_6, 6, ones_6);
-    let ones_15 = raised(ones_12, 3, ones_3);
-    let ones_30 = raised(ones_15, 15, ones_15);
-    let ones_60 = raised(ones_30, 30, ones_30);
-    let ones_63 = raised(ones_60, 3, ones_3);
-    product(ones_63, ones_63)
-}
-
-/// a^(2^n) · b.
-fn raised(a: u64, n: usize, b: u64) -> u64 {
-    product((0..n).fold(a, |x, _| product(x, x)), b)
 }

@@ -1,7 +1,7 @@
 //! The product beside the 64-step loop, the same method in Rust and carry-less multiply hardware;
 //! the inverse as a number of squarings.
 
-use crate::clock::{least, Work};
+use crate::clock::{least, table, Work};
 use std::hint::black_box;
 
 const REDUCTION: u64 = 0x1b;
@@ -17,8 +17,8 @@ pub fn report() {
     compare("each factor new", independent);
     compare("each product a factor of the next", chain);
     let squaring =
-        least(&[work("squaring", razgwilh::product, squarings)], TURNS)[0] / CALLS as f64;
-    let inverse = least(&[inverse_work()], TURNS)[0] / INVERSES as f64;
+        least(&mut [work("squaring", razgwilh::product, squarings)], TURNS)[0] / CALLS as f64;
+    let inverse = least(&mut [inverse_work()], TURNS)[0] / INVERSES as f64;
     println!("\ninverse, wanted at most 80 products:");
     println!(
         "  {inverse:.0} ns, as long as {:.1} squarings in a row",
@@ -40,16 +40,9 @@ fn compare(title: &str, calls: fn(Product) -> u64) {
             calls,
         ));
     }
-    let times = least(&works, TURNS);
     println!("  {title}:");
-    for (work, time) in works.iter().zip(&times) {
-        let each = time / CALLS as f64;
-        println!(
-            "    {:<38}{each:>7.1} ns {:>6.2}",
-            work.name,
-            times[0] / time
-        );
-    }
+    // One nanosecond for each of the calls, so that the times are those of one.
+    table(&mut works, TURNS, "ns", CALLS as f64);
 }
 
 fn work(name: &'static str, product: Product, calls: fn(Product) -> u64) -> Work<'static> {
@@ -175,8 +168,26 @@ fn reduced(high: u64, low: u64) -> u64 {
     low ^ h ^ (h << 1) ^ (h << 3) ^ (h << 4)
 }
 
+/// The library's method: the power with exponent 2^64 - 2.
+pub fn inverse(a: u64) -> u64 {
+    let ones_2 = raised(a, 1, a);
+    let ones_3 = raised(ones_2, 1, a);
+    let ones_6 = raised(ones_3, 3, ones_3);
+    let ones_12 = raised(ones_6, 6, ones_6);
+    let ones_15 = raised(ones_12, 3, ones_3);
+    let ones_30 = raised(ones_15, 15, ones_15);
+    let ones_60 = raised(ones_30, 30, ones_30);
+    let ones_63 = raised(ones_60, 3, ones_3);
+    windowed(ones_63, ones_63)
+}
+
+/// a^(2^n) · b.
+fn raised(a: u64, n: usize, b: u64) -> u64 {
+    windowed((0..n).fold(a, |x, _| windowed(x, x)), b)
+}
+
 #[cfg(target_arch = "x86_64")]
-fn hardware() -> Option<Product> {
+pub fn hardware() -> Option<Product> {
     fn product(a: u64, b: u64) -> u64 {
         // SAFETY: handed out only where the processor has the instruction.
         unsafe { carryless_multiply(a, b) }
@@ -185,13 +196,13 @@ fn hardware() -> Option<Product> {
 }
 
 #[cfg(not(target_arch = "x86_64"))]
-fn hardware() -> Option<Product> {
+pub fn hardware() -> Option<Product> {
     None
 }
 
 #[cfg(target_arch = "x86_64")]
 #[target_feature(enable = "pclmulqdq", enable = "sse2")]
-unsafe fn carryless_multiply(a: u64, b: u64) -> u64 {
+pub unsafe fn carryless_multiply(a: u64, b: u64) -> u64 {
     use std::arch::x86_64::{_mm_clmulepi64_si128, _mm_cvtsi128_si64, _mm_set_epi64x};
     let number = |x: u64| _mm_set_epi64x(0, x as i64);
     let wide = _mm_clmulepi64_si128(number(a), number(b), 0);

@@ -2,10 +2,13 @@
 
 mod clock;
 mod codes;
+mod coset;
 mod field;
+mod fold;
 
 fn main() {
     println!("the least of many turns taken in rotation, and the library's time over each; both sides built for release");
     field::report();
     codes::report();
+    fold::report();
 }
