@@ -12,7 +12,7 @@ use Rattle.refusal.specs.Numbers.{numberOf, placeOf, roundOf, numberOfOutcome, 
 use Rattle.field.specs.declared.Inverted.{Inverted}
 use Rattle.field.specs.declared.Inverted.the-variants.{Value, Refused}
 use Rattle.fold.specs.declared.Folded.{Folded}
-use Rattle.fold.specs.declared.Folded.the-variants as folded
+use Rattle.fold.specs.Answers.{numberOfFolded, placeOfFolded, roundOfFolded, valueOfFolded}
 use Rattle.capi.specs.declared.Answer.{Answer}
 
 -- stands for a place, a round or a value that there is none of
@@ -46,8 +46,14 @@ answerOfInverted (Refused cause) = answerOfCause cause 0
 
 -- the answer of a fold, whose value is the next offset; only a judge counts reads
 abbrev pub answerOfFolded : Folded → Answer
-answerOfFolded (folded.NextOffset offset) = answerOfValue 0 (offset .0)
-answerOfFolded (folded.Refused cause) = answerOfCause cause 0
+answerOfFolded folded =
+    record {
+      number = numberOfFolded folded;
+      place = orNone (placeOfFolded folded);
+      round = orNone (roundOfFolded folded);
+      reads = 0;
+      value = valueOfFolded folded none;
+    }
 
 -- the answer of an operation that reads nothing and gives no value
 abbrev pub answerOfOutcome : Outcome → Answer

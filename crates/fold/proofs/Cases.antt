@@ -1,6 +1,6 @@
 -- Cases D, F, J and K of Table A, as far as they speak of one fold: by the line through two points, whose inverse is that of 1. The
 -- exceptional set of case J has 2, and no second element by its bound. Assumes nothing.
-use mathlib.Core.Path.{_≡_, refl, sym, ap, _∙_, subst}
+use mathlib.Core.Path.{_≡_, refl, sym, ap, ap₂, _∙_, subst}
 use mathlib.Core.Bool.{Bool, true, false, cond}
 use mathlib.Core.List.{List, [], _∷_, map}
 use Prim.Native.Nat.{ℕ, _-_, _^_, _≤_}
@@ -10,11 +10,15 @@ use lib.ListN.{length, getD}
 use borrow.Author.Tests.{eq-eqb}
 use Rattle.gf64.specs.Field.{IsElement, product, inverse}
 use Rattle.gf64.specs.Polynomial.{carryless, carrylessIn, remainder, remainderIn, timesT}
-use Rattle.gf64.proofs.Inverse.{inverse-unique}
+use Rattle.gf64.proofs.Inverse.{inverse-unique, inverse-right}
+use Rattle.gf64.proofs.Ring.{product-one-r}
+use lib.Bits.{bitXor}
+use native.Mathlib.Nat.{le-of-eq}
+use Rattle.refusal.specs.declared.Outcome.the-variants.{Done}
 use Rattle.poly.specs.Carrier.{gf64}
 use Rattle.poly.specs.Polynomial.{All, Distinct, Zeros, evaluate, plus, scale, timesLinear, vanishingPolynomial}
 use Rattle.poly.proofs.AtField.{gf64-laws}
-use Rattle.poly.proofs.Evaluation.{evaluate-zeros}
+use Rattle.poly.proofs.Evaluation.{evaluate-zeros, padded-full}
 use Rattle.poly.proofs.Interpolation.{interpolant-elements}
 use Rattle.poly.proofs.Roots.{root-bound-degree}
 use Rattle.coset.specs.Coset.{point, points, tabulated}
@@ -25,7 +29,10 @@ use Rattle.coset.proofs.Subspace.{nextOffset-element, nextBasis-elements, next-
 use lib.Pow.{pow-pos}
 use Rattle.reed_solomon.specs.Codes.{encoded, interpolated, WordDegreeBelow}
 use Rattle.reed_solomon.proofs.Theorems.{round-trips, encoding}
+use Rattle.fold.specs.declared.Folded.the-variants.{NextOffset}
 use Rattle.fold.specs.Fold.{folded}
+use Rattle.fold.specs.Answers.{foldOutcome, foldAnswer, nextBasisAfter}
+use Rattle.fold.proofs.Outcomes.{accepted}
 use Rattle.fold.specs.Halving.{lineAt, halvedEntries}
 use Rattle.fold.specs.Exceptional.{Exceptional}
 use Rattle.fold.specs.Theorems.{IsWord, FoldCases}
@@ -144,14 +151,108 @@ no-other x false e h = absurd (two-too-many (exceptional-bound 1 1 0 basis word 
     distinct : Distinct (x ∷ 2 ∷ [])
     distinct = ((differs, record {}), (record {}, record {}))
 
+-- ---- coefficients, by the round trip: the word of given coefficients over a coset of two points has them for its interpolant
+
+two-back : (offset b : ℕ) (coefficients : List ℕ) → IsElement offset → IsElement b → Independent (b ∷ []) → All IsElement coefficients
+    → length coefficients ≡ 2 → interpolated offset (b ∷ []) (encoded offset (b ∷ []) coefficients) ≡ coefficients
+two-back offset b coefficients ho hb d hc l =
+    round-trips .coefficients offset (b ∷ []) coefficients ho (hb, record {}) hc d (le-of-eq l) ∙ padded-full gf64 2 coefficients l
+
+independent-6 : Independent (6 ∷ [])
+unfolding inSpan firstDependentAfter firstDependent
+independent-6 = refl
+
+f-word : encoded 0 (6 ∷ []) (0xb ∷ 0 ∷ []) ≡ 0xb ∷ 0xb ∷ []
+unfolding encoded points tabulated point evaluate product carryless carrylessIn remainder remainderIn timesT
+f-word = refl
+
+j-word : encoded 0 (6 ∷ []) (0 ∷ 1 ∷ []) ≡ 0 ∷ 6 ∷ []
+unfolding encoded points tabulated point evaluate product carryless carrylessIn remainder remainderIn timesT
+j-word = refl
+
+j-zero-word : encoded 0 (6 ∷ []) (0 ∷ 0 ∷ []) ≡ 0 ∷ 0 ∷ []
+unfolding encoded points tabulated point evaluate product carryless carrylessIn remainder remainderIn timesT
+j-zero-word = refl
+
+back-over-6 : (coefficients values : List ℕ) → All IsElement coefficients → length coefficients ≡ 2 → encoded 0 (6 ∷ []) coefficients ≡ values
+    → interpolated 0 (6 ∷ []) values ≡ coefficients
+back-over-6 coefficients values hc l e =
+    ap (interpolated 0 (6 ∷ [])) (sym e) ∙ two-back 0 6 coefficients (omega arith) (omega arith) independent-6 hc l
+
+-- ---- case K: the second fold, over the next coset
+
+k-offset : nextOffset 1 0 (1 ∷ 2 ∷ 4 ∷ []) ≡ 0
+unfolding nextOffset image subspacePolynomial points tabulated point vanishingPolynomial timesLinear plus scale evaluate product carryless carrylessIn remainder remainderIn timesT
+k-offset = refl
+
+k-basis : nextBasis 1 (1 ∷ 2 ∷ 4 ∷ []) ≡ 6 ∷ 0x14 ∷ []
+unfolding nextBasis image subspacePolynomial points tabulated point vanishingPolynomial timesLinear plus scale evaluate product carryless carrylessIn remainder remainderIn timesT
+k-basis = refl
+
+-- the differences of both pairs are 6, which the inverse of 6 takes to 1
+k-lines : (i : ℕ) → product 6 i ≡ 1 → halvedEntries i 3 2 (points 0 (6 ∷ 0x14 ∷ [])) (2 ∷ 4 ∷ 0x16 ∷ 0x10 ∷ []) ≡ 1 ∷ 1 ∷ []
+unfolding halvedEntries lineAt points tabulated point
+k-lines i e =
+    ap (λ (s : ℕ). bitXor 2 (product 3 s) ∷ bitXor 0x16 (product 0x17 s) ∷ []) e ∙ computed
+  where
+    computed : _≡_ {A = List ℕ} (bitXor 2 (product 3 1) ∷ bitXor 0x16 (product 0x17 1) ∷ []) (1 ∷ 1 ∷ [])
+    computed = ap₂ (λ (s t : ℕ). bitXor 2 s ∷ bitXor 0x16 t ∷ []) (product-one-r 3 (omega arith)) (product-one-r 0x17 (omega arith))
+
+k-last : folded 1 0 (6 ∷ 0x14 ∷ []) (2 ∷ 4 ∷ 0x16 ∷ 0x10 ∷ []) 3 ≡ 1 ∷ 1 ∷ []
+k-last =
+    sym (halved-entries 0 6 (0x14 ∷ []) (2 ∷ 4 ∷ 0x16 ∷ 0x10 ∷ []) refl 3)
+    ∙ k-lines (inverse 6) (inverse-right 6 (omega arith) (λ (e : _≡_ {A = ℕ} 6 0). omega arith))
+
+k-next-offset : nextOffset 1 0 (6 ∷ 0x14 ∷ []) ≡ 0
+unfolding nextOffset image subspacePolynomial points tabulated point vanishingPolynomial timesLinear plus scale evaluate product carryless carrylessIn remainder remainderIn timesT
+k-next-offset = refl
+
+k-next-basis : nextBasis 1 (6 ∷ 0x14 ∷ []) ≡ 0x168 ∷ []
+unfolding nextBasis image subspacePolynomial points tabulated point vanishingPolynomial timesLinear plus scale evaluate product carryless carrylessIn remainder remainderIn timesT
+k-next-basis = refl
+
+independent-k : Independent (0x168 ∷ [])
+unfolding inSpan firstDependentAfter firstDependent
+independent-k = refl
+
+k-word : encoded 0 (0x168 ∷ []) (1 ∷ 0 ∷ []) ≡ 1 ∷ 1 ∷ []
+unfolding encoded points tabulated point evaluate product carryless carrylessIn remainder remainderIn timesT
+k-word = refl
+
+k-coefficient : interpolated (nextOffset 1 0 (6 ∷ 0x14 ∷ [])) (nextBasis 1 (6 ∷ 0x14 ∷ [])) (1 ∷ 1 ∷ []) ≡ 1 ∷ 0 ∷ []
+k-coefficient =
+    ap₂ (λ (o : ℕ) (l : List ℕ). interpolated o l (1 ∷ 1 ∷ [])) k-next-offset k-next-basis
+    ∙ ap (interpolated 0 (0x168 ∷ [])) (sym k-word)
+    ∙ two-back 0 0x168 (1 ∷ 0 ∷ []) (omega arith) (omega arith) independent-k (omega arith, (omega arith, record {})) refl
+
+-- ---- case D as a call
+
+d-done : foldOutcome 2 1 (1 ∷ 2 ∷ []) (0 ∷ 0 ∷ 0 ∷ 0 ∷ []) (0 ∷ 0 ∷ []) (0 ∷ []) ≡ Done
+d-done =
+    accepted .done 2 1 (1 ∷ 2 ∷ []) (0 ∷ 0 ∷ 0 ∷ 0 ∷ []) (0 ∷ 0 ∷ []) (0 ∷ []) (omega arith, (omega arith, record {})) .1
+    ((omega arith, omega arith, omega arith, omega arith), omega arith, (refl, refl, refl, refl), independent)
+
+d-call : (foldAnswer 2 1 0x8 (1 ∷ 2 ∷ []) (0 ∷ 0 ∷ 0 ∷ 0 ∷ []) (0 ∷ 0 ∷ []) (0 ∷ []) ≡ NextOffset (record { 0 = 0x48 }))
+    × (nextBasisAfter 2 1 (1 ∷ 2 ∷ []) (0 ∷ 0 ∷ 0 ∷ 0 ∷ []) (0 ∷ 0 ∷ []) (0 ∷ []) ≡ 6 ∷ [])
+d-call =
+    let a = accepted .answer 2 1 0x8 (1 ∷ 2 ∷ []) (0 ∷ 0 ∷ 0 ∷ 0 ∷ []) 4 (0 ∷ 0 ∷ []) (0 ∷ []) d-done in
+    (a .0 ∙ ap (λ (o : ℕ). NextOffset (record { 0 = o })) d-offset, a .2 ∙ d-basis)
+
 pub fold-cases : FoldCases
 fold-cases =
     record {
-      d-offset = d-offset;
-      d-basis = d-basis;
+      d = d-call .0;
+      d-basis = d-call .1;
       f = f;
+      f-coefficient = back-over-6 (0xb ∷ 0 ∷ []) (0xb ∷ 0xb ∷ []) (omega arith, (omega arith, record {})) refl f-word;
       j-at-4 = j-at-4;
+      j-degree-1 = back-over-6 (0 ∷ 1 ∷ []) (0 ∷ 6 ∷ []) (omega arith, (omega arith, record {})) refl j-word;
       j-at-2 = j-at-2;
+      j-coefficient = back-over-6 (0 ∷ 0 ∷ []) (0 ∷ 0 ∷ []) (omega arith, (omega arith, record {})) refl j-zero-word;
       j = λ x. (no-other x (eqb x 2) refl, λ e. subst (Exceptional 1 1 0 basis word) (sym e) two-is-in);
-      k = k;
+      k-layer = k;
+      k-offset = k-offset;
+      k-basis = k-basis;
+      k-last = k-last;
+      k-coefficient = k-coefficient;
     }

@@ -17,7 +17,7 @@ use Rattle.field.specs.declared.Element.{Element}
 use Rattle.coset.specs.Answers.{outcomeOfBasis}
 use Rattle.coset.specs.Span.{firstDependent, Independent}
 use Rattle.coset.specs.Subspace.{nextBasis}
-use Rattle.fold.specs.declared.Folded.the-variants as folded
+use Rattle.fold.specs.declared.Folded.the-variants as answers
 use Rattle.fold.specs.Answers.{rangesOutcome, lengthsOutcome, outcomeOfNextBasis, basesOutcome, foldOutcome, answerOf}
 
 -- ---- ranges
@@ -74,61 +74,61 @@ in-range k step e =
 
 -- ---- lengths
 
-module _ (k step list1 list3 list6 list7 : ℕ) where
+module _ (k step length1 length3 length6 length7 : ℕ) where
   abbrev after6 : Outcome
-  after6 = refusedUnless (eqb list7 (k - step)) (WrongLength 7) Done
+  after6 = refusedUnless (eqb length7 (k - step)) (WrongLength 7) Done
 
   abbrev after3 : Outcome
-  after3 = refusedUnless (eqb list6 (2 ^ (k - step))) (WrongLength 6) after6
+  after3 = refusedUnless (eqb length6 (2 ^ (k - step))) (WrongLength 6) after6
 
   abbrev after1 : Outcome
-  after1 = refusedUnless (eqb list3 (2 ^ k)) (WrongLength 3) after3
+  after1 = refusedUnless (eqb length3 (2 ^ k)) (WrongLength 3) after3
 
-  pub list1-refused : eqb list1 k ≡ false → Refused (WrongLength 1) ≡ lengthsOutcome k step list1 list3 list6 list7
-  list1-refused e = refused-by (eqb list1 k) (WrongLength 1) after1 e
+  pub list1-refused : eqb length1 k ≡ false → Refused (WrongLength 1) ≡ lengthsOutcome k step length1 length3 length6 length7
+  list1-refused e = refused-by (eqb length1 k) (WrongLength 1) after1 e
 
-  list1-passed : eqb list1 k ≡ true → after1 ≡ lengthsOutcome k step list1 list3 list6 list7
-  list1-passed e = passed-by (eqb list1 k) (WrongLength 1) after1 e
+  list1-passed : eqb length1 k ≡ true → after1 ≡ lengthsOutcome k step length1 length3 length6 length7
+  list1-passed e = passed-by (eqb length1 k) (WrongLength 1) after1 e
 
-  pub list3-refused : eqb list1 k ≡ true → eqb list3 (2 ^ k) ≡ false → Refused (WrongLength 3) ≡ lengthsOutcome k step list1 list3 list6 list7
-  list3-refused e f = refused-by (eqb list3 (2 ^ k)) (WrongLength 3) after3 f ∙ list1-passed e
+  pub list3-refused : eqb length1 k ≡ true → eqb length3 (2 ^ k) ≡ false → Refused (WrongLength 3) ≡ lengthsOutcome k step length1 length3 length6 length7
+  list3-refused e f = refused-by (eqb length3 (2 ^ k)) (WrongLength 3) after3 f ∙ list1-passed e
 
-  list3-passed : eqb list1 k ≡ true → eqb list3 (2 ^ k) ≡ true → after3 ≡ lengthsOutcome k step list1 list3 list6 list7
-  list3-passed e f = passed-by (eqb list3 (2 ^ k)) (WrongLength 3) after3 f ∙ list1-passed e
+  list3-passed : eqb length1 k ≡ true → eqb length3 (2 ^ k) ≡ true → after3 ≡ lengthsOutcome k step length1 length3 length6 length7
+  list3-passed e f = passed-by (eqb length3 (2 ^ k)) (WrongLength 3) after3 f ∙ list1-passed e
 
-  pub list6-refused : eqb list1 k ≡ true → eqb list3 (2 ^ k) ≡ true → eqb list6 (2 ^ (k - step)) ≡ false
-      → Refused (WrongLength 6) ≡ lengthsOutcome k step list1 list3 list6 list7
-  list6-refused e f g = refused-by (eqb list6 (2 ^ (k - step))) (WrongLength 6) after6 g ∙ list3-passed e f
+  pub list6-refused : eqb length1 k ≡ true → eqb length3 (2 ^ k) ≡ true → eqb length6 (2 ^ (k - step)) ≡ false
+      → Refused (WrongLength 6) ≡ lengthsOutcome k step length1 length3 length6 length7
+  list6-refused e f g = refused-by (eqb length6 (2 ^ (k - step))) (WrongLength 6) after6 g ∙ list3-passed e f
 
-  list6-passed : eqb list1 k ≡ true → eqb list3 (2 ^ k) ≡ true → eqb list6 (2 ^ (k - step)) ≡ true
-      → after6 ≡ lengthsOutcome k step list1 list3 list6 list7
-  list6-passed e f g = passed-by (eqb list6 (2 ^ (k - step))) (WrongLength 6) after6 g ∙ list3-passed e f
+  list6-passed : eqb length1 k ≡ true → eqb length3 (2 ^ k) ≡ true → eqb length6 (2 ^ (k - step)) ≡ true
+      → after6 ≡ lengthsOutcome k step length1 length3 length6 length7
+  list6-passed e f g = passed-by (eqb length6 (2 ^ (k - step))) (WrongLength 6) after6 g ∙ list3-passed e f
 
-  pub list7-refused : eqb list1 k ≡ true → eqb list3 (2 ^ k) ≡ true → eqb list6 (2 ^ (k - step)) ≡ true → eqb list7 (k - step) ≡ false
-      → Refused (WrongLength 7) ≡ lengthsOutcome k step list1 list3 list6 list7
-  list7-refused e f g h = refused-by (eqb list7 (k - step)) (WrongLength 7) Done h ∙ list6-passed e f g
+  pub list7-refused : eqb length1 k ≡ true → eqb length3 (2 ^ k) ≡ true → eqb length6 (2 ^ (k - step)) ≡ true → eqb length7 (k - step) ≡ false
+      → Refused (WrongLength 7) ≡ lengthsOutcome k step length1 length3 length6 length7
+  list7-refused e f g h = refused-by (eqb length7 (k - step)) (WrongLength 7) Done h ∙ list6-passed e f g
 
-  pub lengths-pass : eqb list1 k ≡ true → eqb list3 (2 ^ k) ≡ true → eqb list6 (2 ^ (k - step)) ≡ true → eqb list7 (k - step) ≡ true
-      → Done ≡ lengthsOutcome k step list1 list3 list6 list7
-  lengths-pass e f g h = passed-by (eqb list7 (k - step)) (WrongLength 7) Done h ∙ list6-passed e f g
+  pub lengths-pass : eqb length1 k ≡ true → eqb length3 (2 ^ k) ≡ true → eqb length6 (2 ^ (k - step)) ≡ true → eqb length7 (k - step) ≡ true
+      → Done ≡ lengthsOutcome k step length1 length3 length6 length7
+  lengths-pass e f g h = passed-by (eqb length7 (k - step)) (WrongLength 7) Done h ∙ list6-passed e f g
 
-pub record Fitting (k step list1 list3 list6 list7 : ℕ) : Type 0 where
-  pub list1-fits : list1 ≡ k
-  pub list3-fits : list3 ≡ 2 ^ k
-  pub list6-fits : list6 ≡ 2 ^ (k - step)
-  pub list7-fits : list7 ≡ k - step
+pub record Fitting (k step length1 length3 length6 length7 : ℕ) : Type 0 where
+  pub list1-fits : length1 ≡ k
+  pub list3-fits : length3 ≡ 2 ^ k
+  pub list6-fits : length6 ≡ 2 ^ (k - step)
+  pub list7-fits : length7 ≡ k - step
 
-pub fitting : (k step list1 list3 list6 list7 : ℕ) → lengthsOutcome k step list1 list3 list6 list7 ≡ Done → Fitting k step list1 list3 list6 list7
-fitting k step list1 list3 list6 list7 e =
-    let first = unless-done (eqb list1 k) (WrongLength 1) (after1 k step list1 list3 list6 list7) e in
-    let second = unless-done (eqb list3 (2 ^ k)) (WrongLength 3) (after3 k step list1 list3 list6 list7) (first .1) in
-    let third = unless-done (eqb list6 (2 ^ (k - step))) (WrongLength 6) (after6 k step list1 list3 list6 list7) (second .1) in
-    let fourth = unless-done (eqb list7 (k - step)) (WrongLength 7) Done (third .1) in
+pub fitting : (k step length1 length3 length6 length7 : ℕ) → lengthsOutcome k step length1 length3 length6 length7 ≡ Done → Fitting k step length1 length3 length6 length7
+fitting k step length1 length3 length6 length7 e =
+    let first = unless-done (eqb length1 k) (WrongLength 1) (after1 k step length1 length3 length6 length7) e in
+    let second = unless-done (eqb length3 (2 ^ k)) (WrongLength 3) (after3 k step length1 length3 length6 length7) (first .1) in
+    let third = unless-done (eqb length6 (2 ^ (k - step))) (WrongLength 6) (after6 k step length1 length3 length6 length7) (second .1) in
+    let fourth = unless-done (eqb length7 (k - step)) (WrongLength 7) Done (third .1) in
     record {
-      list1-fits = equal-of-test list1 k (first .0);
-      list3-fits = equal-of-test list3 (2 ^ k) (second .0);
-      list6-fits = equal-of-test list6 (2 ^ (k - step)) (third .0);
-      list7-fits = equal-of-test list7 (k - step) (fourth .0);
+      list1-fits = equal-of-test length1 k (first .0);
+      list3-fits = equal-of-test length3 (2 ^ k) (second .0);
+      list6-fits = equal-of-test length6 (2 ^ (k - step)) (third .0);
+      list7-fits = equal-of-test length7 (k - step) (fourth .0);
     }
 
 -- ---- all checks
@@ -174,14 +174,14 @@ passed-facts k step basis word values next p =
 
 pub done-all : (outcome : Outcome) (offset : Element) (wanted : ℕ) (values values′ wanted6 next next′ wanted7 : List ℕ) → outcome ≡ Done
     → offset .0 ≡ wanted → values′ ≡ wanted6 → next′ ≡ wanted7
-    → (folded.NextOffset offset ≡ answerOf outcome wanted) × ((values′ ≡ afterwards outcome wanted6 values) × (next′ ≡ afterwards outcome wanted7 next))
+    → (answers.NextOffset offset ≡ answerOf outcome wanted) × ((values′ ≡ afterwards outcome wanted6 values) × (next′ ≡ afterwards outcome wanted7 next))
 done-all outcome offset wanted values values′ wanted6 next next′ wanted7 e o v n = (
-  ap (λ (x : ℕ). folded.NextOffset (record { 0 = x })) o ∙ sym (ap (λ (t : Outcome). answerOf t wanted) e),
+  ap (λ (x : ℕ). answers.NextOffset (record { 0 = x })) o ∙ sym (ap (λ (t : Outcome). answerOf t wanted) e),
   (done-holds outcome wanted6 values values′ e v, done-holds outcome wanted7 next next′ e n),
 )
 
 pub refused-all : (outcome : Outcome) (cause : Cause) (wanted : ℕ) (values wanted6 next wanted7 : List ℕ) → outcome ≡ Refused cause
-    → (folded.Refused cause ≡ answerOf outcome wanted) × ((values ≡ afterwards outcome wanted6 values) × (next ≡ afterwards outcome wanted7 next))
+    → (answers.Refused cause ≡ answerOf outcome wanted) × ((values ≡ afterwards outcome wanted6 values) × (next ≡ afterwards outcome wanted7 next))
 refused-all outcome cause wanted values wanted6 next wanted7 e = (
   sym (ap (λ (t : Outcome). answerOf t wanted) e),
   (refused-holds outcome cause wanted6 values e, refused-holds outcome cause wanted7 next e),

@@ -1,5 +1,6 @@
 -- Where a layer is not of low degree some row from N on is not zero, and every element of its exceptional set is a root of it. Assumes nothing.
-use mathlib.Core.Path.{_≡_, subst}
+use mathlib.Core.Path.{_≡_, sym, subst}
+use mathlib.Core.Logic.{_↔_}
 use mathlib.Core.List.{List, [], _∷_}
 use Prim.Native.Nat.{ℕ, _+_, _*_, _-_, _^_, _<_, _≤_}
 use native.Mathlib.Nat.{lt-of-not-le, le-trans, le-of-eq, not-suc-le-zero}
@@ -17,7 +18,7 @@ use Rattle.reed_solomon.specs.Codes.{WordDegreeBelow}
 use Rattle.fold.specs.Rows.{wordRows}
 use Rattle.fold.specs.Exceptional.{Exceptional}
 use Rattle.fold.specs.Theorems.{IsWord}
-use Rattle.fold.proofs.Folding.{rows-are-elements, rows-are-short, fold-degree-rows, degree-from-rows}
+use Rattle.fold.proofs.Folding.{rows-are-elements, rows-are-short, fold-degree-rows, rows-fold-degree, rows-of-degree, degree-from-rows}
 
 -- all rows are zero at all xs: each row has all xs for its roots
 each-row : (rs : List (List ℕ)) (xs : List ℕ) → All (λ x. All (λ row. evaluate gf64 row x ≡ 0) rs) xs
@@ -75,3 +76,20 @@ module _ (rate step offset : ℕ) (basis layer : List ℕ) (w : IsWord offset ba
       too-many : (ys : List ℕ) → All (Exceptional rate step offset basis layer) ys → Distinct ys → 2 ^ step ≤ length ys → ⊥
       too-many [] k e many = not-suc-le-zero (le-trans (pow-pos step) many)
       too-many (y ∷ ys) k e many = k .0 .1 (low-degree (y ∷ ys) k e many)
+
+  -- in terms of the rows
+  pub exceptional-by-rows : (x : ℕ)
+      → Exceptional rate step offset basis layer x
+      ↔ (IsElement x × (All (Zeros gf64) (drop (2 ^ (length basis - rate - step)) (wordRows step offset basis layer)) → ⊥)
+      × All (λ row. evaluate gf64 row x ≡ 0) (drop (2 ^ (length basis - rate - step)) (wordRows step offset basis layer)))
+  unfolding bound
+  exceptional-by-rows x = (
+    λ h. (h .0, λ z. h .1 (subst low size (degree-from-rows step offset basis layer w (omega arith) bound z)), fold-degree-rows step offset basis layer w (omega arith) bound x (h .0) (h .2)),
+    λ h. (h .0, λ z. h .1 (rows-of-degree step offset basis layer w (omega arith) bound (subst low (sym size) z)), rows-fold-degree step offset basis layer w (omega arith) bound x (h .0) (h .2)),
+  )
+    where
+      low : ℕ → Type 0
+      low n = WordDegreeBelow n offset basis layer
+
+      size : bound * 2 ^ step ≡ 2 ^ (length basis - rate)
+      size = cosets-of step (length basis - rate) (omega arith)

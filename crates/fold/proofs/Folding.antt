@@ -2,11 +2,13 @@
 use mathlib.Core.Path.{_≡_, refl, sym, ap, ap₂, _∙_, subst}
 use mathlib.Core.Logic.{_↔_}
 use mathlib.Core.List.{List, [], _∷_, map}
-use Prim.Native.Nat.{ℕ, zero, suc, _+_, _*_, _-_, _/_, _^_, _<_, _≤_}
-use native.Mathlib.Nat.{suc-mul, mul-le-mul-right, le-of-eq, sub-self}
+use Prim.Native.Nat.{ℕ, zero, suc, _+_, _*_, _-_, _/_, _%_, _^_, _<_, _≤_}
+use native.Mathlib.Nat.{mod-lt, zero-add, suc-mul, mul-le-mul-right, le-of-eq, sub-self}
 use native.Mathlib.Omega.{arith}
-use lib.Pow.{pow-pos}
-use lib.ListN.{length, getD, take, drop, replicate, drop-of-length-le, length-map}
+use lib.Pow.{pow-pos, split}
+use lib.ListN.{length, getD, take, drop, replicate, drop-of-length-le, length-map, length-drop}
+use lib.Seq.{ext-getD, getD-take, getD-drop, length-take-le}
+use Rattle.poly.proofs.Filling.{getD-map}
 use Rattle.gf64.specs.Field.{IsElement}
 use Rattle.poly.specs.Carrier.{gf64}
 use Rattle.poly.specs.Polynomial.{All, Distinct, Zeros, DegreeBelow, evaluate, interpolant, padded}
@@ -19,8 +21,8 @@ use Rattle.poly.proofs.Rows.{length-rows, rows-lengths, rows-evaluate, rows-deg
 use Rattle.poly.proofs.Combined.{combined, length-combined, combined-elements, evaluate-combined, rows-elements, rows-values-elements}
 use Rattle.coset.specs.Coset.{point, tabulated, points}
 use Rattle.coset.specs.Subspace.{subspacePolynomial, lowerCoefficients, image, nextOffset, nextBasis}
-use Rattle.coset.proofs.Points.{point-element, point-injective, points-distinct, points-elements, length-points, length-tabulated, all-tabulated, distinct-tabulated, tabulated-agree, map-tabulated, tabulated-part}
-use Rattle.coset.proofs.Subspace.{length-lowerCoefficients, lowerCoefficients-elements, subspace-monic, length-nextBasis, nextBasis-elements, nextOffset-element, next-independent, image-of-coset, cosets-of}
+use Rattle.coset.proofs.Points.{point-element, point-injective, points-distinct, points-elements, length-points, length-tabulated, getD-tabulated, all-tabulated, distinct-tabulated, tabulated-agree, map-tabulated, tabulated-part}
+use Rattle.coset.proofs.Subspace.{length-lowerCoefficients, lowerCoefficients-elements, subspace-monic, length-nextBasis, nextBasis-elements, nextOffset-element, next-independent, image-of-coset, image-only, cosets-of}
 use Rattle.reed_solomon.specs.Codes.{encoded, interpolated, WordDegreeBelow}
 use Rattle.reed_solomon.proofs.Theorems.{round-trips}
 use Rattle.fold.specs.Fold.{cosetPoints, cosetEntries, foldEntry, folded}
@@ -43,6 +45,17 @@ encoded-elements : (offset : ℕ) (basis p : List ℕ) → IsElement offset → 
 unfolding encoded
 encoded-elements offset basis p ho hb hp =
     values-elements gf64 IsElement gf64-laws p (points offset basis) hp (points-elements offset basis ho hb)
+
+-- a part of a list as a table of its entries
+entries-tabulated : (xs : List ℕ) (from count : ℕ) → from + count ≤ length xs → tabulated (λ i. getD xs i 0) from count ≡ take count (drop from xs)
+entries-tabulated xs from count h =
+    ext-getD 0 (tabulated (λ i. getD xs i 0) from count) (take count (drop from xs))
+    (length-tabulated (λ i. getD xs i 0) from count ∙ sym (length-take-le count (drop from xs) (omega (arith, length-drop from xs))))
+    (λ i l. at i (omega (arith, length-tabulated (λ i. getD xs i 0) from count)))
+  where
+    at : (i : ℕ) → i < count → getD (tabulated (λ i. getD xs i 0) from count) i 0 ≡ getD (take count (drop from xs)) i 0
+    at i l =
+        getD-tabulated (λ n. getD xs n 0) from count i l ∙ sym (getD-take count (drop from xs) i 0 l ∙ getD-drop from xs i 0)
 
 module _ (step offset : ℕ) (basis word : List ℕ) (w : IsWord offset basis word) (fits : step ≤ length basis) where
   -- the word's interpolant
@@ -98,6 +111,10 @@ module _ (step offset : ℕ) (basis word : List ℕ) (w : IsWord offset basis wo
       all-tabulated IsElement (point offset basis) (j * 2 ^ step) (2 ^ step)
       (λ i l u. point-element offset basis i (w .offset-element) (w .basis-elements))
 
+  entries-elements : (j : ℕ) → j < 2 ^ (length basis - step) → All IsElement (cosetEntries step word j)
+  entries-elements j h =
+      subst (All IsElement) (sym (entries-of-coset j h)) (values-elements gf64 IsElement gf64-laws P (cosetPoints step offset basis j) P-elements (coset-elements j))
+
   coset-distinct : (j : ℕ) → j < 2 ^ (length basis - step) → Distinct (cosetPoints step offset basis j)
   unfolding cosetPoints
   coset-distinct j h =
@@ -128,6 +145,13 @@ module _ (step offset : ℕ) (basis word : List ℕ) (w : IsWord offset basis wo
       (lowerCoefficients-elements step basis fits (w .basis-elements)) P-elements whole
       ∙ ap (λ (q : List ℕ). evaluate gf64 (rowsAt step offset basis word x) (evaluate gf64 q x)) (sym (subspace-monic step basis fits))
 
+  -- the points of coset j go to point j
+  image-in-coset : (j i : ℕ) → j * 2 ^ step ≤ i → i < j * 2 ^ step + 2 ^ step
+      → image step basis (point offset basis i) ≡ point (nextOffset step offset basis) (nextBasis step basis) j
+  image-in-coset j i l u =
+      ap (λ (n : ℕ). image step basis (point offset basis n)) (omega arith)
+      ∙ image-of-coset step offset basis j (i - j * 2 ^ step) (w .offset-element) (w .basis-elements) (omega arith)
+
   joined-agrees : (j : ℕ) → map (evaluate gf64 P) (cosetPoints step offset basis j) ≡ map (evaluate gf64 (joinedAt j)) (cosetPoints step offset basis j)
   unfolding cosetPoints joinedAt rowsAt
   joined-agrees j =
@@ -137,16 +161,11 @@ module _ (step offset : ℕ) (basis word : List ℕ) (w : IsWord offset basis wo
       next : ℕ
       next = point (nextOffset step offset basis) (nextBasis step basis) j
 
-      same-image : (i : ℕ) → j * 2 ^ step ≤ i → i < j * 2 ^ step + 2 ^ step → image step basis (point offset basis i) ≡ next
-      same-image i l u =
-          ap (λ (n : ℕ). image step basis (point offset basis n)) (omega arith)
-          ∙ image-of-coset step offset basis j (i - j * 2 ^ step) (w .offset-element) (w .basis-elements) (omega arith)
-
       at : (i : ℕ) → j * 2 ^ step ≤ i → i < j * 2 ^ step + 2 ^ step
           → evaluate gf64 P (point offset basis i) ≡ evaluate gf64 (joinedAt j) (point offset basis i)
       at i l u =
           value-by-rows (point offset basis i)
-          ∙ ap (evaluate gf64 (rowsAt step offset basis word (point offset basis i))) (same-image i l u)
+          ∙ ap (evaluate gf64 (rowsAt step offset basis word (point offset basis i))) (image-in-coset j i l u)
           ∙ sym (evaluate-combined gf64 IsElement gf64-laws (2 ^ step) next (wordRows step offset basis word) (point offset basis i))
 
   -- so they are the coset's interpolant
@@ -157,7 +176,7 @@ module _ (step offset : ℕ) (basis word : List ℕ) (w : IsWord offset basis wo
       interpolant-unique gf64 IsElement gf64-laws (joinedAt j) (cosetPoints step offset basis j) (cosetEntries step word j)
       (combined-elements gf64 IsElement gf64-laws (2 ^ step) next (wordRows step offset basis word) next-element rows-are-elements)
       (coset-elements j)
-      (subst (All IsElement) (sym (entries-of-coset j h)) (values-elements gf64 IsElement gf64-laws P (cosetPoints step offset basis j) P-elements (coset-elements j)))
+      (entries-elements j h)
       (coset-distinct j h)
       (length-combined gf64 (2 ^ step) next (wordRows step offset basis word) rows-are-short ∙ sym (length-coset j))
       (sym (entries-of-coset j h ∙ joined-agrees j))
@@ -237,7 +256,7 @@ module _ (step offset : ℕ) (basis word : List ℕ) (w : IsWord offset basis wo
       unmapped [] a = record {}
       unmapped (row ∷ rs) a = (a .0, unmapped rs (a .1))
 
-  rows-fold-degree : (N x : ℕ) → IsElement x → All (λ row. evaluate gf64 row x ≡ 0) (drop N (wordRows step offset basis word))
+  pub rows-fold-degree : (N x : ℕ) → IsElement x → All (λ row. evaluate gf64 row x ≡ 0) (drop N (wordRows step offset basis word))
       → WordDegreeBelow N (nextOffset step offset basis) (nextBasis step basis) (folded step offset basis word x)
   unfolding rowsAt
   rows-fold-degree N x h z =
@@ -249,7 +268,7 @@ module _ (step offset : ℕ) (basis word : List ℕ) (w : IsWord offset basis wo
   by-length N = ap (λ (m : ℕ). N * m) (length-lowerCoefficients step basis fits)
 
   -- rows from N on are zero exactly when the word's degree is below N · 2^step
-  rows-of-degree : (N : ℕ) → WordDegreeBelow (N * 2 ^ step) offset basis word → All (Zeros gf64) (drop N (wordRows step offset basis word))
+  pub rows-of-degree : (N : ℕ) → WordDegreeBelow (N * 2 ^ step) offset basis word → All (Zeros gf64) (drop N (wordRows step offset basis word))
   unfolding wordRows
   rows-of-degree N z =
       rows-degree gf64 IsElement gf64-laws N (lowerCoefficients step basis) (2 ^ (length basis - step)) (interpolated offset basis word)
@@ -285,3 +304,62 @@ module _ (step offset : ℕ) (basis word : List ℕ) (w : IsWord offset basis wo
       fold-elements =
           encoded-elements (nextOffset step offset basis) (nextBasis step basis) (rowsAt step offset basis word x)
           (nextOffset-element step offset basis (w .offset-element)) (nextBasis-elements step basis (w .basis-elements)) (rowsAt-elements x h)
+
+  -- ---- an entry by any polynomial that agrees with the word
+
+  inside-word : (j : ℕ) → j < 2 ^ (length basis - step) → j * 2 ^ step + 2 ^ step ≤ length word
+  inside-word j h = subst (λ (n : ℕ). j * 2 ^ step + 2 ^ step ≤ n) (sym (w .count)) (inside j h)
+
+  pub entry-by-agreement : (x j : ℕ) (p : List ℕ) → j < 2 ^ (length basis - step) → All IsElement p → length p ≡ 2 ^ step
+      → ((i : ℕ) → i < 2 ^ length basis → image step basis (point offset basis i) ≡ point (nextOffset step offset basis) (nextBasis step basis) j
+      → evaluate gf64 p (point offset basis i) ≡ getD word i 0)
+      → getD (folded step offset basis word x) j 0 ≡ evaluate gf64 p x
+  unfolding folded foldEntry cosetPoints cosetEntries
+  entry-by-agreement x j p h ep l agree =
+      getD-tabulated (foldEntry step offset basis word x) 0 (2 ^ (length basis - step)) j h ∙ ap (foldEntry step offset basis word x) (zero-add j)
+      ∙ ap (λ (q : List ℕ). evaluate gf64 q x) (sym same)
+    where
+      values : map (evaluate gf64 p) (cosetPoints step offset basis j) ≡ cosetEntries step word j
+      values =
+          map-tabulated (evaluate gf64 p) (point offset basis) (j * 2 ^ step) (2 ^ step)
+          ∙ tabulated-agree (λ i. evaluate gf64 p (point offset basis i)) (λ i. getD word i 0) (j * 2 ^ step) (2 ^ step)
+          (λ i low high. agree i (omega (arith, inside j h)) (image-in-coset j i low high))
+          ∙ entries-tabulated word (j * 2 ^ step) (2 ^ step) (inside-word j h)
+
+      same : p ≡ interpolant gf64 (cosetPoints step offset basis j) (cosetEntries step word j)
+      same =
+          interpolant-unique gf64 IsElement gf64-laws p (cosetPoints step offset basis j) (cosetEntries step word j) ep (coset-elements j) (entries-elements j h)
+          (coset-distinct j h) (l ∙ sym (length-cosetPoints step offset basis j)) values
+
+  -- the coset's interpolant agrees
+  pub coset-agrees : (i j : ℕ) → i < 2 ^ length basis → j < 2 ^ (length basis - step)
+      → image step basis (point offset basis i) ≡ point (nextOffset step offset basis) (nextBasis step basis) j
+      → evaluate gf64 (interpolant gf64 (cosetPoints step offset basis j) (cosetEntries step word j)) (point offset basis i) ≡ getD word i 0
+  unfolding cosetPoints cosetEntries
+  coset-agrees i j hi hj e =
+      ap (evaluate gf64 I) (sym (at-point ∙ ap (point offset basis) place))
+      ∙ sym (getD-map (evaluate gf64 I) (cosetPoints step offset basis j) (i % 2 ^ step) (subst (λ (n : ℕ). i % 2 ^ step < n) (sym (length-cosetPoints step offset basis j)) low))
+      ∙ ap (λ (l : List ℕ). getD l (i % 2 ^ step) 0) all
+      ∙ getD-take (2 ^ step) (drop (j * 2 ^ step) word) (i % 2 ^ step) 0 low ∙ getD-drop (j * 2 ^ step) word (i % 2 ^ step) 0
+      ∙ ap (λ (n : ℕ). getD word n 0) place
+    where
+      I : List ℕ
+      I = interpolant gf64 (cosetPoints step offset basis j) (cosetEntries step word j)
+
+      low : i % 2 ^ step < 2 ^ step
+      low = mod-lt i (pow-pos step)
+
+      place : j * 2 ^ step + i % 2 ^ step ≡ i
+      place =
+          ap (λ (n : ℕ). n * 2 ^ step + i % 2 ^ step) (sym (image-only step offset basis i j (w .offset-element) (w .basis-elements) (w .independent) fits hi hj e))
+          ∙ split i step
+
+      at-point : getD (cosetPoints step offset basis j) (i % 2 ^ step) 0 ≡ point offset basis (j * 2 ^ step + i % 2 ^ step)
+      at-point = getD-tabulated (point offset basis) (j * 2 ^ step) (2 ^ step) (i % 2 ^ step) low
+
+      all : map (evaluate gf64 I) (cosetPoints step offset basis j) ≡ cosetEntries step word j
+      all =
+          interpolant-agrees gf64 IsElement gf64-laws (cosetPoints step offset basis j) (cosetEntries step word j) (coset-elements j) (entries-elements j hj)
+          (coset-distinct j hj)
+          (length-cosetPoints step offset basis j
+          ∙ sym (length-take-le (2 ^ step) (drop (j * 2 ^ step) word) (omega (arith, inside-word j hj, length-drop (j * 2 ^ step) word))))

@@ -232,3 +232,12 @@ entry-by-halving step offset basis word x j w hx fits h =
   where
     first : ℕ
     first = point offset (drop step basis) j
+
+pub entry-of-coset : (step offset : ℕ) (basis word : List ℕ) → IsWord offset basis word → step ≤ length basis → (x j : ℕ) → IsElement x
+    → j < 2 ^ (length basis - step)
+    → valueAt (map inverse (stepElements step basis)) (before (stepElements step basis) x) (cosetPoints step offset basis j) (cosetEntries step word j)
+    ≡ foldEntry step offset basis word x j
+entry-of-coset step offset basis word w fits x j hx h =
+    ap (λ (l : List ℕ). valueAt (map inverse (stepElements step basis)) (before (stepElements step basis) x) l (cosetEntries step word j))
+    (cosetPoints-are step offset basis j fits)
+    ∙ entry-by-halving step offset basis word x j w hx fits h

@@ -16,15 +16,17 @@ use Rattle.refusal.specs.declared.Outcome.{Outcome}
 use Rattle.refusal.specs.declared.Outcome.the-variants.{Done, Refused}
 use Rattle.refusal.specs.declared.Position.{Position}
 use Rattle.refusal.specs.declared.Position.the-variants.{At, Absent}
-use Rattle.refusal.specs.Checks.{refusedUnless, andThen}
+use Rattle.refusal.specs.Checks.{refusedUnless, andThen, afterwards}
 use Rattle.refusal.specs.Numbers.{numberOf, placeOf, roundOf, numberOfOutcome}
 use Rattle.refusal.proofs.Checks.{both-true, first-false, second-false, then-passed, then-refused}
 use Rattle.coset.specs.Span.{firstDependent, Independent}
 use Rattle.coset.specs.Answers.{outcomeOfBasis}
-use Rattle.coset.specs.Subspace.{nextBasis}
+use Rattle.coset.specs.Subspace.{nextOffset, nextBasis}
 use Rattle.coset.proofs.Subspace.{next-independent}
-use Rattle.fold.specs.Answers.{rangesOutcome, lengthsOutcome, outcomeOfNextBasis, basesOutcome, foldOutcome}
-use Rattle.fold.specs.Theorems.{InRange, Fits, FoldAccepted, Told, FoldRefusals}
+use Rattle.fold.specs.Answers.{rangesOutcome, lengthsOutcome, outcomeOfNextBasis, basesOutcome, foldOutcome, answerOf, foldAnswer, foldValuesAfter, nextBasisAfter, numberOfFolded, placeOfFolded, roundOfFolded}
+use Rattle.fold.specs.declared.Folded.the-variants.{NextOffset}
+use Rattle.fold.specs.Fold.{folded}
+use Rattle.fold.specs.Theorems.{InRange, Fits, FoldAccepted, Refuses, FoldRefusals}
 use Rattle.fold.proofs.Checks as checks
 
 in-range-k : (k step : ℕ) → InRange k step → (leb 2 k && leb k 20) ≡ true
@@ -84,8 +86,28 @@ accepts k step basis word values next h = (
   λ a. sym (bases-decide k step basis word values next (a .0) (a .1) (a .2)) ∙ bases-pass step basis h (a .3),
 )
 
-told : (outcome : Outcome) (cause : Cause) → Refused cause ≡ outcome → Told outcome (numberOf cause) (placeOf cause) (roundOf cause)
-told outcome cause e = subst (λ (o : Outcome). Told o (numberOf cause) (placeOf cause) (roundOf cause)) e (refl, refl, refl)
+-- a refusal carries its cause's number, place and round, and leaves both lists
+refuses : (k step : ℕ) (basis word values next : List ℕ) (cause : Cause) → Refused cause ≡ foldOutcome k step basis word values next
+    → Refuses k step basis word values next (numberOf cause) (placeOf cause) (roundOf cause)
+refuses k step basis word values next cause e offset x =
+    subst
+    (λ (o : Outcome).
+        (numberOfFolded (answerOf o (nextOffset step offset basis)) ≡ numberOf cause)
+        × (placeOfFolded (answerOf o (nextOffset step offset basis)) ≡ placeOf cause)
+        × (roundOfFolded (answerOf o (nextOffset step offset basis)) ≡ roundOf cause)
+        × (afterwards o (folded step offset basis word x) values ≡ values)
+        × (afterwards o (nextBasis step basis) next ≡ next))
+    e (refl, refl, refl, refl, refl)
+
+answers-done : (k step offset : ℕ) (basis word : List ℕ) (x : ℕ) (values next : List ℕ) → foldOutcome k step basis word values next ≡ Done
+    → (foldAnswer k step offset basis word values next ≡ NextOffset (record { 0 = nextOffset step offset basis }))
+    × (foldValuesAfter k step offset basis word x values next ≡ folded step offset basis word x)
+    × (nextBasisAfter k step basis word values next ≡ nextBasis step basis)
+answers-done k step offset basis word x values next e = (
+  ap (λ (o : Outcome). answerOf o (nextOffset step offset basis)) e,
+  ap (λ (o : Outcome). afterwards o (folded step offset basis word x) values) e,
+  ap (λ (o : Outcome). afterwards o (nextBasis step basis) next) e,
+)
 
 dependent-refused : (step : ℕ) (basis : List ℕ) (place : ℕ) → firstDependent basis ≡ At place → Refused (BasisDependent place) ≡ basesOutcome step basis
 dependent-refused step basis place e =
@@ -147,52 +169,58 @@ other-all k step basis word values next h =
         (other-unless (eqb (length values) (2 ^ (k - step))) (WrongLength 6) last (omega arith)
         (other-unless (eqb (length next) (k - step)) (WrongLength 7) Done (omega arith) (omega arith))))
 
-never : (k step : ℕ) (basis word values next : List ℕ) (round : ℕ) → All IsElement basis
-    → foldOutcome k step basis word values next ≢ Refused (LaterBasisDependent round)
+same-number : (outcome : Outcome) (offset : ℕ) → numberOfFolded (answerOf outcome offset) ≡ numberOfOutcome outcome
+same-number Done offset = refl
+same-number (Refused cause) offset = refl
+
+never : (k step offset : ℕ) (basis word values next : List ℕ) → All IsElement basis
+    → numberOfFolded (foldAnswer k step offset basis word values next) ≢ 16
 unfolding Other
-never k step basis word values next round h e =
-    not-below (subst (λ (o : Outcome). numberOfOutcome o < 16) e (other-all k step basis word values next h))
+never k step offset basis word values next h e =
+    not-below
+    (subst (λ (n : ℕ). n < 16) (sym (same-number (foldOutcome k step basis word values next) (nextOffset step offset basis)) ∙ e)
+    (other-all k step basis word values next h))
   where
     not-below : 16 < 16 → ⊥
     not-below l = omega arith
 
 pub accepted : FoldAccepted
-accepted = record { done = accepts }
+accepted = record { done = accepts; answer = answers-done }
 
 pub refusals : FoldRefusals
 refusals =
     record {
       dimension = λ k step basis word values next o.
-          told (foldOutcome k step basis word values next) DimensionOutOfRange
+          refuses k step basis word values next DimensionOutOfRange
           (ranges-refuse k step basis word values next DimensionOutOfRange (checks.dimension-refused k step (outside 2 k 20 o)));
       step = λ k step basis word values next l u o.
-          told (foldOutcome k step basis word values next) StepOutOfRange
+          refuses k step basis word values next StepOutOfRange
           (ranges-refuse k step basis word values next StepOutOfRange
           (checks.step-refused k step (both-true (leb 2 k) (leb k 20) (le-leb 2 k l) (le-leb k 20 u)) (outside 1 step 3 o)));
       too-small = λ k step basis word values next r s.
-          told (foldOutcome k step basis word values next) DimensionTooSmall
+          refuses k step basis word values next DimensionTooSmall
           (ranges-refuse k step basis word values next DimensionTooSmall
           (checks.too-small-refused k step (in-range-k k step r) (in-range-step k step r) (lt-leb step k s)));
       list1 = λ k step basis word values next r s n.
-          told (foldOutcome k step basis word values next) (WrongLength 1)
+          refuses k step basis word values next (WrongLength 1)
           (lengths-refuse k step basis word values next r s (WrongLength 1)
           (checks.list1-refused k step (length basis) (length word) (length values) (length next) (ne-eqb (length basis) k n)));
       list3 = λ k step basis word values next r s a n.
-          told (foldOutcome k step basis word values next) (WrongLength 3)
+          refuses k step basis word values next (WrongLength 3)
           (lengths-refuse k step basis word values next r s (WrongLength 3)
           (checks.list3-refused k step (length basis) (length word) (length values) (length next) (eq-eqb (length basis) k a) (ne-eqb (length word) (2 ^ k) n)));
       list6 = λ k step basis word values next r s a b n.
-          told (foldOutcome k step basis word values next) (WrongLength 6)
+          refuses k step basis word values next (WrongLength 6)
           (lengths-refuse k step basis word values next r s (WrongLength 6)
           (checks.list6-refused k step (length basis) (length word) (length values) (length next) (eq-eqb (length basis) k a) (eq-eqb (length word) (2 ^ k) b)
           (ne-eqb (length values) (2 ^ (k - step)) n)));
       list7 = λ k step basis word values next r s a b v n.
-          told (foldOutcome k step basis word values next) (WrongLength 7)
+          refuses k step basis word values next (WrongLength 7)
           (lengths-refuse k step basis word values next r s (WrongLength 7)
           (checks.list7-refused k step (length basis) (length word) (length values) (length next) (eq-eqb (length basis) k a) (eq-eqb (length word) (2 ^ k) b)
           (eq-eqb (length values) (2 ^ (k - step)) v) (ne-eqb (length next) (k - step) n)));
       dependent = λ k step basis word values next place r s f e.
-          told (foldOutcome k step basis word values next) (BasisDependent place)
+          refuses k step basis word values next (BasisDependent place)
           (dependent-refused step basis place e ∙ bases-decide k step basis word values next r s f);
       never16 = never;
     }

@@ -15,7 +15,7 @@ use Rattle.coset.specs.Span.{firstDependent}
 use Rattle.coset.specs.Answers.{outcomeOfBasis}
 use Rattle.coset.specs.Subspace.{nextOffset, nextBasis}
 use Rattle.fold.specs.declared.Folded.{Folded}
-use Rattle.fold.specs.declared.Folded.the-variants as folded
+use Rattle.fold.specs.declared.Folded.the-variants as answers
 use Rattle.fold.specs.Fold.{folded}
 
 -- the ranges: k 2..20 (number 4), the step 1..3 (6), k at least the step (7)
@@ -26,16 +26,16 @@ rangesOutcome k step =
     (refusedUnless (leb step k) DimensionTooSmall
     Done))
 
--- the lengths of basis, word, values and next basis: the lowest list that has another length than its own (13)
+-- the lengths of lists 1, 3, 6 and 7, which are basis, word, values and next basis: the lowest list whose length is not the one due (13)
 abbrev pub lengthsOutcome : ℕ → ℕ → ℕ → ℕ → ℕ → ℕ → Outcome
-lengthsOutcome k step list1 list3 list6 list7 =
-    refusedUnless (eqb list1 k) (WrongLength 1)
-    (refusedUnless (eqb list3 (2 ^ k)) (WrongLength 3)
-    (refusedUnless (eqb list6 (2 ^ (k - step))) (WrongLength 6)
-    (refusedUnless (eqb list7 (k - step)) (WrongLength 7)
+lengthsOutcome k step length1 length3 length6 length7 =
+    refusedUnless (eqb length1 k) (WrongLength 1)
+    (refusedUnless (eqb length3 (2 ^ k)) (WrongLength 3)
+    (refusedUnless (eqb length6 (2 ^ (k - step))) (WrongLength 6)
+    (refusedUnless (eqb length7 (k - step)) (WrongLength 7)
     Done)))
 
--- a dependent next basis is refused (16); a lone fold is round 0
+-- a dependent next basis is refused (16), with the round whose fold gives it: a lone fold is round 0
 abbrev pub outcomeOfNextBasis : Position → Outcome
 outcomeOfNextBasis (At place) = Refused (LaterBasisDependent 0)
 outcomeOfNextBasis Absent = Done
@@ -54,10 +54,10 @@ foldOutcome k step basis word values next =
 
 -- the next offset, or the refusal
 abbrev pub answerOf : Outcome → ℕ → Folded
-answerOf Done offset = folded.NextOffset (record { 0 = offset })
-answerOf (Refused cause) offset = folded.Refused cause
+answerOf Done offset = answers.NextOffset (record { 0 = offset })
+answerOf (Refused cause) offset = answers.Refused cause
 
--- what a fold answers
+-- the answer of a call
 abbrev pub foldAnswer : ℕ → ℕ → ℕ → List ℕ → List ℕ → List ℕ → List ℕ → Folded
 foldAnswer k step offset basis word values next = answerOf (foldOutcome k step basis word values next) (nextOffset step offset basis)
 
@@ -73,14 +73,19 @@ nextBasisAfter k step basis word values next =
 
 -- the number of an answer: 0 where there is a next offset, else that of the cause
 abbrev pub numberOfFolded : Folded → ℕ
-numberOfFolded (folded.NextOffset offset) = 0
-numberOfFolded (folded.Refused cause) = numberOf cause
+numberOfFolded (answers.NextOffset offset) = 0
+numberOfFolded (answers.Refused cause) = numberOf cause
 
 -- its place and its round: those of the cause
 abbrev pub placeOfFolded : Folded → Position
-placeOfFolded (folded.NextOffset offset) = Absent
-placeOfFolded (folded.Refused cause) = placeOf cause
+placeOfFolded (answers.NextOffset offset) = Absent
+placeOfFolded (answers.Refused cause) = placeOf cause
 
 abbrev pub roundOfFolded : Folded → Position
-roundOfFolded (folded.NextOffset offset) = Absent
-roundOfFolded (folded.Refused cause) = roundOf cause
+roundOfFolded (answers.NextOffset offset) = Absent
+roundOfFolded (answers.Refused cause) = roundOf cause
+
+-- its value: the next offset, where there is one
+abbrev pub valueOfFolded : Folded → ℕ → ℕ
+valueOfFolded (answers.NextOffset offset) none = offset .0
+valueOfFolded (answers.Refused cause) none = none
