@@ -15,7 +15,7 @@
  *   number  0 when it went well, else that of the cause
  *   place   the section (numbers 1, 2), basis place (8), query (10, 11), degree (12) or list (13)
  *   round   for numbers 11 and 16
- *   reads   how many entries were read: 0 where none were
+ *   reads   how many entries a judge read: 0 where none were, and for every other function
  *   value   what the function gives, where it gives something and number is 0
  * RZ_NONE stands for a place, a round or a value that there is none of. A function that gives an element
  * gives it whenever number is 0, and RZ_NONE is then the element with all bits set. */
@@ -59,8 +59,8 @@ void rz_interpolate(uint64_t offset, const uint64_t *basis, size_t basis_length,
                     size_t word_length, uint64_t *coefficients, size_t coefficients_length, uint64_t *answer,
                     size_t answer_length);
 
-/* Folds a word over a coset of dimension k with a step, at a challenge. q is the product of X - a over all sums of the first
- * `step` basis elements. The next coset has dimension k - step, the offset q(offset) and the basis q(basis[step]) ..
+/* Folds a word over a coset of dimension k with a step, at a challenge. q is the product of X - a over all sums of some or
+ * none of the first `step` basis elements. The next coset has dimension k - step, the offset q(offset) and the basis q(basis[step]) ..
  * q(basis[k - 1]), which is written into `next_basis`; its point j is q of points j * 2^step to j * 2^step + 2^step - 1. Into
  * values[j] goes the value at the challenge of the one polynomial of degree below 2^step that has the word's values at those
  * points. value: the next offset. Refused, in this order, with

@@ -175,7 +175,7 @@ pub extern "C" fn rz_fold(
 )
     ensures answer { λ _. ⌜ now (answer .exit) ≡ answered (answerOfFolded (foldAnswer k step offset (now (basis .entry)) (now (word .entry)) (now (values .entry)) (now («next_basis» .entry)))) (now (answer .entry)) ⌝ }
     ensures output { λ _. ⌜ now (values .exit) ≡ whereAnswered (now (answer .entry)) (foldValuesAfter k step offset (now (basis .entry)) (now (word .entry)) challenge (now (values .entry)) (now («next_basis» .entry))) (now (values .entry)) ⌝ }
-    ensures basis { λ _. ⌜ now («next_basis» .exit) ≡ whereAnswered (now (answer .entry)) (nextBasisAfter k step (now (basis .entry)) (now (word .entry)) (now (values .entry)) (now («next_basis» .entry))) (now («next_basis» .entry)) ⌝ }
+    ensures next { λ _. ⌜ now («next_basis» .exit) ≡ whereAnswered (now (answer .entry)) (nextBasisAfter k step (now (basis .entry)) (now (word .entry)) (now (values .entry)) (now («next_basis» .entry))) (now («next_basis» .entry)) ⌝ }
 {
     if answer.len() != ANSWER_LENGTH {
         return;

@@ -31,7 +31,7 @@ use Rattle.refusal.specs.declared.Position.the-variants.{At, Absent}
 use Rattle.coset.specs.Coset.{point, tabulated, points}
 use Rattle.coset.specs.Span.{inSpan, firstDependentAfter, firstDependent, Independent}
 use Rattle.coset.specs.Subspace.{subspacePolynomial, image}
-use Rattle.coset.specs.Steps.{oneStep, through, stepElements, before}
+use Rattle.coset.specs.Steps.{oneStep, composedMaps, stepElements, imagesBefore}
 use Rattle.coset.proofs.Span.{Kernel, span-image, first-image, at-not-absent}
 use Rattle.coset.proofs.Clearing.{zero-test}
 use Rattle.coset.proofs.Points.{point-image, point-even, point-odd, point-halved, first-not-zero}
@@ -74,14 +74,14 @@ one-step-kernel e he a ha =
 
 -- ---- one map after the other
 
-pub through-additive : (elements : List ℕ) → Additive (through elements)
-unfolding through
+pub through-additive : (elements : List ℕ) → Additive (composedMaps elements)
+unfolding composedMaps
 through-additive [] a b = refl
 through-additive (e ∷ elements) a b =
-    ap (through elements) (one-step-additive e a b) ∙ through-additive elements (oneStep e a) (oneStep e b)
+    ap (composedMaps elements) (one-step-additive e a b) ∙ through-additive elements (oneStep e a) (oneStep e b)
 
-pub through-element : (elements : List ℕ) (x : ℕ) → IsElement x → IsElement (through elements x)
-unfolding through
+pub through-element : (elements : List ℕ) (x : ℕ) → IsElement x → IsElement (composedMaps elements x)
+unfolding composedMaps
 through-element [] x h = h
 through-element (e ∷ elements) x h = through-element elements (oneStep e x) (one-step-element e x)
 
@@ -104,37 +104,37 @@ length-elements (suc n) (b ∷ basis) h = ap suc (length-elements n (map (oneSte
 
 -- element t is what the maps before it make of basis element t
 pub element-at : (n : ℕ) (basis : List ℕ) (t : ℕ) → t < n → n ≤ length basis
-    → through (take t (stepElements n basis)) (getD basis t 0) ≡ getD (stepElements n basis) t 0
-unfolding stepElements through
+    → composedMaps (take t (stepElements n basis)) (getD basis t 0) ≡ getD (stepElements n basis) t 0
+unfolding stepElements composedMaps
 element-at zero basis t h l = absurd (omega arith)
 element-at (suc n) [] t h l = absurd (omega arith)
 element-at (suc n) (b ∷ basis) zero h l = refl
 element-at (suc n) (b ∷ basis) (suc t) h l =
-    ap (through (take t (stepElements n (map (oneStep b) basis)))) (sym (getD-map (oneStep b) basis t (omega arith)))
+    ap (composedMaps (take t (stepElements n (map (oneStep b) basis)))) (sym (getD-map (oneStep b) basis t (omega arith)))
     ∙ element-at n (map (oneStep b) basis) t (omega arith) (omega (arith, length-map basis (oneStep b)))
 
-pub length-before : (elements : List ℕ) (x : ℕ) → length (before elements x) ≡ length elements
-unfolding before
+pub length-before : (elements : List ℕ) (x : ℕ) → length (imagesBefore elements x) ≡ length elements
+unfolding imagesBefore
 length-before [] x = refl
 length-before (e ∷ elements) x = ap suc (length-before elements (oneStep e x))
 
-pub before-at : (elements : List ℕ) (x t : ℕ) → t < length elements → getD (before elements x) t 0 ≡ through (take t elements) x
-unfolding before through
+pub before-at : (elements : List ℕ) (x t : ℕ) → t < length elements → getD (imagesBefore elements x) t 0 ≡ composedMaps (take t elements) x
+unfolding imagesBefore composedMaps
 before-at [] x t h = absurd (omega arith)
 before-at (e ∷ elements) x zero h = refl
 before-at (e ∷ elements) x (suc t) h = before-at elements (oneStep e x) t (omega arith)
 
 -- from one map to the next
 pub through-next : (elements : List ℕ) (t y : ℕ) → t < length elements
-    → through (drop (t + 1) elements) (product y (sum y (getD elements t 0))) ≡ through (drop t elements) y
-unfolding through oneStep
+    → composedMaps (drop (t + 1) elements) (product y (sum y (getD elements t 0))) ≡ composedMaps (drop t elements) y
+unfolding composedMaps oneStep
 through-next elements t y h =
-    ap (λ (n : ℕ). through (drop n elements) (oneStep (getD elements t 0) y)) (add-one t)
-    ∙ sym (ap (λ (l : List ℕ). through l y) (drop-cons elements t 0 h))
+    ap (λ (n : ℕ). composedMaps (drop n elements) (oneStep (getD elements t 0) y)) (add-one t)
+    ∙ sym (ap (λ (l : List ℕ). composedMaps l y) (drop-cons elements t 0 h))
 
-pub through-end : (elements : List ℕ) (t y : ℕ) → length elements ≤ t → through (drop t elements) y ≡ y
-unfolding through
-through-end elements t y h = ap (λ (l : List ℕ). through l y) (drop-of-length-le elements h)
+pub through-end : (elements : List ℕ) (t y : ℕ) → length elements ≤ t → composedMaps (drop t elements) y ≡ y
+unfolding composedMaps
+through-end elements t y h = ap (λ (l : List ℕ). composedMaps l y) (drop-of-length-le elements h)
 
 -- ---- the composition is the product of X - a over the span
 
@@ -187,8 +187,8 @@ vanishing-step b basis x =
         ∙ sym (product-assoc (bitXor x (point 0 basis j)) (bitXor x (bitXor b (point 0 basis j))) v)
         ∙ ap (λ (s : ℕ). product s v) (pair-step b x (point 0 basis j) ∙ ap (bitXor (oneStep b x)) (image-of j))
 
-vanishing-through : (n : ℕ) (basis : List ℕ) (x : ℕ) → IsElement x → vanishing gf64 (points 0 (take n basis)) x ≡ through (stepElements n basis) x
-unfolding stepElements through points point tabulated vanishing
+vanishing-through : (n : ℕ) (basis : List ℕ) (x : ℕ) → IsElement x → vanishing gf64 (points 0 (take n basis)) x ≡ composedMaps (stepElements n basis) x
+unfolding stepElements composedMaps points point tabulated vanishing
 vanishing-through zero basis x h = ap (λ (s : ℕ). product s 1) (xor-zero-r x) ∙ product-one-r x h
 vanishing-through (suc n) [] x h = ap (λ (s : ℕ). product s 1) (xor-zero-r x) ∙ product-one-r x h
 vanishing-through (suc n) (b ∷ basis) x h =
@@ -196,38 +196,38 @@ vanishing-through (suc n) (b ∷ basis) x h =
     ∙ ap (λ (l : List ℕ). vanishing gf64 (points 0 l) (oneStep b x)) (map-take (oneStep b) n basis)
     ∙ vanishing-through n (map (oneStep b) basis) (oneStep b x) (one-step-element b x)
 
-pub image-through : (step : ℕ) (basis : List ℕ) (x : ℕ) → IsElement x → image step basis x ≡ through (stepElements step basis) x
+pub image-through : (step : ℕ) (basis : List ℕ) (x : ℕ) → IsElement x → image step basis x ≡ composedMaps (stepElements step basis) x
 unfolding image subspacePolynomial
 image-through step basis x h =
     evaluate-vanishing gf64 IsElement gf64-laws (points 0 (take step basis)) x ∙ vanishing-through step basis x h
 
-pub images-through : (step : ℕ) (basis xs : List ℕ) → All IsElement xs → map (image step basis) xs ≡ map (through (stepElements step basis)) xs
-images-through step basis xs h = map-agree (image step basis) (through (stepElements step basis)) xs (every xs h)
+pub images-through : (step : ℕ) (basis xs : List ℕ) → All IsElement xs → map (image step basis) xs ≡ map (composedMaps (stepElements step basis)) xs
+images-through step basis xs h = map-agree (image step basis) (composedMaps (stepElements step basis)) xs (every xs h)
   where
-    every : (ys : List ℕ) → All IsElement ys → All (λ y. image step basis y ≡ through (stepElements step basis) y) ys
+    every : (ys : List ℕ) → All IsElement ys → All (λ y. image step basis y ≡ composedMaps (stepElements step basis) y) ys
     every [] k = record {}
     every (y ∷ ys) k = (image-through step basis y (k .0), every ys (k .1))
 
 -- ---- the image of a coset
 
 composed-images : (elements : List ℕ) (b n : ℕ) (basis : List ℕ)
-    → map (through elements) (drop n (map (oneStep b) basis)) ≡ map (λ x. through elements (oneStep b x)) (drop n basis)
+    → map (composedMaps elements) (drop n (map (oneStep b) basis)) ≡ map (λ x. composedMaps elements (oneStep b x)) (drop n basis)
 composed-images elements b n basis =
-    ap (map (through elements)) (sym (map-drop (oneStep b) n basis)) ∙ map-map (through elements) (oneStep b) (drop n basis)
+    ap (map (composedMaps elements)) (sym (map-drop (oneStep b) n basis)) ∙ map-map (composedMaps elements) (oneStep b) (drop n basis)
 
 pub through-point : (n : ℕ) (offset : ℕ) (basis : List ℕ) (i : ℕ)
-    → through (stepElements n basis) (point offset basis i)
-    ≡ point (through (stepElements n basis) offset) (map (through (stepElements n basis)) (drop n basis)) (i / 2 ^ n)
-unfolding stepElements through point
+    → composedMaps (stepElements n basis) (point offset basis i)
+    ≡ point (composedMaps (stepElements n basis) offset) (map (composedMaps (stepElements n basis)) (drop n basis)) (i / 2 ^ n)
+unfolding stepElements composedMaps point
 through-point zero offset basis i = ap₂ (point offset) (sym (map-id basis)) (sym (div-one i))
   where
     div-one : (m : ℕ) → m / 2 ^ 0 ≡ m
     div-one m = omega arith
 through-point (suc n) offset [] i = refl
 through-point (suc n) offset (b ∷ basis) i =
-    ap (through (stepElements n (map (oneStep b) basis))) (point-halved (oneStep b) (one-step-additive b) b (one-step-self b) offset basis i)
+    ap (composedMaps (stepElements n (map (oneStep b) basis))) (point-halved (oneStep b) (one-step-additive b) b (one-step-self b) offset basis i)
     ∙ through-point n (oneStep b offset) (map (oneStep b) basis) (i / 2)
-    ∙ ap₂ (point (through (stepElements n (map (oneStep b) basis)) (oneStep b offset)))
+    ∙ ap₂ (point (composedMaps (stepElements n (map (oneStep b) basis)) (oneStep b offset)))
     (composed-images (stepElements n (map (oneStep b) basis)) b n basis)
     (shr-shr i 1 n ∙ ap (λ (m : ℕ). i / 2 ^ m) (one-more n))
   where
@@ -260,8 +260,8 @@ independent-step b basis h d =
     others =
         sym (ap (λ (t : Bool). cond t (At 0) (firstDependentAfter (b ∷ []) basis 1)) (ne-eqb b 0 (first-not-zero b basis 0 d))) ∙ d
 
-pub independent-through : (n : ℕ) (basis : List ℕ) → All IsElement basis → Independent basis → Independent (map (through (stepElements n basis)) (drop n basis))
-unfolding stepElements through
+pub independent-through : (n : ℕ) (basis : List ℕ) → All IsElement basis → Independent basis → Independent (map (composedMaps (stepElements n basis)) (drop n basis))
+unfolding stepElements composedMaps
 independent-through zero basis h d = subst Independent (sym (map-id basis)) d
 independent-through (suc n) [] h d = d
 independent-through (suc n) (b ∷ basis) h d =
@@ -272,8 +272,8 @@ independent-through (suc n) (b ∷ basis) h d =
 -- ---- zero exactly on the span
 
 pub zero-through : (n : ℕ) (basis : List ℕ) (x : ℕ) → All IsElement basis → IsElement x
-    → eqb (through (stepElements n basis) x) 0 ≡ inSpan (take n basis) x
-unfolding stepElements through inSpan
+    → eqb (composedMaps (stepElements n basis) x) 0 ≡ inSpan (take n basis) x
+unfolding stepElements composedMaps inSpan
 zero-through zero basis x h k = refl
 zero-through (suc n) [] x h k = refl
 zero-through (suc n) (b ∷ basis) x h k =

@@ -23,7 +23,7 @@ use Rattle.poly.proofs.Vanishing.{lower, length-lower, lower-elements, vanishin
 use Rattle.coset.specs.Coset.{point, points}
 use Rattle.coset.specs.Span.{inSpan, Independent}
 use Rattle.coset.specs.Subspace.{subspacePolynomial, lowerCoefficients, image, nextOffset, nextBasis}
-use Rattle.coset.specs.Steps.{through, stepElements}
+use Rattle.coset.specs.Steps.{composedMaps, stepElements}
 use Rattle.coset.proofs.Points.{point-injective, point-element, length-points, points-elements}
 use Rattle.coset.proofs.Steps.{image-through, images-through, through-additive, through-element, through-point, independent-through, zero-through, length-elements}
 use lib.Bits.{xor-lt}
@@ -100,11 +100,11 @@ unfolding nextOffset
 nextOffset-element step offset basis h = image-element step basis offset h
 
 pub nextBasis-through : (step : ℕ) (basis : List ℕ) → All IsElement basis
-    → nextBasis step basis ≡ map (through (stepElements step basis)) (drop step basis)
+    → nextBasis step basis ≡ map (composedMaps (stepElements step basis)) (drop step basis)
 unfolding nextBasis
 nextBasis-through step basis h = images-through step basis (drop step basis) (all-drop IsElement step basis h)
 
-pub nextOffset-through : (step offset : ℕ) (basis : List ℕ) → IsElement offset → nextOffset step offset basis ≡ through (stepElements step basis) offset
+pub nextOffset-through : (step offset : ℕ) (basis : List ℕ) → IsElement offset → nextOffset step offset basis ≡ composedMaps (stepElements step basis) offset
 unfolding nextOffset
 nextOffset-through step offset basis h = image-through step basis offset h
 
@@ -155,25 +155,25 @@ elements-taken step basis elements h e =
 
 -- the images of what is behind them
 pub next-filled : (step : ℕ) (basis elements : List ℕ) → All IsElement basis → step ≤ length basis → elements ≡ padded gf64 3 (stepElements step basis)
-    → map (through (take step elements)) (take (length basis - step) (drop step basis)) ≡ nextBasis step basis
+    → map (composedMaps (take step elements)) (take (length basis - step) (drop step basis)) ≡ nextBasis step basis
 next-filled step basis elements eb h e =
-    ap₂ (λ (es xs : List ℕ). map (through es) xs) (elements-taken step basis elements h e) (mid-suffix step basis)
+    ap₂ (λ (es xs : List ℕ). map (composedMaps es) xs) (elements-taken step basis elements h e) (mid-suffix step basis)
     ∙ sym (nextBasis-through step basis eb)
 
 -- the front of the array is the next basis
 pub next-taken : (step : ℕ) (basis elements zeros filled : List ℕ) → All IsElement basis → step ≤ length basis → elements ≡ padded gf64 3 (stepElements step basis)
-    → filled ≡ map (through (take step elements)) (take (length basis - step) (drop step basis)) ++ drop (length (take (length basis - step) (drop step basis))) zeros
+    → filled ≡ map (composedMaps (take step elements)) (take (length basis - step) (drop step basis)) ++ drop (length (take (length basis - step) (drop step basis))) zeros
     → take (length basis - step) filled ≡ nextBasis step basis
 next-taken step basis elements zeros filled eb h e f =
     ap (take (length basis - step)) f
-    ∙ take-at (map (through (take step elements)) (take (length basis - step) (drop step basis))) (drop (length (take (length basis - step) (drop step basis))) zeros) (length basis - step)
+    ∙ take-at (map (composedMaps (take step elements)) (take (length basis - step) (drop step basis))) (drop (length (take (length basis - step) (drop step basis))) zeros) (length basis - step)
     (ap length (next-filled step basis elements eb h e) ∙ length-nextBasis step basis)
     ∙ next-filled step basis elements eb h e
 
 -- a list of their number is the next basis
 pub next-whole : (step : ℕ) (basis elements held filled : List ℕ) → All IsElement basis → step ≤ length basis → elements ≡ padded gf64 3 (stepElements step basis)
     → length held ≡ length basis - step
-    → filled ≡ map (through (take step elements)) (take (length basis - step) (drop step basis)) ++ drop (length (take (length basis - step) (drop step basis))) held
+    → filled ≡ map (composedMaps (take step elements)) (take (length basis - step) (drop step basis)) ++ drop (length (take (length basis - step) (drop step basis))) held
     → filled ≡ nextBasis step basis
 next-whole step basis elements held filled eb h e l f =
     f

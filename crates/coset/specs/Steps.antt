@@ -8,9 +8,9 @@ unfoldable pub oneStep : ℕ → ℕ → ℕ
 oneStep e x = product x (sum x e)
 
 -- one map after the other
-unfoldable pub through : List ℕ → ℕ → ℕ
-through [] x = x
-through (e ∷ elements) x = through elements (oneStep e x)
+unfoldable pub composedMaps : List ℕ → ℕ → ℕ
+composedMaps [] x = x
+composedMaps (e ∷ elements) x = composedMaps elements (oneStep e x)
 
 -- the element of each map: the first of the basis, then the first of the others' images, and so on
 unfoldable pub stepElements : ℕ → List ℕ → List ℕ
@@ -18,7 +18,7 @@ stepElements zero basis = []
 stepElements (suc n) [] = []
 stepElements (suc n) (b ∷ basis) = b ∷ stepElements n (map (oneStep b) basis)
 
--- x before each of the maps
-unfoldable pub before : List ℕ → ℕ → List ℕ
-before [] x = []
-before (e ∷ elements) x = x ∷ before elements (oneStep e x)
+-- the image of x before each of the maps
+unfoldable pub imagesBefore : List ℕ → ℕ → List ℕ
+imagesBefore [] x = []
+imagesBefore (e ∷ elements) x = x ∷ imagesBefore elements (oneStep e x)

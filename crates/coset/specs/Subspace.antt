@@ -6,11 +6,12 @@ use Rattle.poly.specs.Carrier.{gf64}
 use Rattle.poly.specs.Polynomial.{evaluate, vanishingPolynomial}
 use Rattle.coset.specs.Coset.{points}
 
--- q: the product of X - a over the span of the basis elements before place `step`; `Cosets.span` says that these points are the span
+-- q: the product of X - a over the span of the basis elements before place `step`; by `Cosets.span` and `Cosets.distinct` these points are
+-- the span, each once, where the basis is independent
 unfoldable pub subspacePolynomial : ℕ → List ℕ → List ℕ
 subspacePolynomial step basis = vanishingPolynomial gf64 (points 0 (take step basis))
 
--- its coefficients below the leading one, which is 1
+-- its coefficients below the leading one, which is 1, for a step of at most the dimension
 unfoldable pub lowerCoefficients : ℕ → List ℕ → List ℕ
 lowerCoefficients step basis = take (2 ^ step) (subspacePolynomial step basis)
 

@@ -13,7 +13,7 @@ use Rattle.coset.specs.Coset.{point, points}
 use Rattle.coset.specs.Sequence.{prefixSums}
 use Rattle.coset.specs.Span.{inSpan, firstDependent, Independent}
 use Rattle.coset.specs.Subspace.{subspacePolynomial, image, nextOffset, nextBasis}
-use Rattle.coset.specs.Steps.{through, stepElements}
+use Rattle.coset.specs.Steps.{composedMaps, stepElements}
 
 pub record Cosets : Type 0 where
   -- the span is the coset with offset 0
@@ -51,7 +51,7 @@ pub record Subspaces : Type 0 where
   pub zero : (step : ℕ) (basis : List ℕ) (x : ℕ) → All IsElement basis → IsElement x
       → (image step basis x ≡ 0) ↔ (inSpan (take step basis) x ≡ true)
   -- the composition of the maps X · (X - e)
-  pub composition : (step : ℕ) (basis : List ℕ) (x : ℕ) → IsElement x → image step basis x ≡ through (stepElements step basis) x
+  pub composition : (step : ℕ) (basis : List ℕ) (x : ℕ) → IsElement x → image step basis x ≡ composedMaps (stepElements step basis) x
 
 -- the next coset
 pub record NextCosets : Type 0 where

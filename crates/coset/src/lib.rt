@@ -1,4 +1,4 @@
-// Cosets: whether a basis is independent, and the points in sequence.
+// Cosets: whether a basis is independent, the points in sequence, and the subspace polynomial as a composition of maps.
 use field::Element;
 use refusal::Cause;
 use refusal::Outcome;
@@ -14,7 +14,7 @@ ghost use Rattle.poly.specs.Polynomial.{padded};
 ghost use Rattle.coset.specs.Coset.{point};
 ghost use Rattle.coset.specs.Span.{firstDependent};
 ghost use Rattle.coset.specs.Answers.{outcomeOfBasis};
-ghost use Rattle.coset.specs.Steps.{through, stepElements, before};
+ghost use Rattle.coset.specs.Steps.{composedMaps, stepElements, imagesBefore};
 ghost use Rattle.coset.specs.Elimination.{cleared};
 ghost use Rattle.coset.specs.Sequence.{prefixSums};
 
@@ -147,8 +147,8 @@ pub fn stepped(sums: &[u64], point: Element, next: usize) -> Element
 }
 
 // X · (X - e) for each of the elements, one after the other.
-pub fn through(elements: &[u64], x: Element) -> Element
-    ensures { λ r. ⌜ r .0 ≡ through (now (elements .entry)) (x .0) ⌝ }
+pub fn composed_maps(elements: &[u64], x: Element) -> Element
+    ensures { λ r. ⌜ r .0 ≡ composedMaps (now (elements .entry)) (x .0) ⌝ }
 {
     let mut y = x;
     let mut t: usize = 0;
@@ -159,7 +159,7 @@ pub fn through(elements: &[u64], x: Element) -> Element
     y
 }
 
-// The elements that the subspace polynomial of a step goes through, and zeros.
+// The elements e of the maps X · (X - e) whose composition is the subspace polynomial of a step, and zeros.
 pub fn step_elements(basis: &[u64], step: usize) -> [u64; 3]
     requires { ⌜ (step ≤ 3) × (step ≤ length (now basis)) ⌝ }
     ensures { λ r. ⌜ r ≡ padded gf64 3 (stepElements step (now (basis .entry))) ⌝ }
@@ -168,34 +168,34 @@ pub fn step_elements(basis: &[u64], step: usize) -> [u64; 3]
     let mut t: usize = 0;
     while t < step {
         let b = basis[t];
-        elements[t] = through(&elements[..t], Element(b)).0;
+        elements[t] = composed_maps(&elements[..t], Element(b)).0;
         t += 1;
     }
     elements
 }
 
-// What the maps make of each of the numbers, into the front of a list.
-pub fn fill_through(elements: &[u64], xs: &[u64], images: &mut [u64])
+// The image of each number under the maps, into the front of a list.
+pub fn fill_images(elements: &[u64], xs: &[u64], images: &mut [u64])
     requires { ⌜ length (now xs) ≤ length (now images) ⌝ }
-    ensures { λ _. ⌜ now (images .exit) ≡ map (through (now (elements .entry))) (now (xs .entry)) ++ drop (length (now (xs .entry))) (now (images .entry)) ⌝ }
+    ensures { λ _. ⌜ now (images .exit) ≡ map (composedMaps (now (elements .entry))) (now (xs .entry)) ++ drop (length (now (xs .entry))) (now (images .entry)) ⌝ }
 {
     let mut i: usize = 0;
     while i < xs.len() {
         let x = xs[i];
-        images[i] = through(elements, Element(x)).0;
+        images[i] = composed_maps(elements, Element(x)).0;
         i += 1;
     }
 }
 
-// x before each of the maps of at most three elements, and zeros.
-pub fn before(elements: &[u64], x: Element) -> [u64; 3]
+// The image of x before each of the maps of at most three elements, and zeros.
+pub fn images_before(elements: &[u64], x: Element) -> [u64; 3]
     requires { ⌜ length (now elements) ≤ 3 ⌝ }
-    ensures { λ r. ⌜ r ≡ padded gf64 3 (before (now (elements .entry)) (x .0)) ⌝ }
+    ensures { λ r. ⌜ r ≡ padded gf64 3 (imagesBefore (now (elements .entry)) (x .0)) ⌝ }
 {
     let mut images = [0u64; 3];
     let mut t: usize = 0;
     while t < elements.len() {
-        images[t] = through(&elements[..t], x).0;
+        images[t] = composed_maps(&elements[..t], x).0;
         t += 1;
     }
     images

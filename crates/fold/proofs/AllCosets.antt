@@ -11,7 +11,7 @@ use Rattle.poly.specs.Polynomial.{padded}
 use Rattle.poly.proofs.Filling.{padded-taken}
 use Rattle.poly.proofs.Parts.{mid-suffix}
 use Rattle.coset.specs.Coset.{point, points, tabulated}
-use Rattle.coset.specs.Steps.{stepElements, before}
+use Rattle.coset.specs.Steps.{stepElements, imagesBefore}
 use Rattle.coset.proofs.Points.{length-points, map-tabulated, tabulated-agree}
 use Rattle.coset.proofs.Dependence.{point-shifted}
 use Rattle.coset.proofs.Steps.{length-before}
@@ -35,26 +35,26 @@ module _ (step offset : ℕ) (basis word : List ℕ) (x : ℕ) (w : IsWord offse
   elements = stepElements step basis
 
   value-is-entry : (j : ℕ) → j < 2 ^ (length basis - step)
-      → cosetValue (map inverse elements) (before elements x) (points 0 (take step basis)) offset (drop step basis) word j ≡ foldEntry step offset basis word x j
+      → cosetValue (map inverse elements) (imagesBefore elements x) (points 0 (take step basis)) offset (drop step basis) word j ≡ foldEntry step offset basis word x j
   unfolding cosetValue cosetEntries
   value-is-entry j h =
-      ap₂ (valueAt (map inverse elements) (before elements x)) (points-moved (point offset (drop step basis) j) (take step basis))
+      ap₂ (valueAt (map inverse elements) (imagesBefore elements x)) (points-moved (point offset (drop step basis) j) (take step basis))
       (ap (λ (m : ℕ). take m (drop (j * m) word)) (length-span step basis fits))
       ∙ entry-by-halving step offset basis word x j w hx fits h
 
-  values-are-fold : cosetValues (map inverse elements) (before elements x) (points 0 (take step basis)) offset (drop step basis) word ≡ folded step offset basis word x
+  values-are-fold : cosetValues (map inverse elements) (imagesBefore elements x) (points 0 (take step basis)) offset (drop step basis) word ≡ folded step offset basis word x
   unfolding cosetValues folded
   values-are-fold =
-      ap (λ (n : ℕ). tabulated (cosetValue (map inverse elements) (before elements x) (points 0 (take step basis)) offset (drop step basis) word) 0 (2 ^ n)) (length-drop step basis)
-      ∙ tabulated-agree (cosetValue (map inverse elements) (before elements x) (points 0 (take step basis)) offset (drop step basis) word)
+      ap (λ (n : ℕ). tabulated (cosetValue (map inverse elements) (imagesBefore elements x) (points 0 (take step basis)) offset (drop step basis) word) 0 (2 ^ n)) (length-drop step basis)
+      ∙ tabulated-agree (cosetValue (map inverse elements) (imagesBefore elements x) (points 0 (take step basis)) offset (drop step basis) word)
       (foldEntry step offset basis word x) 0 (2 ^ (length basis - step)) (λ j l u. value-is-entry j (omega arith))
 
 -- what the code has of them, in arrays with zeros behind
 pub record Ready (elements basis inverses challenges span : List ℕ) (x size : ℕ) : Type 0 where
   pub fits : length elements ≤ length basis
-  pub through : elements ≡ stepElements (length elements) basis
+  pub elements-are : elements ≡ stepElements (length elements) basis
   pub inverted : inverses ≡ padded gf64 3 (map inverse elements)
-  pub prepared : challenges ≡ padded gf64 3 (before elements x)
+  pub prepared : challenges ≡ padded gf64 3 (imagesBefore elements x)
   pub spanned : span ≡ padded gf64 8 (points 0 (take (length elements) basis))
   pub sized : size ≡ 2 ^ length elements
 
@@ -62,8 +62,8 @@ module _ (elements basis inverses challenges span : List ℕ) (x size : ℕ) (r 
   pub inverses-taken : take (length elements) inverses ≡ map inverse elements
   inverses-taken = padded-taken 3 (length elements) (map inverse elements) inverses (r .inverted) (length-map elements inverse)
 
-  pub challenges-taken : take (length elements) challenges ≡ before elements x
-  challenges-taken = padded-taken 3 (length elements) (before elements x) challenges (r .prepared) (length-before elements x)
+  pub challenges-taken : take (length elements) challenges ≡ imagesBefore elements x
+  challenges-taken = padded-taken 3 (length elements) (imagesBefore elements x) challenges (r .prepared) (length-before elements x)
 
   pub span-taken : take size span ≡ points 0 (take (length elements) basis)
   span-taken =
@@ -77,6 +77,6 @@ module _ (elements basis inverses challenges span : List ℕ) (x size : ℕ) (r 
       ≡ folded (length elements) offset basis word x
   all-cosets offset word w hx =
       ap₂ (λ (is xs : List ℕ). cosetValues is xs (take size span) offset (take (length basis - length elements) (drop (length elements) basis)) word) inverses-taken challenges-taken
-      ∙ ap₂ (λ (sp others : List ℕ). cosetValues (map inverse elements) (before elements x) sp offset others word) span-taken (mid-suffix (length elements) basis)
-      ∙ ap (λ (es : List ℕ). cosetValues (map inverse es) (before es x) (points 0 (take (length elements) basis)) offset (drop (length elements) basis) word) (r .through)
+      ∙ ap₂ (λ (sp others : List ℕ). cosetValues (map inverse elements) (imagesBefore elements x) sp offset others word) span-taken (mid-suffix (length elements) basis)
+      ∙ ap (λ (es : List ℕ). cosetValues (map inverse es) (imagesBefore es x) (points 0 (take (length elements) basis)) offset (drop (length elements) basis) word) (r .elements-are)
       ∙ values-are-fold (length elements) offset basis word x w hx (r .fits)

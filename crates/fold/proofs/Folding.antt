@@ -1,18 +1,16 @@
 -- The fold at x is the word, on the next coset, of the polynomial whose coefficients are the rows at x. Assumes nothing.
-use mathlib.Core.Path.{_≡_, refl, sym, ap, ap₂, _∙_, subst}
-use mathlib.Core.Logic.{_↔_}
+use mathlib.Core.Path.{_≡_, sym, ap, _∙_, subst}
 use mathlib.Core.List.{List, [], _∷_, map}
-use Prim.Native.Nat.{ℕ, zero, suc, _+_, _*_, _-_, _/_, _%_, _^_, _<_, _≤_}
-use native.Mathlib.Nat.{mod-lt, zero-add, suc-mul, mul-le-mul-right, le-of-eq, sub-self}
+use Prim.Native.Nat.{ℕ, _+_, _*_, _-_, _%_, _^_, _<_, _≤_}
+use native.Mathlib.Nat.{mod-lt, zero-add, suc-mul, mul-le-mul-right, le-of-eq}
 use native.Mathlib.Omega.{arith}
 use lib.Pow.{pow-pos, split}
-use lib.ListN.{length, getD, take, drop, replicate, drop-of-length-le, length-map, length-drop}
+use lib.ListN.{length, getD, take, drop, drop-of-length-le, length-map, length-drop}
 use lib.Seq.{ext-getD, getD-take, getD-drop, length-take-le}
 use Rattle.poly.proofs.Filling.{getD-map}
 use Rattle.gf64.specs.Field.{IsElement}
 use Rattle.poly.specs.Carrier.{gf64}
-use Rattle.poly.specs.Polynomial.{All, Distinct, Zeros, DegreeBelow, evaluate, interpolant, padded}
-use Rattle.poly.specs.Rows.{monic, rows}
+use Rattle.poly.specs.Polynomial.{All, Distinct, Zeros, DegreeBelow, evaluate, interpolant}
 use Rattle.poly.proofs.AtField.{gf64-laws}
 use Rattle.poly.proofs.Entries.{all-map, map-agree, map-take, map-drop}
 use Rattle.poly.proofs.Interpolation.{length-interpolant, interpolant-elements, interpolant-agrees, interpolant-unique, values-elements}
@@ -20,7 +18,7 @@ use Rattle.poly.proofs.Evaluation.{evaluate-zeros, padded-full}
 use Rattle.poly.proofs.Rows.{length-rows, rows-lengths, rows-evaluate, rows-degree, degree-of-rows}
 use Rattle.poly.proofs.Combined.{combined, length-combined, combined-elements, evaluate-combined, rows-elements, rows-values-elements}
 use Rattle.coset.specs.Coset.{point, tabulated, points}
-use Rattle.coset.specs.Subspace.{subspacePolynomial, lowerCoefficients, image, nextOffset, nextBasis}
+use Rattle.coset.specs.Subspace.{lowerCoefficients, image, nextOffset, nextBasis}
 use Rattle.coset.proofs.Points.{point-element, point-injective, points-distinct, points-elements, length-points, length-tabulated, getD-tabulated, all-tabulated, distinct-tabulated, tabulated-agree, map-tabulated, tabulated-part}
 use Rattle.coset.proofs.Subspace.{length-lowerCoefficients, lowerCoefficients-elements, subspace-monic, length-nextBasis, nextBasis-elements, nextOffset-element, next-independent, image-of-coset, image-only, cosets-of}
 use Rattle.reed_solomon.specs.Codes.{encoded, interpolated, WordDegreeBelow}

@@ -16,7 +16,7 @@ use Rattle.poly.proofs.Evaluation.{evaluate-timesLinear}
 use Rattle.poly.specs.Polynomial.{All, evaluate, dividedDifferences, interpolant}
 use Rattle.coset.specs.Coset.{point, tabulated, points}
 use Rattle.coset.specs.Subspace.{nextOffset, nextBasis, image}
-use Rattle.coset.specs.Steps.{oneStep, through, stepElements, before}
+use Rattle.coset.specs.Steps.{oneStep, composedMaps, stepElements, imagesBefore}
 use Rattle.coset.proofs.Points.{point-even, point-odd, point-image, point-element, point-parted, getD-points, length-tabulated, getD-tabulated, tabulated-agree}
 use Rattle.coset.proofs.Steps.{one-step-additive, one-step-element, length-elements, elements-of-prefix, image-through}
 use Rattle.coset.proofs.Subspace.{nextOffset-through, nextBasis-through, cosets-of}
@@ -59,15 +59,15 @@ length-one-less : (b : ℕ) (basis : List ℕ) → length (b ∷ basis) - 1 ≡ 
 length-one-less b basis = omega arith
 
 pub next-offset-one : (offset b : ℕ) (basis : List ℕ) → IsElement offset → nextOffset 1 offset (b ∷ basis) ≡ oneStep b offset
-unfolding stepElements through
+unfolding stepElements composedMaps
 next-offset-one offset b basis h = nextOffset-through 1 offset (b ∷ basis) h
 
 pub next-basis-one : (b : ℕ) (basis : List ℕ) → All IsElement (b ∷ basis) → nextBasis 1 (b ∷ basis) ≡ map (oneStep b) basis
-unfolding stepElements through
+unfolding stepElements composedMaps
 next-basis-one b basis h = nextBasis-through 1 (b ∷ basis) h
 
 image-one : (b : ℕ) (basis : List ℕ) (x : ℕ) → IsElement x → image 1 (b ∷ basis) x ≡ oneStep b x
-unfolding stepElements through
+unfolding stepElements composedMaps
 image-one b basis x h = image-through 1 (b ∷ basis) x h
 
 two-entries : (xs : List ℕ) (i : ℕ) → suc i < length xs → take 2 (drop i xs) ≡ getD xs i 0 ∷ getD xs (suc i) 0 ∷ []
@@ -139,9 +139,9 @@ unfolding interpolated points tabulated point
 value-at-one offset u x = one-point offset u x
 
 pub value-by-halving : (offset : ℕ) (basis word : List ℕ) (x n : ℕ) → length basis ≡ n → IsWord offset basis word → IsElement x
-    → valueAt (map inverse (stepElements n basis)) (before (stepElements n basis) x) (points offset basis) word
+    → valueAt (map inverse (stepElements n basis)) (imagesBefore (stepElements n basis) x) (points offset basis) word
     ≡ evaluate gf64 (interpolated offset basis word) x
-unfolding valueAt stepElements before
+unfolding valueAt stepElements imagesBefore
 value-by-halving offset [] [] x zero l w h = absurd (omega (arith, w .count))
 value-by-halving offset [] (u ∷ []) x zero l w h = sym (value-at-one offset u x)
 value-by-halving offset [] (u ∷ v ∷ word) x zero l w h = absurd (omega (arith, w .count))
@@ -159,7 +159,7 @@ value-by-halving offset (b ∷ basis) word x (suc n) l w h =
     inverses = map inverse (stepElements n (map (oneStep b) basis))
 
     challenges : List ℕ
-    challenges = before (stepElements n (map (oneStep b) basis)) (oneStep b x)
+    challenges = imagesBefore (stepElements n (map (oneStep b) basis)) (oneStep b x)
 
     count : 2 ^ length inverses ≡ 2 ^ length basis
     count =
@@ -222,11 +222,11 @@ coset-is-word step offset basis word j w fits h =
     }
 
 pub entry-by-halving : (step offset : ℕ) (basis word : List ℕ) (x j : ℕ) → IsWord offset basis word → IsElement x → step ≤ length basis → j < 2 ^ (length basis - step)
-    → valueAt (map inverse (stepElements step basis)) (before (stepElements step basis) x) (points (point offset (drop step basis) j) (take step basis)) (cosetEntries step word j)
+    → valueAt (map inverse (stepElements step basis)) (imagesBefore (stepElements step basis) x) (points (point offset (drop step basis) j) (take step basis)) (cosetEntries step word j)
     ≡ foldEntry step offset basis word x j
 unfolding foldEntry interpolated
 entry-by-halving step offset basis word x j w hx fits h =
-    ap (λ (l : List ℕ). valueAt (map inverse l) (before l x) (points first (take step basis)) (cosetEntries step word j)) (sym (elements-of-prefix step basis))
+    ap (λ (l : List ℕ). valueAt (map inverse l) (imagesBefore l x) (points first (take step basis)) (cosetEntries step word j)) (sym (elements-of-prefix step basis))
     ∙ value-by-halving first (take step basis) (cosetEntries step word j) x step (length-take-le step basis fits) (coset-is-word step offset basis word j w fits h) hx
     ∙ ap (λ (l : List ℕ). evaluate gf64 (interpolant gf64 l (cosetEntries step word j)) x) (sym (cosetPoints-are step offset basis j fits))
   where
@@ -235,9 +235,9 @@ entry-by-halving step offset basis word x j w hx fits h =
 
 pub entry-of-coset : (step offset : ℕ) (basis word : List ℕ) → IsWord offset basis word → step ≤ length basis → (x j : ℕ) → IsElement x
     → j < 2 ^ (length basis - step)
-    → valueAt (map inverse (stepElements step basis)) (before (stepElements step basis) x) (cosetPoints step offset basis j) (cosetEntries step word j)
+    → valueAt (map inverse (stepElements step basis)) (imagesBefore (stepElements step basis) x) (cosetPoints step offset basis j) (cosetEntries step word j)
     ≡ foldEntry step offset basis word x j
 entry-of-coset step offset basis word w fits x j hx h =
-    ap (λ (l : List ℕ). valueAt (map inverse (stepElements step basis)) (before (stepElements step basis) x) l (cosetEntries step word j))
+    ap (λ (l : List ℕ). valueAt (map inverse (stepElements step basis)) (imagesBefore (stepElements step basis) x) l (cosetEntries step word j))
     (cosetPoints-are step offset basis j fits)
     ∙ entry-by-halving step offset basis word x j w hx fits h

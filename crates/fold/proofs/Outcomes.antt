@@ -11,7 +11,7 @@ use borrow.Author.Tests.{le-leb, lt-leb, eq-eqb, ne-eqb}
 use Rattle.gf64.specs.Field.{IsElement}
 use Rattle.poly.specs.Polynomial.{All}
 use Rattle.refusal.specs.declared.Cause.{Cause}
-use Rattle.refusal.specs.declared.Cause.the-variants.{DimensionOutOfRange, StepOutOfRange, DimensionTooSmall, WrongLength, BasisDependent, LaterBasisDependent}
+use Rattle.refusal.specs.declared.Cause.the-variants.{DimensionOutOfRange, StepOutOfRange, DimensionTooSmall, WrongLength, BasisDependent}
 use Rattle.refusal.specs.declared.Outcome.{Outcome}
 use Rattle.refusal.specs.declared.Outcome.the-variants.{Done, Refused}
 use Rattle.refusal.specs.declared.Position.{Position}
@@ -92,11 +92,11 @@ refuses : (k step : ℕ) (basis word values next : List ℕ) (cause : Cause) →
 refuses k step basis word values next cause e offset x =
     subst
     (λ (o : Outcome).
-        (numberOfFolded (answerOf o (nextOffset step offset basis)) ≡ numberOf cause)
-        × (placeOfFolded (answerOf o (nextOffset step offset basis)) ≡ placeOf cause)
-        × (roundOfFolded (answerOf o (nextOffset step offset basis)) ≡ roundOf cause)
-        × (afterwards o (folded step offset basis word x) values ≡ values)
-        × (afterwards o (nextBasis step basis) next ≡ next))
+    (numberOfFolded (answerOf o (nextOffset step offset basis)) ≡ numberOf cause)
+    × (placeOfFolded (answerOf o (nextOffset step offset basis)) ≡ placeOf cause)
+    × (roundOfFolded (answerOf o (nextOffset step offset basis)) ≡ roundOf cause)
+    × (afterwards o (folded step offset basis word x) values ≡ values)
+    × (afterwards o (nextBasis step basis) next ≡ next))
     e (refl, refl, refl, refl, refl)
 
 answers-done : (k step offset : ℕ) (basis word : List ℕ) (x : ℕ) (values next : List ℕ) → foldOutcome k step basis word values next ≡ Done

@@ -9,7 +9,7 @@ use Rattle.fold.specs.Fold.{folded}
 
 -- x lies in the exceptional set of a layer of 2^m values over its coset, m the length of the basis:
 -- the set is empty where the layer has degree below 2^(m - rate), and otherwise has all elements at which the layer's fold has degree below
--- 2^(m - rate - step)
+-- 2^(m - rate - step); it is meant for rate + step at most m
 abbrev pub Exceptional : ℕ → ℕ → ℕ → List ℕ → List ℕ → ℕ → Type 0
 Exceptional rate step offset basis layer x =
     IsElement x

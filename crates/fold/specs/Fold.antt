@@ -1,5 +1,5 @@
 -- The fold of a word over a coset, with a step and at a challenge. The dimension k is the length of the basis.
-use mathlib.Core.List.{List, map}
+use mathlib.Core.List.{List}
 use Prim.Native.Nat.{ℕ, _*_, _-_, _^_}
 use lib.ListN.{length, take, drop}
 use Rattle.poly.specs.Carrier.{gf64}
@@ -14,7 +14,8 @@ cosetPoints step offset basis j = tabulated (point offset basis) (j * 2 ^ step) 
 unfoldable pub cosetEntries : ℕ → List ℕ → ℕ → List ℕ
 cosetEntries step word j = take (2 ^ step) (drop (j * 2 ^ step) word)
 
--- entry j of the fold at x: the value at x of the one polynomial of degree below 2^step that agrees with the word at the points of coset j
+-- entry j of the fold at x: the value at x of the one polynomial of degree below 2^step that agrees with the word at the points of coset j, where
+-- the basis is independent; by `NextCosets` these are the points that q sends to point j of the next coset
 unfoldable pub foldEntry : ℕ → ℕ → List ℕ → List ℕ → ℕ → ℕ → ℕ
 foldEntry step offset basis word x j =
     evaluate gf64 (interpolant gf64 (cosetPoints step offset basis j) (cosetEntries step word j)) x

@@ -19,19 +19,19 @@ unfoldable pub halvedEntries : ℕ → ℕ → ℕ → List ℕ → List ℕ →
 halvedEntries inverse x count points entries =
     tabulated (λ i. lineAt inverse x (getD points (i * 2) 0) (getD entries (i * 2) 0) (getD entries (suc (i * 2)) 0)) 0 count
 
--- halved once for each inverse, at the challenge of the same place
+-- halved once for each inverse, at the image of the challenge with the same place
 unfoldable pub valueAt : List ℕ → List ℕ → List ℕ → List ℕ → ℕ
-valueAt [] challenges points entries = getD entries 0 0
+valueAt [] images points entries = getD entries 0 0
 valueAt (inverse ∷ inverses) [] points entries = 0
-valueAt (inverse ∷ inverses) (x ∷ challenges) points entries =
+valueAt (inverse ∷ inverses) (x ∷ images) points entries =
     let count = 2 ^ length inverses in
-    valueAt inverses challenges (halvedPoints count points) (halvedEntries inverse x count points entries)
+    valueAt inverses images (halvedPoints count points) (halvedEntries inverse x count points entries)
 
--- the values of the cosets one after the other: coset j has point j of the others for its first point, and the next entries of the word
+-- the value of coset j: its points are point j over the upper basis plus the span, its entries the next ones of the word
 unfoldable pub cosetValue : List ℕ → List ℕ → List ℕ → ℕ → List ℕ → List ℕ → ℕ → ℕ
-cosetValue inverses challenges span offset others word j =
-    valueAt inverses challenges (map (sum (point offset others j)) span) (take (length span) (drop (j * length span) word))
+cosetValue inverses images span offset upper word j =
+    valueAt inverses images (map (sum (point offset upper j)) span) (take (length span) (drop (j * length span) word))
 
+-- the values of all cosets
 unfoldable pub cosetValues : List ℕ → List ℕ → List ℕ → ℕ → List ℕ → List ℕ → List ℕ
-cosetValues inverses challenges span offset others word =
-    tabulated (cosetValue inverses challenges span offset others word) 0 (2 ^ length others)
+cosetValues inverses images span offset upper word = tabulated (cosetValue inverses images span offset upper word) 0 (2 ^ length upper)

@@ -8,7 +8,8 @@ use Rattle.poly.specs.Rows.{rows}
 use Rattle.coset.specs.Subspace.{lowerCoefficients}
 use Rattle.reed_solomon.specs.Codes.{interpolated}
 
--- the rows of the word's interpolant P by the subspace polynomial q: P = Σ row_i · q^i, each row of 2^step coefficients
+-- the rows of the word's interpolant P by the subspace polynomial q: P = Σ row_i · q^i, each row of 2^step coefficients, for a step of at most
+-- the dimension
 unfoldable pub wordRows : ℕ → ℕ → List ℕ → List ℕ → List (List ℕ)
 wordRows step offset basis word =
     rows gf64 (lowerCoefficients step basis) (2 ^ (length basis - step)) (interpolated offset basis word)

@@ -13,7 +13,7 @@ use Rattle.poly.specs.Polynomial.{All, Distinct, Zeros, evaluate, interpolant}
 use Rattle.coset.specs.Coset.{point}
 use Rattle.coset.specs.Span.{firstDependent, Independent}
 use Rattle.coset.specs.Subspace.{image, nextOffset, nextBasis}
-use Rattle.coset.specs.Steps.{stepElements, before}
+use Rattle.coset.specs.Steps.{stepElements, imagesBefore}
 use Rattle.reed_solomon.specs.Codes.{encoded, interpolated, WordDegreeBelow}
 use Rattle.fold.specs.declared.Folded.the-variants.{NextOffset}
 use Rattle.fold.specs.Fold.{cosetPoints, cosetEntries, foldEntry, folded}
@@ -72,7 +72,7 @@ pub record ExceptionalSets : Type 0 where
 pub record Halvings : Type 0 where
   pub entry : (step offset : ℕ) (basis word : List ℕ) → IsWord offset basis word → step ≤ length basis → (x j : ℕ) → IsElement x
       → j < 2 ^ (length basis - step)
-      → valueAt (map inverse (stepElements step basis)) (before (stepElements step basis) x) (cosetPoints step offset basis j) (cosetEntries step word j)
+      → valueAt (map inverse (stepElements step basis)) (imagesBefore (stepElements step basis) x) (cosetPoints step offset basis j) (cosetEntries step word j)
       ≡ foldEntry step offset basis word x j
 
 -- cases D, F, J and K of Table A, as far as they speak of one fold at a time

@@ -1,5 +1,5 @@
-// A coset of the fold, and the value of its interpolant at a challenge by halving: two neighbours have a line, whose value at the challenge
-// is an entry of the half.
+// A coset of the fold, and the value of its interpolant at a challenge. It is found by halving the coset: points 2 i and 2 i + 1 become one
+// point, and their entries the value at the challenge of the line through the two.
 use field::Element;
 ghost use mathlib.Core.Path.{_≡_};
 ghost use mathlib.Core.List.{map};
@@ -10,7 +10,7 @@ ghost use Rattle.poly.specs.Carrier.{gf64};
 ghost use Rattle.poly.specs.Polynomial.{padded};
 ghost use Rattle.fold.specs.Halving.{lineAt, halvedPoints, halvedEntries, valueAt};
 
-// Two, four or eight points with the word's entries there; behind the count are zeros.
+// Two, four or eight points, or one in the end, with the entries there; behind the count are zeros.
 pub struct Coset {
     pub points: [u64; 8],
     pub entries: [u64; 8],
@@ -18,7 +18,7 @@ pub struct Coset {
 }
 
 impl Coset {
-    // The coset with the first point given, whose other points differ from it by the span, and the word's entries at them.
+    // Point i is the first point plus entry i of the span, its entry that of the word.
     pub fn read(span: &[u64], first: Element, word: &[u64]) -> Coset
         requires { ⌜ (length (now span) ≤ 8) × (length (now word) ≡ length (now span)) ⌝ }
         ensures { λ r. ⌜ r ≡ record { points = padded gf64 8 (map (sum (first .0)) (now (span .entry))); entries = padded gf64 8 (now (word .entry)); count = length (now (span .entry)) } ⌝ }
@@ -38,20 +38,21 @@ impl Coset {
         }
     }
 
-    // The value at the challenge of the polynomial with these entries at these points. There is an inverse and a challenge for each halving.
-    pub fn value_at(self, inverses: &[u64], challenges: &[u64]) -> Element
-        requires { ⌜ (1 ≤ length (now inverses)) × (length (now inverses) ≤ 3) × (length (now challenges) ≡ length (now inverses))
+    // The value at the challenge of the polynomial with these entries at these points, where the inverses are those of the elements e of the
+    // step's maps X · (X - e) and the images those of the challenge before each map (`Halvings.entry`).
+    pub fn value_at(self, inverses: &[u64], images: &[u64]) -> Element
+        requires { ⌜ (1 ≤ length (now inverses)) × (length (now inverses) ≤ 3) × (length (now images) ≡ length (now inverses))
             × (self .count ≡ 2 ^ length (now inverses)) ⌝ }
-        ensures { λ r. ⌜ r .0 ≡ valueAt (now (inverses .entry)) (now (challenges .entry)) (self .points) (self .entries) ⌝ }
+        ensures { λ r. ⌜ r .0 ≡ valueAt (now (inverses .entry)) (now (images .entry)) (self .points) (self .entries) ⌝ }
     {
         let last = inverses.len() - 1;
         let mut coset = self;
         let mut t: usize = 0;
         while t < last {
-            coset = coset.halved(Element(inverses[t]), Element(challenges[t]));
+            coset = coset.halved(Element(inverses[t]), Element(images[t]));
             t += 1;
         }
-        coset.line(0, Element(inverses[last]), Element(challenges[last]))
+        coset.line(0, Element(inverses[last]), Element(images[last]))
     }
 
     // One entry for each two neighbours, at their images under X · (X - e), where e is the difference of the two.

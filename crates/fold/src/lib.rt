@@ -20,7 +20,7 @@ ghost use Rattle.coset.specs.Subspace.{nextOffset, nextBasis};
 ghost use Rattle.coset.specs.Steps.{stepElements};
 ghost use Rattle.fold.specs.Fold.{folded};
 ghost use Rattle.fold.specs.Halving.{cosetValues};
-ghost use Rattle.fold.specs.Answers.{rangesOutcome, lengthsOutcome, outcomeOfNextBasis, basesOutcome, foldOutcome, foldAnswer, foldValuesAfter, nextBasisAfter};
+ghost use Rattle.fold.specs.Answers.{rangesOutcome, lengthsOutcome, outcomeOfNextBasis, basesOutcome, foldAnswer, foldValuesAfter, nextBasisAfter};
 
 // What a fold answers.
 pub enum Folded {
@@ -29,8 +29,9 @@ pub enum Folded {
 }
 
 // The fold of a word at the challenge, with the step, into `values`; the basis of the next coset into `next_basis`; its offset as the
-// answer. Refused, in this order: k outside 2..20 (4); a step outside 1..3 (6); k below the step (7); a list of another length than its
-// own, the lowest of 1, 3, 6 and 7 (13); a dependent basis (8); a dependent next basis (16). A refusal leaves both lists as they were.
+// answer. Refused, in this order: k outside 2..20 (4); a step outside 1..3 (6); k below the step (7); a list whose length is not the one
+// due, the lowest of 1, 3, 6 and 7 (13); a dependent basis (8); a dependent next basis (16), which no basis has that comes so far. A
+// refusal leaves both lists as they were.
 pub fn fold(
     k: usize,
     step: usize,
@@ -43,7 +44,7 @@ pub fn fold(
 ) -> Folded
     ensures answer { λ r. ⌜ r ≡ foldAnswer k step (offset .0) (now (basis .entry)) (now (word .entry)) (now (values .entry)) (now («next_basis» .entry)) ⌝ }
     ensures output { λ _. ⌜ now (values .exit) ≡ foldValuesAfter k step (offset .0) (now (basis .entry)) (now (word .entry)) (challenge .0) (now (values .entry)) (now («next_basis» .entry)) ⌝ }
-    ensures basis { λ _. ⌜ now («next_basis» .exit) ≡ nextBasisAfter k step (now (basis .entry)) (now (word .entry)) (now (values .entry)) (now («next_basis» .entry)) ⌝ }
+    ensures next { λ _. ⌜ now («next_basis» .exit) ≡ nextBasisAfter k step (now (basis .entry)) (now (word .entry)) (now (values .entry)) (now («next_basis» .entry)) ⌝ }
 {
     let outcome = checked(k, step, basis, word.len(), values.len(), next_basis.len());
     match outcome {
@@ -75,21 +76,28 @@ fn fold_checked(
         × (length (now next) ≡ length (now basis) - step) ⌝ }
     ensures answer { λ r. ⌜ r .0 ≡ nextOffset step (offset .0) (now (basis .entry)) ⌝ }
     ensures output { λ _. ⌜ now (values .exit) ≡ folded step (offset .0) (now (basis .entry)) (now (word .entry)) (challenge .0) ⌝ }
-    ensures basis { λ _. ⌜ now (next .exit) ≡ nextBasis step (now (basis .entry)) ⌝ }
+    ensures next { λ _. ⌜ now (next .exit) ≡ nextBasis step (now (basis .entry)) ⌝ }
 {
     let elements = coset::step_elements(basis, step);
     fill_values(&elements[..step], offset, basis, word, challenge, values);
-    coset::fill_through(&elements[..step], &basis[step..], next);
-    coset::through(&elements[..step], offset)
+    coset::fill_images(&elements[..step], &basis[step..], next);
+    coset::composed_maps(&elements[..step], offset)
 }
 
-fn checked(k: usize, step: usize, basis: &[u64], word: usize, values: usize, next: usize) -> Outcome
-    ensures { λ r. ⌜ r ≡ andThen (rangesOutcome k step) (andThen (lengthsOutcome k step (length (now (basis .entry))) word values next) (basesOutcome step (now (basis .entry)))) ⌝ }
+fn checked(
+    k: usize,
+    step: usize,
+    basis: &[u64],
+    length3: usize,
+    length6: usize,
+    length7: usize,
+) -> Outcome
+    ensures { λ r. ⌜ r ≡ andThen (rangesOutcome k step) (andThen (lengthsOutcome k step (length (now (basis .entry))) length3 length6 length7) (basesOutcome step (now (basis .entry)))) ⌝ }
 {
     let ranges = checked_ranges(k, step);
     match ranges {
         Outcome::Done => {
-            let lengths = checked_lengths(k, step, basis.len(), word, values, next);
+            let lengths = checked_lengths(k, step, basis.len(), length3, length6, length7);
             match lengths {
                 Outcome::Done => checked_bases(step, basis),
                 Outcome::Refused(cause) => Outcome::Refused(cause),
@@ -117,24 +125,24 @@ fn checked_ranges(k: usize, step: usize) -> Outcome
 fn checked_lengths(
     k: usize,
     step: usize,
-    basis: usize,
-    word: usize,
-    values: usize,
-    next: usize,
+    length1: usize,
+    length3: usize,
+    length6: usize,
+    length7: usize,
 ) -> Outcome
     requires { ⌜ (k ≤ 20) × (step ≤ k) ⌝ }
-    ensures { λ r. ⌜ r ≡ lengthsOutcome k step basis word values next ⌝ }
+    ensures { λ r. ⌜ r ≡ lengthsOutcome k step length1 length3 length6 length7 ⌝ }
 {
-    if basis != k {
+    if length1 != k {
         return Outcome::Refused(Cause::WrongLength { list: 1 });
     }
-    if word != 1 << k {
+    if length3 != 1 << k {
         return Outcome::Refused(Cause::WrongLength { list: 3 });
     }
-    if values != 1 << (k - step) {
+    if length6 != 1 << (k - step) {
         return Outcome::Refused(Cause::WrongLength { list: 6 });
     }
-    if next != k - step {
+    if length7 != k - step {
         return Outcome::Refused(Cause::WrongLength { list: 7 });
     }
     Outcome::Done
@@ -151,7 +159,7 @@ fn checked_bases(step: usize, basis: &[u64]) -> Outcome
     }
 }
 
-// No independent basis is refused here.
+// Refuses a dependent next basis (16). No independent basis has one.
 fn checked_next_basis(step: usize, basis: &[u64]) -> Outcome
     requires { ⌜ (step ≤ 3) × (step ≤ length (now basis)) × (length (now basis) ≤ 20) ⌝ }
     ensures { λ r. ⌜ r ≡ outcomeOfNextBasis (firstDependent (nextBasis step (now (basis .entry)))) ⌝ }
@@ -159,7 +167,7 @@ fn checked_next_basis(step: usize, basis: &[u64]) -> Outcome
     let count = basis.len() - step;
     let elements = coset::step_elements(basis, step);
     let mut next = [0u64; 20];
-    coset::fill_through(&elements[..step], &basis[step..], &mut next);
+    coset::fill_images(&elements[..step], &basis[step..], &mut next);
     let dependent = coset::first_dependent(&next[..count]);
     match dependent {
         Position::At(_) => Outcome::Refused(Cause::LaterBasisDependent { round: 0 }),
@@ -167,7 +175,8 @@ fn checked_next_basis(step: usize, basis: &[u64]) -> Outcome
     }
 }
 
-// The fold. The elements are those that the subspace polynomial of the step goes through; what they need for every coset is got once.
+// Fills in the fold. The elements e are those of the maps X · (X - e) whose composition is the subspace polynomial; inverses, span and the
+// images of the challenge are computed once, before the cosets.
 fn fill_values(
     elements: &[u64],
     offset: Element,
@@ -184,11 +193,11 @@ fn fill_values(
     let step = elements.len();
     let size = 1 << step;
     let inverses = inverses_of(elements);
-    let challenges = coset::before(elements, challenge);
+    let images = coset::images_before(elements, challenge);
     let span = span_of(&basis[..step]);
     fill_cosets(
         &inverses[..step],
-        &challenges[..step],
+        &images[..step],
         &span[..size],
         offset,
         &basis[step..],
@@ -197,34 +206,34 @@ fn fill_values(
     );
 }
 
-// One value for each coset.
+// One value for each coset. The upper basis is that from the step's place on, over which the cosets' first points go.
 fn fill_cosets(
     inverses: &[u64],
-    challenges: &[u64],
+    images: &[u64],
     span: &[u64],
     offset: Element,
-    others: &[u64],
+    upper: &[u64],
     word: &[u64],
     values: &mut [u64],
 )
-    requires { ⌜ (1 ≤ length (now inverses)) × (length (now inverses) ≤ 3) × (length (now challenges) ≡ length (now inverses))
-        × (length (now span) ≡ 2 ^ length (now inverses)) × (length (now others) ≤ 20) × (length (now values) ≡ 2 ^ length (now others))
+    requires { ⌜ (1 ≤ length (now inverses)) × (length (now inverses) ≤ 3) × (length (now images) ≡ length (now inverses))
+        × (length (now span) ≡ 2 ^ length (now inverses)) × (length (now upper) ≤ 20) × (length (now values) ≡ 2 ^ length (now upper))
         × (length (now word) ≡ length (now values) * length (now span)) ⌝ }
-    ensures { λ _. ⌜ now (values .exit) ≡ cosetValues (now (inverses .entry)) (now (challenges .entry)) (now (span .entry)) (offset .0) (now (others .entry)) (now (word .entry)) ⌝ }
+    ensures { λ _. ⌜ now (values .exit) ≡ cosetValues (now (inverses .entry)) (now (images .entry)) (now (span .entry)) (offset .0) (now (upper .entry)) (now (word .entry)) ⌝ }
 {
-    let sums = coset::prefix_sums(others);
+    let sums = coset::prefix_sums(upper);
     let mut first = offset;
     let mut j: usize = 0;
     while j < values.len() {
         let start = j * span.len();
         let coset = Coset::read(span, first, &word[start..start + span.len()]);
-        values[j] = coset.value_at(inverses, challenges).0;
+        values[j] = coset.value_at(inverses, images).0;
         j += 1;
         first = coset::stepped(&sums, first, j);
     }
 }
 
-// The inverses of at most three elements, and zeros: all that a fold inverts, whatever the number of cosets.
+// The inverses of at most three elements, and zeros.
 fn inverses_of(elements: &[u64]) -> [u64; 3]
     requires { ⌜ length (now elements) ≤ 3 ⌝ }
     ensures { λ r. ⌜ r ≡ padded gf64 3 (map inverse (now (elements .entry))) ⌝ }

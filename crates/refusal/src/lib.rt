@@ -36,7 +36,7 @@ pub enum Cause {
     InputTooLong,
     // 15: the inverse of zero
     InverseOfZero,
-    // 16: a later layer's basis is dependent
+    // 16: a later layer's basis is dependent; the round whose fold gives that layer
     LaterBasisDependent { round: usize },
 }
 

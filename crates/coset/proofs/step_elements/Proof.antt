@@ -7,7 +7,7 @@ use lib.Seq.{length-take-le}
 use Rattle.poly.specs.Carrier.{gf64}
 use Rattle.poly.specs.Polynomial.{padded}
 use Rattle.poly.proofs.Filling.{filled, filled-start, padded-next, filled-padded, take-filled}
-use Rattle.coset.specs.Steps.{through, stepElements}
+use Rattle.coset.specs.Steps.{composedMaps, stepElements}
 use Rattle.coset.proofs.Steps.{length-elements, element-at}
 use borrow.Author.Needs.{needs}
 use native.Mathlib.Omega.{arith}
@@ -34,11 +34,11 @@ shared-slice-read-b c = search needs
 array-share-prefix-elements : tie.Need-array-share-prefix-elements Inv-loop μ-loop
 array-share-prefix-elements c = omega (arith, c .before .before .loop .inv .2)
 
-slice-aggregate-through : tie.Need-slice-aggregate-through Inv-loop μ-loop
-slice-aggregate-through c = sym (length-take-le (c .before .before .before .loop .t) (c .before .before .before .loop .elements) (omega (arith, c .before .before .before .loop .inv .2)))
+slice-aggregate-composed-maps : tie.Need-slice-aggregate-composed-maps Inv-loop μ-loop
+slice-aggregate-composed-maps c = sym (length-take-le (c .before .before .before .loop .t) (c .before .before .before .loop .elements) (omega (arith, c .before .before .before .loop .inv .2)))
 
-through-requires : tie.Need-through-requires Inv-loop μ-loop
-through-requires c κs = search needs
+composed-maps-requires : tie.Need-composed-maps-requires Inv-loop μ-loop
+composed-maps-requires c κs = search needs
 
 mul-elements : tie.Need-mul-elements Inv-loop μ-loop
 mul-elements c = search needs
@@ -58,13 +58,13 @@ loop-again c =
     let step = start .args .step in
     let basis = start .args .basis .now in
     let l = c .before .before .before .before .loop in
-    let element = c .through .result .0 in
+    let element = c .composed-maps .result .0 in
     let count = length-elements step basis (start .pre .1) in (
       search needs,
       ap (λ (held : List ℕ). set held (l .t) element) (l .inv .1)
           ∙ padded-next 3 (stepElements step basis) (l .t) element (omega (arith, count)) (omega (arith, count, start .pre .0))
-          (c .through .ensures
-          ∙ ap (λ (held : List ℕ). through held (getD basis (l .t) 0))
+          (c .composed-maps .ensures
+          ∙ ap (λ (held : List ℕ). composedMaps held (getD basis (l .t) 0))
           (ap (take (l .t)) (l .inv .1) ∙ take-filled 3 (stepElements step basis) (l .t) (omega (arith, count)) (omega (arith, count, start .pre .0)))
           ∙ element-at step basis (l .t) (omega arith) (start .pre .1)),
       length-set (l .elements) (l .t) element ∙ l .inv .2,
@@ -89,8 +89,8 @@ step-elements-spec =
     mul-b
     shared-slice-read-b
     array-share-prefix-elements
-    slice-aggregate-through
-    through-requires
+    slice-aggregate-composed-maps
+    composed-maps-requires
     mul-elements
     array-write-elements
     add-t

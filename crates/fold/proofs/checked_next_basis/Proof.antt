@@ -22,29 +22,29 @@ step-elements-requires c κs = search needs
 array-share-prefix-elements : tie.Need-array-share-prefix-elements
 array-share-prefix-elements c = search needs
 
-slice-aggregate-fill-through : tie.Need-slice-aggregate-fill-through
-slice-aggregate-fill-through c =
+slice-aggregate-fill-images : tie.Need-slice-aggregate-fill-images
+slice-aggregate-fill-images c =
     let start = c .before .before .before in
     let three : length (c .before .step-elements .result) ≡ 3 = search needs in
     sym (length-take-le (start .args .step) (c .before .step-elements .result) (omega (arith, three, start .pre .0)))
 
-mul-fill-through : tie.Need-mul-fill-through
-mul-fill-through c = search needs
+mul-fill-images : tie.Need-mul-fill-images
+mul-fill-images c = search needs
 
-sub-fill-through : tie.Need-sub-fill-through
-sub-fill-through c = search needs
+sub-fill-images : tie.Need-sub-fill-images
+sub-fill-images c = search needs
 
-part-fill-through-start : tie.Need-part-fill-through-start
-part-fill-through-start c = search needs
+part-fill-images-start : tie.Need-part-fill-images-start
+part-fill-images-start c = search needs
 
-part-fill-through-end : tie.Need-part-fill-through-end
-part-fill-through-end c = search needs
+part-fill-images-end : tie.Need-part-fill-images-end
+part-fill-images-end c = search needs
 
-slice-aggregate-fill-through-2 : tie.Need-slice-aggregate-fill-through-2
-slice-aggregate-fill-through-2 c = search needs
+slice-aggregate-fill-images-2 : tie.Need-slice-aggregate-fill-images-2
+slice-aggregate-fill-images-2 c = search needs
 
-fill-through-requires : tie.Need-fill-through-requires
-fill-through-requires c κs =
+fill-images-requires : tie.Need-fill-images-requires
+fill-images-requires c κs =
     let start = c .before .before .before .before .before in
     let basis = start .args .basis .now in
     omega (arith, start .pre .2, length-take-le (length basis - start .args .step) (drop (start .args .step) basis) (omega (arith, length-drop (start .args .step) basis)))
@@ -59,8 +59,8 @@ slice-aggregate-first-dependent c =
     let step = start .args .step in
     sym
     (ap length
-    (next-taken step basis (c .before .before .before .before .before .before .step-elements .result) (replicate 20 0) (c .before .before .fill-through .last .1 .1 .0)
-    (all-elements basis (λ i. omega (arith, c .before .before .before .before .before .before .before .shared-slice-known .given i))) (start .pre .1) (c .before .before .before .before .before .before .step-elements .ensures) (c .before .before .fill-through .ensures))
+    (next-taken step basis (c .before .before .before .before .before .before .step-elements .result) (replicate 20 0) (c .before .before .fill-images .last .1 .1 .0)
+    (all-elements basis (λ i. omega (arith, c .before .before .before .before .before .before .before .shared-slice-known .given i))) (start .pre .1) (c .before .before .before .before .before .before .step-elements .ensures) (c .before .before .fill-images .ensures))
     ∙ length-nextBasis step basis)
 
 first-dependent-requires : tie.Need-first-dependent-requires
@@ -77,8 +77,8 @@ returns c =
     let start = c .before .before .before .before .before .before .before .before .before .before .before in
     let basis = start .args .basis .now in
     let step = start .args .step in
-    let next = next-taken step basis (c .before .before .before .before .before .before .before .before .before .step-elements .result) (replicate 20 0) (c .before .before .before .before .before .fill-through .last .1 .1 .0)
-    (all-elements basis (λ i. omega (arith, c .before .before .before .before .before .before .before .before .before .before .shared-slice-known .given i))) (start .pre .1) (c .before .before .before .before .before .before .before .before .before .step-elements .ensures) (c .before .before .before .before .before .fill-through .ensures) in
+    let next = next-taken step basis (c .before .before .before .before .before .before .before .before .before .step-elements .result) (replicate 20 0) (c .before .before .before .before .before .fill-images .last .1 .1 .0)
+    (all-elements basis (λ i. omega (arith, c .before .before .before .before .before .before .before .before .before .before .shared-slice-known .given i))) (start .pre .1) (c .before .before .before .before .before .before .before .before .before .step-elements .ensures) (c .before .before .before .before .before .fill-images .ensures) in
     ap outcomeOfNextBasis (sym (c .enum-told .given .1) ∙ c .before .before .first-dependent .ensures ∙ ap firstDependent next)
 
 returns-2 : tie.Need-returns-2
@@ -86,8 +86,8 @@ returns-2 c =
     let start = c .before .before .before .before .before .before .before .before .before .before .before in
     let basis = start .args .basis .now in
     let step = start .args .step in
-    let next = next-taken step basis (c .before .before .before .before .before .before .before .before .before .step-elements .result) (replicate 20 0) (c .before .before .before .before .before .fill-through .last .1 .1 .0)
-    (all-elements basis (λ i. omega (arith, c .before .before .before .before .before .before .before .before .before .before .shared-slice-known .given i))) (start .pre .1) (c .before .before .before .before .before .before .before .before .before .step-elements .ensures) (c .before .before .before .before .before .fill-through .ensures) in
+    let next = next-taken step basis (c .before .before .before .before .before .before .before .before .before .step-elements .result) (replicate 20 0) (c .before .before .before .before .before .fill-images .last .1 .1 .0)
+    (all-elements basis (λ i. omega (arith, c .before .before .before .before .before .before .before .before .before .before .shared-slice-known .given i))) (start .pre .1) (c .before .before .before .before .before .before .before .before .before .step-elements .ensures) (c .before .before .before .before .before .fill-images .ensures) in
     let absent : c .before .before .first-dependent .result ≡ Absent = search needs in
     ap outcomeOfNextBasis (sym absent ∙ c .before .before .first-dependent .ensures ∙ ap firstDependent next)
 
@@ -98,13 +98,13 @@ checked-next-basis-spec =
     sub-count
     step-elements-requires
     array-share-prefix-elements
-    slice-aggregate-fill-through
-    mul-fill-through
-    sub-fill-through
-    part-fill-through-start
-    part-fill-through-end
-    slice-aggregate-fill-through-2
-    fill-through-requires
+    slice-aggregate-fill-images
+    mul-fill-images
+    sub-fill-images
+    part-fill-images-start
+    part-fill-images-end
+    slice-aggregate-fill-images-2
+    fill-images-requires
     array-share-prefix-next
     slice-aggregate-first-dependent
     first-dependent-requires

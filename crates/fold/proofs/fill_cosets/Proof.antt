@@ -1,5 +1,5 @@
--- `fold::fill_cosets` meets its contract. The loop's invariant: j values are filled in, the others as they were, and first is point j of the
--- others. Assumes nothing.
+-- `fold::fill_cosets` meets its contract. The loop's invariant: j values are filled in, the others as they were, and first is point j over the
+-- upper basis. Assumes nothing.
 use mathlib.Core.Path.{_≡_, refl, sym, ap, _∙_}
 use mathlib.Core.List.{List}
 use Prim.Native.Nat.{ℕ, _+_, _*_, _-_, _≤_, _<_}
@@ -27,12 +27,12 @@ length-part m n word h =
     ap (λ (k : ℕ). length (take k (drop n word))) (back n m) ∙ length-take-le m (drop n word) (omega (arith, length-drop n word))
 
 abbrev Inv-loop : tie.InvT-loop
-Inv-loop inverses challenges span others word values₀ sums first₀ j₀ values first j =
-    (j ≤ length values₀) × (values ≡ filled (cosetValues inverses challenges span (first₀ .0) others word) values₀ j) × (length values ≡ length values₀)
-    × (j < length values₀ → first .0 ≡ point (first₀ .0) others j)
+Inv-loop inverses images span upper word values₀ sums first₀ j₀ values first j =
+    (j ≤ length values₀) × (values ≡ filled (cosetValues inverses images span (first₀ .0) upper word) values₀ j) × (length values ≡ length values₀)
+    × (j < length values₀ → first .0 ≡ point (first₀ .0) upper j)
 
 abbrev μ-loop : tie.MeasureT-loop
-μ-loop inverses challenges span others word values₀ sums first₀ j₀ values first j = length values₀ - j
+μ-loop inverses images span upper word values₀ sums first₀ j₀ values first j = length values₀ - j
 
 prefix-sums-requires : tie.Need-prefix-sums-requires Inv-loop μ-loop
 prefix-sums-requires c κs = search needs
@@ -41,9 +41,9 @@ loop-holds : tie.Need-loop-holds Inv-loop μ-loop
 loop-holds c =
     let a = c .before .before .before .before .before .before .before .args in (
       search needs,
-      filled-start (cosetValues (a .inverses .now) (a .challenges .now) (a .span .now) (a .offset .0) (a .others .now) (a .word .now)) (a .values .now),
+      filled-start (cosetValues (a .inverses .now) (a .images .now) (a .span .now) (a .offset .0) (a .upper .now) (a .word .now)) (a .values .now),
       refl,
-      λ h. sym (point-first (a .offset .0) (a .others .now)),
+      λ h. sym (point-first (a .offset .0) (a .upper .now)),
     )
 
 mul-start : tie.Need-mul-start Inv-loop μ-loop
@@ -52,7 +52,7 @@ mul-start c =
     let a = start .args in
     let l = c .before .loop in
     let inside : l .j < length (a .values .now) = omega (arith, l .inv .2) in
-    let part = part-of (l .j) (length (a .span .now)) (length (a .values .now)) (length (a .inverses .now)) (length (a .others .now)) (length (a .word .now)) inside (start .pre .5) (start .pre .4) (start .pre .3) (start .pre .1) (start .pre .6) in
+    let part = part-of (l .j) (length (a .span .now)) (length (a .values .now)) (length (a .inverses .now)) (length (a .upper .now)) (length (a .word .now)) inside (start .pre .5) (start .pre .4) (start .pre .3) (start .pre .1) (start .pre .6) in
     omega (arith, part .small)
 
 add-read : tie.Need-add-read Inv-loop μ-loop
@@ -61,7 +61,7 @@ add-read c =
     let a = start .args in
     let l = c .before .loop in
     let inside : l .j < length (a .values .now) = omega (arith, l .inv .2) in
-    let part = part-of (l .j) (length (a .span .now)) (length (a .values .now)) (length (a .inverses .now)) (length (a .others .now)) (length (a .word .now)) inside (start .pre .5) (start .pre .4) (start .pre .3) (start .pre .1) (start .pre .6) in
+    let part = part-of (l .j) (length (a .span .now)) (length (a .values .now)) (length (a .inverses .now)) (length (a .upper .now)) (length (a .word .now)) inside (start .pre .5) (start .pre .4) (start .pre .3) (start .pre .1) (start .pre .6) in
     omega (arith, part .small)
 
 mul-read : tie.Need-mul-read Inv-loop μ-loop
@@ -70,7 +70,7 @@ mul-read c =
     let a = start .args in
     let l = c .before .loop in
     let inside : l .j < length (a .values .now) = omega (arith, l .inv .2) in
-    let part = part-of (l .j) (length (a .span .now)) (length (a .values .now)) (length (a .inverses .now)) (length (a .others .now)) (length (a .word .now)) inside (start .pre .5) (start .pre .4) (start .pre .3) (start .pre .1) (start .pre .6) in
+    let part = part-of (l .j) (length (a .span .now)) (length (a .values .now)) (length (a .inverses .now)) (length (a .upper .now)) (length (a .word .now)) inside (start .pre .5) (start .pre .4) (start .pre .3) (start .pre .1) (start .pre .6) in
     omega (arith, part .small)
 
 sub-read : tie.Need-sub-read Inv-loop μ-loop
@@ -85,7 +85,7 @@ part-read-end c =
     let a = start .args in
     let l = c .before .loop in
     let inside : l .j < length (a .values .now) = omega (arith, l .inv .2) in
-    let part = part-of (l .j) (length (a .span .now)) (length (a .values .now)) (length (a .inverses .now)) (length (a .others .now)) (length (a .word .now)) inside (start .pre .5) (start .pre .4) (start .pre .3) (start .pre .1) (start .pre .6) in
+    let part = part-of (l .j) (length (a .span .now)) (length (a .values .now)) (length (a .inverses .now)) (length (a .upper .now)) (length (a .word .now)) inside (start .pre .5) (start .pre .4) (start .pre .3) (start .pre .1) (start .pre .6) in
     part .within
 
 read-requires : tie.Need-read-requires Inv-loop μ-loop
@@ -94,7 +94,7 @@ read-requires c κs =
     let a = start .args in
     let l = c .before .before .loop in
     let inside : l .j < length (a .values .now) = omega (arith, l .inv .2) in
-    let part = part-of (l .j) (length (a .span .now)) (length (a .values .now)) (length (a .inverses .now)) (length (a .others .now)) (length (a .word .now)) inside (start .pre .5) (start .pre .4) (start .pre .3) (start .pre .1) (start .pre .6) in
+    let part = part-of (l .j) (length (a .span .now)) (length (a .values .now)) (length (a .inverses .now)) (length (a .upper .now)) (length (a .word .now)) inside (start .pre .5) (start .pre .4) (start .pre .3) (start .pre .1) (start .pre .6) in
     (part .eight, length-part (length (a .span .now)) (l .j * length (a .span .now)) (a .word .now) (part .within))
 
 value-at-requires : tie.Need-value-at-requires Inv-loop μ-loop
@@ -127,22 +127,22 @@ loop-again c =
     let l = c .before .before .before .before .before .before .loop in
     let m = length (a .span .now) in
     let inside : l .j < length (a .values .now) = omega (arith, l .inv .2) in
-    let target = cosetValues (a .inverses .now) (a .challenges .now) (a .span .now) (a .offset .0) (a .others .now) (a .word .now) in
+    let target = cosetValues (a .inverses .now) (a .images .now) (a .span .now) (a .offset .0) (a .upper .now) (a .word .now) in
     let value = c .before .before .value-at .result .0 in (
       search needs,
       ap (λ (held : List ℕ). set held (l .j) value) (l .inv .1)
           ∙ filled-next target (a .values .now) (l .j) value inside
-          (length-cosetValues (a .inverses .now) (a .challenges .now) (a .span .now) (a .offset .0) (a .others .now) (a .word .now) ∙ sym (start .pre .5))
+          (length-cosetValues (a .inverses .now) (a .images .now) (a .span .now) (a .offset .0) (a .upper .now) (a .word .now) ∙ sym (start .pre .5))
           (c .before .before .value-at .ensures
-          ∙ ap (λ (r : Coset). valueAt (a .inverses .now) (a .challenges .now) (r .points) (r .entries)) (c .before .before .before .read .ensures)
-          ∙ cosetValue-is (a .inverses .now) (a .challenges .now) (a .span .now) (a .offset .0) (a .others .now) (a .word .now) (l .j) (l .first .0)
+          ∙ ap (λ (r : Coset). valueAt (a .inverses .now) (a .images .now) (r .points) (r .entries)) (c .before .before .before .read .ensures)
+          ∙ cosetValue-is (a .inverses .now) (a .images .now) (a .span .now) (a .offset .0) (a .upper .now) (a .word .now) (l .j) (l .first .0)
           (take (l .j * m + m - l .j * m) (drop (l .j * m) (a .word .now))) (l .inv .3 inside)
           (ap (λ (n : ℕ). take n (drop (l .j * m) (a .word .now))) (back (l .j * m) m))
-          ∙ sym (cosetValues-at (a .inverses .now) (a .challenges .now) (a .span .now) (a .offset .0) (a .others .now) (a .word .now) (l .j) (omega (arith, start .pre .5)))),
+          ∙ sym (cosetValues-at (a .inverses .now) (a .images .now) (a .span .now) (a .offset .0) (a .upper .now) (a .word .now) (l .j) (omega (arith, start .pre .5)))),
       length-set (l .values) (l .j) value ∙ l .inv .2,
       λ h. c .stepped .ensures
           ∙ ap (λ (sums : List ℕ). sum (l .first .0) (getD sums (trailingZeros 64 (l .j + 1)) 0)) (c .before .before .before .before .before .before .before .prefix-sums .ensures)
-          ∙ point-stepped (a .offset .0) (a .others .now) (l .j) (l .first .0) (start .pre .4) (l .inv .3 inside) (omega (arith, start .pre .5)),
+          ∙ point-stepped (a .offset .0) (a .upper .now) (l .j) (l .first .0) (start .pre .4) (l .inv .3 inside) (omega (arith, start .pre .5)),
     )
 
 same-length : tie.Need-same-length Inv-loop μ-loop
@@ -154,8 +154,8 @@ returns c =
     let a = start .args in
     let l = c .before .loop in
     l .inv .1
-    ∙ filled-all (cosetValues (a .inverses .now) (a .challenges .now) (a .span .now) (a .offset .0) (a .others .now) (a .word .now)) (a .values .now) (l .j) (omega (arith, l .inv .2))
-    (length-cosetValues (a .inverses .now) (a .challenges .now) (a .span .now) (a .offset .0) (a .others .now) (a .word .now) ∙ sym (start .pre .5))
+    ∙ filled-all (cosetValues (a .inverses .now) (a .images .now) (a .span .now) (a .offset .0) (a .upper .now) (a .word .now)) (a .values .now) (l .j) (omega (arith, l .inv .2))
+    (length-cosetValues (a .inverses .now) (a .images .now) (a .span .now) (a .offset .0) (a .upper .now) (a .word .now) ∙ sym (start .pre .5))
 
 pub fill-cosets-spec : {M : Type 1} → statement M
 fill-cosets-spec =

@@ -26,8 +26,8 @@ shl-size c = search needs
 inverses-of-requires : tie.Need-inverses-of-requires
 inverses-of-requires c κs = search needs
 
-before-requires : tie.Need-before-requires
-before-requires c κs = search needs
+images-before-requires : tie.Need-images-before-requires
+images-before-requires c κs = search needs
 
 slice-aggregate-span-of : tie.Need-slice-aggregate-span-of
 slice-aggregate-span-of c =
@@ -52,16 +52,16 @@ slice-aggregate-fill-cosets c =
     let three : length inverses ≡ 3 = search needs in
     sym (length-take-le (length elements) inverses (omega (arith, three, start .pre .1)))
 
-array-share-prefix-challenges : tie.Need-array-share-prefix-challenges
-array-share-prefix-challenges c =
-    let three : length (c .before .before .before .before2 .result) ≡ 3 = search needs in
+array-share-prefix-images : tie.Need-array-share-prefix-images
+array-share-prefix-images c =
+    let three : length (c .before .before .before .images-before .result) ≡ 3 = search needs in
     omega (arith, three, c .before .before .before .before .before .before .before .before .before .pre .1)
 
 slice-aggregate-fill-cosets-2 : tie.Need-slice-aggregate-fill-cosets-2
 slice-aggregate-fill-cosets-2 c =
     let start = c .before .before .before .before .before .before .before .before .before .before in
     let elements = start .args .elements .now in
-    let challenges = c .before .before .before .before .before2 .result in
+    let challenges = c .before .before .before .before .images-before .result in
     let three : length challenges ≡ 3 = search needs in
     sym (length-take-le (length elements) challenges (omega (arith, three, start .pre .1)))
 
@@ -77,17 +77,17 @@ slice-aggregate-fill-cosets-3 c =
     let start = c .before .before .before .before .before .before .before .before .before .before .before in
     let a = start .args in
     let step = length (a .elements .now) in
-    let ready : Ready (a .elements .now) (a .basis .now) (c .before .before .before .before .before .before .inverses-of .result) (c .before .before .before .before .before .before2 .result) (c .before .before .before .span-of .result) (a .challenge .0) (1 * 2 ^ step % 2 ^ 64) =
+    let ready : Ready (a .elements .now) (a .basis .now) (c .before .before .before .before .before .before .inverses-of .result) (c .before .before .before .before .before .images-before .result) (c .before .before .before .span-of .result) (a .challenge .0) (1 * 2 ^ step % 2 ^ 64) =
     record {
       fits = start .pre .2;
-      through = start .pre .4;
+      elements-are = start .pre .4;
       inverted = c .before .before .before .before .before .before .inverses-of .ensures;
-      prepared = c .before .before .before .before .before .before2 .ensures;
+      prepared = c .before .before .before .before .before .images-before .ensures;
       spanned = c .before .before .before .span-of .ensures;
       sized = size-shifted step (omega (arith, start .pre .1));
     }
     in
-    ready .sized ∙ sym (length-span-taken (a .elements .now) (a .basis .now) (c .before .before .before .before .before .before .inverses-of .result) (c .before .before .before .before .before .before2 .result) (c .before .before .before .span-of .result) (a .challenge .0) (1 * 2 ^ step % 2 ^ 64) ready)
+    ready .sized ∙ sym (length-span-taken (a .elements .now) (a .basis .now) (c .before .before .before .before .before .before .inverses-of .result) (c .before .before .before .before .before .images-before .result) (c .before .before .before .span-of .result) (a .challenge .0) (1 * 2 ^ step % 2 ^ 64) ready)
 
 mul-fill-cosets : tie.Need-mul-fill-cosets
 mul-fill-cosets c = search needs
@@ -106,12 +106,12 @@ fill-cosets-requires c κs =
     let start = c .before .before .before .before .before .before .before .before .before .before .before .before .before in
     let a = start .args in
     let step = length (a .elements .now) in
-    let ready : Ready (a .elements .now) (a .basis .now) (c .before .before .before .before .before .before .before .before .inverses-of .result) (c .before .before .before .before .before .before .before .before2 .result) (c .before .before .before .before .before .span-of .result) (a .challenge .0) (1 * 2 ^ step % 2 ^ 64) =
+    let ready : Ready (a .elements .now) (a .basis .now) (c .before .before .before .before .before .before .before .before .inverses-of .result) (c .before .before .before .before .before .before .before .images-before .result) (c .before .before .before .before .before .span-of .result) (a .challenge .0) (1 * 2 ^ step % 2 ^ 64) =
     record {
       fits = start .pre .2;
-      through = start .pre .4;
+      elements-are = start .pre .4;
       inverted = c .before .before .before .before .before .before .before .before .inverses-of .ensures;
-      prepared = c .before .before .before .before .before .before .before .before2 .ensures;
+      prepared = c .before .before .before .before .before .before .before .images-before .ensures;
       spanned = c .before .before .before .before .before .span-of .ensures;
       sized = size-shifted step (omega (arith, start .pre .1));
     }
@@ -119,10 +119,10 @@ fill-cosets-requires c κs =
     let others = mid-suffix step (a .basis .now) in
     let some = length-take-le step (c .before .before .before .before .before .before .before .before .inverses-of .result) (omega (arith, start .pre .1, ap length (ready .inverted) ∙ length-padded gf64 3 (map inverse (a .elements .now)) (omega (arith, start .pre .1, length-map (a .elements .now) inverse)))) in
     let behind : length (take (length (a .basis .now) - step) (drop step (a .basis .now))) ≡ length (a .basis .now) - step = ap length others ∙ length-drop step (a .basis .now) in
-    let count = length-span-taken (a .elements .now) (a .basis .now) (c .before .before .before .before .before .before .before .before .inverses-of .result) (c .before .before .before .before .before .before .before .before2 .result) (c .before .before .before .before .before .span-of .result) (a .challenge .0) (1 * 2 ^ step % 2 ^ 64) ready in (
+    let count = length-span-taken (a .elements .now) (a .basis .now) (c .before .before .before .before .before .before .before .before .inverses-of .result) (c .before .before .before .before .before .before .before .images-before .result) (c .before .before .before .before .before .span-of .result) (a .challenge .0) (1 * 2 ^ step % 2 ^ 64) ready in (
       omega (arith, some, start .pre .0),
       omega (arith, some, start .pre .1),
-      ap length (challenges-taken (a .elements .now) (a .basis .now) (c .before .before .before .before .before .before .before .before .inverses-of .result) (c .before .before .before .before .before .before .before .before2 .result) (c .before .before .before .before .before .span-of .result) (a .challenge .0) (1 * 2 ^ step % 2 ^ 64) ready) ∙ length-before (a .elements .now) (a .challenge .0) ∙ sym some,
+      ap length (challenges-taken (a .elements .now) (a .basis .now) (c .before .before .before .before .before .before .before .before .inverses-of .result) (c .before .before .before .before .before .before .before .images-before .result) (c .before .before .before .before .before .span-of .result) (a .challenge .0) (1 * 2 ^ step % 2 ^ 64) ready) ∙ length-before (a .elements .now) (a .challenge .0) ∙ sym some,
       count ∙ ap (λ (n : ℕ). 2 ^ n) (sym some),
       omega (arith, behind, start .pre .3),
       start .pre .7 ∙ ap (λ (n : ℕ). 2 ^ n) (sym behind),
@@ -137,12 +137,12 @@ returns c =
     let start = c .before .before .before .before .before .before .before .before .before .before .before .before .before .before .before .before in
     let a = start .args in
     let step = length (a .elements .now) in
-    let ready : Ready (a .elements .now) (a .basis .now) (c .before .before .before .before .before .before .before .before .before .before .before .inverses-of .result) (c .before .before .before .before .before .before .before .before .before .before .before2 .result) (c .before .before .before .before .before .before .before .before .span-of .result) (a .challenge .0) (1 * 2 ^ step % 2 ^ 64) =
+    let ready : Ready (a .elements .now) (a .basis .now) (c .before .before .before .before .before .before .before .before .before .before .before .inverses-of .result) (c .before .before .before .before .before .before .before .before .before .before .images-before .result) (c .before .before .before .before .before .before .before .before .span-of .result) (a .challenge .0) (1 * 2 ^ step % 2 ^ 64) =
     record {
       fits = start .pre .2;
-      through = start .pre .4;
+      elements-are = start .pre .4;
       inverted = c .before .before .before .before .before .before .before .before .before .before .before .inverses-of .ensures;
-      prepared = c .before .before .before .before .before .before .before .before .before .before .before2 .ensures;
+      prepared = c .before .before .before .before .before .before .before .before .before .before .images-before .ensures;
       spanned = c .before .before .before .before .before .before .before .before .span-of .ensures;
       sized = size-shifted step (omega (arith, start .pre .1));
     }
@@ -156,7 +156,7 @@ returns c =
       count = start .pre .6;
     }
     in
-    c .before .before .fill-cosets .ensures ∙ all-cosets (a .elements .now) (a .basis .now) (c .before .before .before .before .before .before .before .before .before .before .before .inverses-of .result) (c .before .before .before .before .before .before .before .before .before .before .before2 .result) (c .before .before .before .before .before .before .before .before .span-of .result) (a .challenge .0) (1 * 2 ^ step % 2 ^ 64) ready (a .offset .0) (a .word .now) word (search needs)
+    c .before .before .fill-cosets .ensures ∙ all-cosets (a .elements .now) (a .basis .now) (c .before .before .before .before .before .before .before .before .before .before .before .inverses-of .result) (c .before .before .before .before .before .before .before .before .before .before .images-before .result) (c .before .before .before .before .before .before .before .before .span-of .result) (a .challenge .0) (1 * 2 ^ step % 2 ^ 64) ready (a .offset .0) (a .word .now) word (search needs)
 
 pub fill-values-spec : {M : Type 1} → statement M
 fill-values-spec =
@@ -164,12 +164,12 @@ fill-values-spec =
     (tie.spec
     shl-size
     inverses-of-requires
-    before-requires
+    images-before-requires
     slice-aggregate-span-of
     span-of-requires
     array-share-prefix-inverses
     slice-aggregate-fill-cosets
-    array-share-prefix-challenges
+    array-share-prefix-images
     slice-aggregate-fill-cosets-2
     array-share-prefix-span
     slice-aggregate-fill-cosets-3

@@ -7,7 +7,7 @@ use lib.ListN.{length, length-drop}
 use lib.Seq.{length-take-le}
 use Rattle.gf64.specs.Field.{IsElement}
 use Rattle.poly.proofs.Parts.{mid-suffix}
-use Rattle.coset.specs.Steps.{through, stepElements}
+use Rattle.coset.specs.Steps.{composedMaps, stepElements}
 use Rattle.coset.proofs.Points.{all-elements}
 use Rattle.coset.proofs.Subspace.{elements-taken, next-whole, nextOffset-through}
 use Rattle.fold.specs.Fold.{folded}
@@ -50,28 +50,28 @@ fill-values-requires c κs =
 array-share-prefix-elements-2 : tie.Need-array-share-prefix-elements-2
 array-share-prefix-elements-2 c = search needs
 
-slice-aggregate-fill-through : tie.Need-slice-aggregate-fill-through
-slice-aggregate-fill-through c =
+slice-aggregate-fill-images : tie.Need-slice-aggregate-fill-images
+slice-aggregate-fill-images c =
     let start = c .before .before .before .before .before .before .before .before .before .before .before in
     let elements = c .before .before .before .before .before .before .step-elements .result in
     let three : length elements ≡ 3 = search needs in
     let count = length-take-le (start .args .step) elements (omega (arith, three, start .pre .1)) in
     sym count
 
-mul-fill-through : tie.Need-mul-fill-through
-mul-fill-through c = search needs
+mul-fill-images : tie.Need-mul-fill-images
+mul-fill-images c = search needs
 
-sub-fill-through : tie.Need-sub-fill-through
-sub-fill-through c = search needs
+sub-fill-images : tie.Need-sub-fill-images
+sub-fill-images c = search needs
 
-part-fill-through-start : tie.Need-part-fill-through-start
-part-fill-through-start c = search needs
+part-fill-images-start : tie.Need-part-fill-images-start
+part-fill-images-start c = search needs
 
-part-fill-through-end : tie.Need-part-fill-through-end
-part-fill-through-end c = search needs
+part-fill-images-end : tie.Need-part-fill-images-end
+part-fill-images-end c = search needs
 
-fill-through-requires : tie.Need-fill-through-requires
-fill-through-requires c κs =
+fill-images-requires : tie.Need-fill-images-requires
+fill-images-requires c κs =
     let start = c .before .before .before .before .before .before .before .before .before .before .before .before .before in
     let basis = start .args .basis .now in
     le-of-eq (ap length (mid-suffix (start .args .step) basis) ∙ length-drop (start .args .step) basis ∙ sym (start .pre .7))
@@ -79,16 +79,16 @@ fill-through-requires c κs =
 array-share-prefix-elements-3 : tie.Need-array-share-prefix-elements-3
 array-share-prefix-elements-3 c = search needs
 
-slice-aggregate-through : tie.Need-slice-aggregate-through
-slice-aggregate-through c =
+slice-aggregate-composed-maps : tie.Need-slice-aggregate-composed-maps
+slice-aggregate-composed-maps c =
     let start = c .before .before .before .before .before .before .before .before .before .before .before .before .before .before .before .before .before in
     let elements = c .before .before .before .before .before .before .before .before .before .before .before .before .step-elements .result in
     let three : length elements ≡ 3 = search needs in
     let count = length-take-le (start .args .step) elements (omega (arith, three, start .pre .1)) in
     sym count
 
-through-requires : tie.Need-through-requires
-through-requires c κs = search needs
+composed-maps-requires : tie.Need-composed-maps-requires
+composed-maps-requires c κs = search needs
 
 same-length : tie.Need-same-length
 same-length c = search needs
@@ -107,10 +107,10 @@ returns c =
     let basis-elements = all-elements basis (λ i. omega (arith, c .before .before .before .before .before .before .before .before .before .before .before .before .before .before .before .before .before .shared-slice-known .given i)) in
     let offset-element : IsElement (a .offset .0) = search needs in
     let taken = elements-taken (a .step) basis elements (start .pre .2) (c .before .before .before .before .before .before .before .before .before .before .before .before .before .step-elements .ensures) in (
-      c .through .ensures ∙ ap (λ (es : List ℕ). through es (a .offset .0)) taken ∙ sym (nextOffset-through (a .step) (a .offset .0) basis offset-element),
+      c .composed-maps .ensures ∙ ap (λ (es : List ℕ). composedMaps es (a .offset .0)) taken ∙ sym (nextOffset-through (a .step) (a .offset .0) basis offset-element),
       (
         c .before .before .before .before .before .before .before .before .before .before .fill-values .ensures ∙ ap (λ (n : ℕ). folded n (a .offset .0) basis (a .word .now) (a .challenge .0)) count,
-        next-whole (a .step) basis elements (a .next .now) (c .before .before .before .before .fill-through .last .1 .1 .0) basis-elements (start .pre .2) (c .before .before .before .before .before .before .before .before .before .before .before .before .before .step-elements .ensures) (start .pre .7) (c .before .before .before .before .fill-through .ensures),
+        next-whole (a .step) basis elements (a .next .now) (c .before .before .before .before .fill-images .last .1 .1 .0) basis-elements (start .pre .2) (c .before .before .before .before .before .before .before .before .before .before .before .before .before .step-elements .ensures) (start .pre .7) (c .before .before .before .before .fill-images .ensures),
       ),
     )
 
@@ -123,15 +123,15 @@ fold-checked-spec =
     slice-aggregate-fill-values
     fill-values-requires
     array-share-prefix-elements-2
-    slice-aggregate-fill-through
-    mul-fill-through
-    sub-fill-through
-    part-fill-through-start
-    part-fill-through-end
-    fill-through-requires
+    slice-aggregate-fill-images
+    mul-fill-images
+    sub-fill-images
+    part-fill-images-start
+    part-fill-images-end
+    fill-images-requires
     array-share-prefix-elements-3
-    slice-aggregate-through
-    through-requires
+    slice-aggregate-composed-maps
+    composed-maps-requires
     same-length
     same-length-2
     returns)

@@ -2,7 +2,6 @@
 use mathlib.Core.Path.{sym, ap, _∙_}
 use Rattle.capi.specs.Answers.{answerOfFolded}
 use borrow.Author.Needs.{needs}
-use native.Mathlib.Omega.{arith}
 use Rattle.capi.proofs.Answer.of_folded.Statement.{statement}
 use Rattle.capi.proofs.Answer.of_folded.Tie as tie
 

@@ -13,12 +13,12 @@ use Rattle.fold.proofs.halving.Coset.value_at.Statement.{statement}
 use Rattle.fold.proofs.halving.Coset.value_at.Tie as tie
 
 abbrev Inv-loop : tie.InvT-loop
-Inv-loop inverses challenges last coset₀ t₀ coset t =
+Inv-loop inverses images last coset₀ t₀ coset t =
     (t ≤ last) × (last ≡ length inverses - 1) × (coset .count ≡ 2 ^ (length inverses - t))
-    × (valueAt (drop t inverses) (drop t challenges) (coset .points) (coset .entries) ≡ valueAt inverses challenges (coset₀ .points) (coset₀ .entries))
+    × (valueAt (drop t inverses) (drop t images) (coset .points) (coset .entries) ≡ valueAt inverses images (coset₀ .points) (coset₀ .entries))
 
 abbrev μ-loop : tie.MeasureT-loop
-μ-loop inverses challenges last coset₀ t₀ coset t = last - t
+μ-loop inverses images last coset₀ t₀ coset t = last - t
 
 sub-last : tie.Need-sub-last Inv-loop μ-loop
 sub-last c = search needs
@@ -60,14 +60,14 @@ loop-again c =
     let a = start .args in
     let l = c .before .before .before .before .loop in
     let inverses = a .inverses .now in
-    let challenges = a .challenges .now in
+    let images = a .images .now in
     let n = l .coset .count / 2 in
     let count : n ≡ 2 ^ (length inverses - suc (l .t)) = halved-count (length inverses) (l .t) (l .coset .count) (omega (arith, l .inv .1, start .pre .0)) (l .inv .2) in (
       search needs,
       l .inv .1,
       ap (λ (r : Coset). r .count) (c .halved .ensures) ∙ count ∙ ap (λ (m : ℕ). 2 ^ (length inverses - m)) (sym (add-one (l .t))),
-      ap (λ (r : Coset). valueAt (drop (l .t + 1) inverses) (drop (l .t + 1) challenges) (r .points) (r .entries)) (c .halved .ensures)
-          ∙ value-next inverses challenges (start .pre .2) (l .t) n (l .coset .points) (l .coset .entries) (omega (arith, l .inv .1, start .pre .0)) count
+      ap (λ (r : Coset). valueAt (drop (l .t + 1) inverses) (drop (l .t + 1) images) (r .points) (r .entries)) (c .halved .ensures)
+          ∙ value-next inverses images (start .pre .2) (l .t) n (l .coset .points) (l .coset .entries) (omega (arith, l .inv .1, start .pre .0)) count
           ∙ l .inv .3,
     )
 
@@ -93,9 +93,9 @@ returns c =
     let l = c .before .before .before .before .loop in
     let end : suc (l .t) ≡ length (a .inverses .now) = omega (arith, l .inv .1, start .pre .0) in
     c .line .ensures
-    ∙ ap (λ (n : ℕ). lineAt (getD (a .inverses .now) n 0) (getD (a .challenges .now) n 0) (getD (l .coset .points) 0 0) (getD (l .coset .entries) 0 0) (getD (l .coset .entries) 1 0))
+    ∙ ap (λ (n : ℕ). lineAt (getD (a .inverses .now) n 0) (getD (a .images .now) n 0) (getD (l .coset .points) 0 0) (getD (l .coset .entries) 0 0) (getD (l .coset .entries) 1 0))
     (omega (arith, end))
-    ∙ value-last (a .inverses .now) (a .challenges .now) (start .pre .2) (l .t) (l .coset .points) (l .coset .entries) end
+    ∙ value-last (a .inverses .now) (a .images .now) (start .pre .2) (l .t) (l .coset .points) (l .coset .entries) end
     ∙ l .inv .3
 
 pub value-at-spec : {M : Type 1} → statement M

@@ -1,4 +1,4 @@
--- `coset::before` meets its contract. The loop's invariant: t images stand in the array, the others are zero. Assumes nothing.
+-- `coset::images_before` meets its contract. The loop's invariant: t images stand in the array, the others are zero. Assumes nothing.
 use mathlib.Core.Path.{_≡_, sym, ap, _∙_}
 use mathlib.Core.List.{List}
 use Prim.Native.Nat.{ℕ, _-_, _≤_}
@@ -7,15 +7,15 @@ use lib.Seq.{length-take-le}
 use Rattle.poly.specs.Carrier.{gf64}
 use Rattle.poly.specs.Polynomial.{padded}
 use Rattle.poly.proofs.Filling.{filled, filled-start, padded-next, filled-padded}
-use Rattle.coset.specs.Steps.{before}
+use Rattle.coset.specs.Steps.{imagesBefore}
 use Rattle.coset.proofs.Steps.{length-before, before-at}
 use borrow.Author.Needs.{needs}
 use native.Mathlib.Omega.{arith}
-use Rattle.coset.proofs.before.Statement.{statement}
-use Rattle.coset.proofs.before.Tie as tie
+use Rattle.coset.proofs.images_before.Statement.{statement}
+use Rattle.coset.proofs.images_before.Tie as tie
 
 abbrev Inv-loop : tie.InvT-loop
-Inv-loop elements x images₀ t₀ images t = (t ≤ length elements) × (images ≡ filled (padded gf64 3 (before elements (x .0))) (replicate 3 0) t)
+Inv-loop elements x images₀ t₀ images t = (t ≤ length elements) × (images ≡ filled (padded gf64 3 (imagesBefore elements (x .0))) (replicate 3 0) t)
 
 abbrev μ-loop : tie.MeasureT-loop
 μ-loop elements x images₀ t₀ images t = length elements - t
@@ -23,13 +23,13 @@ abbrev μ-loop : tie.MeasureT-loop
 loop-holds : tie.Need-loop-holds Inv-loop μ-loop
 loop-holds c =
     let a = c .before .args in
-    (search needs, filled-start (padded gf64 3 (before (a .elements .now) (a .x .0))) (replicate 3 0))
+    (search needs, filled-start (padded gf64 3 (imagesBefore (a .elements .now) (a .x .0))) (replicate 3 0))
 
-slice-aggregate-through : tie.Need-slice-aggregate-through Inv-loop μ-loop
-slice-aggregate-through c = sym (length-take-le (c .before .before .loop .t) (c .before .before .before .before .args .elements .now) (omega arith))
+slice-aggregate-composed-maps : tie.Need-slice-aggregate-composed-maps Inv-loop μ-loop
+slice-aggregate-composed-maps c = sym (length-take-le (c .before .before .loop .t) (c .before .before .before .before .args .elements .now) (omega arith))
 
-through-requires : tie.Need-through-requires Inv-loop μ-loop
-through-requires c κs = search needs
+composed-maps-requires : tie.Need-composed-maps-requires Inv-loop μ-loop
+composed-maps-requires c κs = search needs
 
 mul-images : tie.Need-mul-images Inv-loop μ-loop
 mul-images c = search needs
@@ -49,11 +49,11 @@ loop-again c =
     let elements = start .args .elements .now in
     let x = start .args .x .0 in
     let l = c .before .before .before .loop in
-    let image = c .through .result .0 in (
+    let image = c .composed-maps .result .0 in (
       search needs,
       ap (λ (held : List ℕ). set held (l .t) image) (l .inv .1)
-          ∙ padded-next 3 (before elements x) (l .t) image (omega (arith, length-before elements x)) (omega (arith, length-before elements x, start .pre))
-          (c .through .ensures ∙ sym (before-at elements x (l .t) (omega arith))),
+          ∙ padded-next 3 (imagesBefore elements x) (l .t) image (omega (arith, length-before elements x)) (omega (arith, length-before elements x, start .pre))
+          (c .composed-maps .ensures ∙ sym (before-at elements x (l .t) (omega arith))),
     )
 
 returns : tie.Need-returns Inv-loop μ-loop
@@ -62,17 +62,17 @@ returns c =
     let elements = start .args .elements .now in
     let x = start .args .x .0 in
     let l = c .before .loop in
-    l .inv .1 ∙ filled-padded 3 (before elements x) (l .t) (omega (arith, length-before elements x)) (omega (arith, length-before elements x, start .pre))
+    l .inv .1 ∙ filled-padded 3 (imagesBefore elements x) (l .t) (omega (arith, length-before elements x)) (omega (arith, length-before elements x, start .pre))
 
-pub before-spec : {M : Type 1} → statement M
-before-spec =
+pub images-before-spec : {M : Type 1} → statement M
+images-before-spec =
     tie.close
     (tie.spec
     Inv-loop
     μ-loop
     loop-holds
-    slice-aggregate-through
-    through-requires
+    slice-aggregate-composed-maps
+    composed-maps-requires
     mul-images
     array-write-images
     add-t

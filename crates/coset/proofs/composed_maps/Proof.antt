@@ -1,17 +1,17 @@
--- `coset::through` meets its contract. The loop's invariant: y through the maps that are left is x through all. Assumes nothing.
+-- `coset::composed_maps` meets its contract. The loop's invariant: y through the maps that are left is x through all. Assumes nothing.
 use mathlib.Core.Path.{_≡_, refl, sym, ap, _∙_}
 use Prim.Native.Nat.{_+_, _-_, _≤_}
 use lib.ListN.{length, drop}
 use Rattle.gf64.specs.Field.{product}
-use Rattle.coset.specs.Steps.{through}
+use Rattle.coset.specs.Steps.{composedMaps}
 use Rattle.coset.proofs.Steps.{through-next, through-end}
 use borrow.Author.Needs.{needs}
 use native.Mathlib.Omega.{arith}
-use Rattle.coset.proofs.through.Statement.{statement}
-use Rattle.coset.proofs.through.Tie as tie
+use Rattle.coset.proofs.composed_maps.Statement.{statement}
+use Rattle.coset.proofs.composed_maps.Tie as tie
 
 abbrev Inv-loop : tie.InvT-loop
-Inv-loop elements y₀ t₀ y t = (t ≤ length elements) × (through (drop t elements) (y .0) ≡ through elements (y₀ .0))
+Inv-loop elements y₀ t₀ y t = (t ≤ length elements) × (composedMaps (drop t elements) (y .0) ≡ composedMaps elements (y₀ .0))
 
 abbrev μ-loop : tie.MeasureT-loop
 μ-loop elements y₀ t₀ y t = length elements - t
@@ -41,7 +41,7 @@ loop-again : tie.Need-loop-again Inv-loop μ-loop
 loop-again c =
     let elements = c .before .before .before .before .before .before .args .elements .now in
     let l = c .before .before .before .before .loop in
-    (search needs, ap (through (drop (l .t + 1) elements)) (c .product .ensures .0 ∙ ap (product (l .y .0)) (c .before .sum .ensures)) ∙ through-next elements (l .t) (l .y .0) (omega arith) ∙ l .inv .1)
+    (search needs, ap (composedMaps (drop (l .t + 1) elements)) (c .product .ensures .0 ∙ ap (product (l .y .0)) (c .before .sum .ensures)) ∙ through-next elements (l .t) (l .y .0) (omega arith) ∙ l .inv .1)
 
 returns : tie.Need-returns Inv-loop μ-loop
 returns c =
@@ -49,8 +49,8 @@ returns c =
     let l = c .before .loop in
     sym (through-end elements (l .t) (l .y .0) (c .loop-test .left)) ∙ l .inv .1
 
-pub through-spec : {M : Type 1} → statement M
-through-spec =
+pub composed-maps-spec : {M : Type 1} → statement M
+composed-maps-spec =
     tie.close
     (tie.spec
     Inv-loop
