@@ -86,6 +86,11 @@ image-zero step basis x h k = (
 
 -- ---- the next coset
 
+pub nextBasis-through : (step : ℕ) (basis : List ℕ) → All IsElement basis
+    → nextBasis step basis ≡ map (composedMaps (stepElements step basis)) (drop step basis)
+unfolding nextBasis
+nextBasis-through step basis h = images-through step basis (drop step basis) (all-drop IsElement step basis h)
+
 pub length-nextBasis : (step : ℕ) (basis : List ℕ) → length (nextBasis step basis) ≡ length basis - step
 unfolding nextBasis
 length-nextBasis step basis = length-map (drop step basis) (image step basis) ∙ length-drop step basis
@@ -98,11 +103,6 @@ nextBasis-elements step basis h =
 pub nextOffset-element : (step offset : ℕ) (basis : List ℕ) → IsElement offset → IsElement (nextOffset step offset basis)
 unfolding nextOffset
 nextOffset-element step offset basis h = image-element step basis offset h
-
-pub nextBasis-through : (step : ℕ) (basis : List ℕ) → All IsElement basis
-    → nextBasis step basis ≡ map (composedMaps (stepElements step basis)) (drop step basis)
-unfolding nextBasis
-nextBasis-through step basis h = images-through step basis (drop step basis) (all-drop IsElement step basis h)
 
 pub nextOffset-through : (step offset : ℕ) (basis : List ℕ) → IsElement offset → nextOffset step offset basis ≡ composedMaps (stepElements step basis) offset
 unfolding nextOffset

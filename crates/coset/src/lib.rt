@@ -151,10 +151,10 @@ pub fn composed_maps(elements: &[u64], x: Element) -> Element
     ensures { λ r. ⌜ r .0 ≡ composedMaps (now (elements .entry)) (x .0) ⌝ }
 {
     let mut y = x;
-    let mut t: usize = 0;
-    while t < elements.len() {
-        y = y.product(y.sum(Element(elements[t])));
-        t += 1;
+    let mut i: usize = 0;
+    while i < elements.len() {
+        y = y.product(y.sum(Element(elements[i])));
+        i += 1;
     }
     y
 }

@@ -14,6 +14,19 @@ use Rattle.poly.proofs.Sums.{sum-zero-r, product-zero-r}
 use Rattle.poly.proofs.Evaluation.{evaluate-timesLinear, length-plus, length-scale, plus-elements, scale-elements}
 use Rattle.poly.proofs.Entries.{all-append}
 
+module _ {A : Type 0} (F : Operations A) (Element : A → Type 0) (L : Laws A F Element) where
+  open Operations F using (zero as 𝟘, one as 𝟙, sum as _⊕_, product as _⊗_)
+
+  infixl 60 _⊕_
+  infixl 70 _⊗_
+  pub evaluate-vanishing : (roots : List A) (x : A) → evaluate F (vanishingPolynomial F roots) x ≡ vanishing F roots x
+  unfolding evaluate vanishingPolynomial vanishing
+  evaluate-vanishing [] x = ap (λ (v : A). 𝟙 ⊕ v) (product-zero-r F Element L x) ∙ sum-zero-r F Element L 𝟙
+  evaluate-vanishing (a ∷ roots) x =
+      evaluate-timesLinear F Element L 𝟘 a (vanishingPolynomial F roots) x
+      ∙ L .sum-zero ((x ⊕ a) ⊗ evaluate F (vanishingPolynomial F roots) x)
+      ∙ ap (λ (v : A). (x ⊕ a) ⊗ v) (evaluate-vanishing roots x)
+
 -- its coefficients below the leading one
 pub lower : {A : Type 0} → Operations A → List A → List A
 lower F [] = []
@@ -51,17 +64,7 @@ vanishing-monic F [] = refl
 vanishing-monic F (a ∷ roots) = ap (timesLinear F (F .zero) a) (vanishing-monic F roots) ∙ times-monic F a (lower F roots)
 
 module _ {A : Type 0} (F : Operations A) (Element : A → Type 0) (L : Laws A F Element) where
-  open Operations F using (zero as 𝟘, one as 𝟙, sum as _⊕_, product as _⊗_)
-
-  infixl 60 _⊕_
-  infixl 70 _⊗_
-  pub evaluate-vanishing : (roots : List A) (x : A) → evaluate F (vanishingPolynomial F roots) x ≡ vanishing F roots x
-  unfolding evaluate vanishingPolynomial vanishing
-  evaluate-vanishing [] x = ap (λ (v : A). 𝟙 ⊕ v) (product-zero-r F Element L x) ∙ sum-zero-r F Element L 𝟙
-  evaluate-vanishing (a ∷ roots) x =
-      evaluate-timesLinear F Element L 𝟘 a (vanishingPolynomial F roots) x
-      ∙ L .sum-zero ((x ⊕ a) ⊗ evaluate F (vanishingPolynomial F roots) x)
-      ∙ ap (λ (v : A). (x ⊕ a) ⊗ v) (evaluate-vanishing roots x)
+  open Operations F using (zero as 𝟘, one as 𝟙)
 
   monic-elements : (q : List A) → All Element q → All Element (monic F q)
   unfolding monic

@@ -11,10 +11,10 @@ use Rattle.coset.proofs.composed_maps.Statement.{statement}
 use Rattle.coset.proofs.composed_maps.Tie as tie
 
 abbrev Inv-loop : tie.InvT-loop
-Inv-loop elements y₀ t₀ y t = (t ≤ length elements) × (composedMaps (drop t elements) (y .0) ≡ composedMaps elements (y₀ .0))
+Inv-loop elements y₀ i₀ y i = (i ≤ length elements) × (composedMaps (drop i elements) (y .0) ≡ composedMaps elements (y₀ .0))
 
 abbrev μ-loop : tie.MeasureT-loop
-μ-loop elements y₀ t₀ y t = length elements - t
+μ-loop elements y₀ i₀ y i = length elements - i
 
 loop-holds : tie.Need-loop-holds Inv-loop μ-loop
 loop-holds c = (search needs, refl)
@@ -31,8 +31,8 @@ sum-requires c κs = search needs
 product-requires : tie.Need-product-requires Inv-loop μ-loop
 product-requires c κs = search needs
 
-add-t : tie.Need-add-t Inv-loop μ-loop
-add-t c = search needs
+add-i : tie.Need-add-i Inv-loop μ-loop
+add-i c = search needs
 
 loop-less : tie.Need-loop-less Inv-loop μ-loop
 loop-less c = search needs
@@ -41,13 +41,13 @@ loop-again : tie.Need-loop-again Inv-loop μ-loop
 loop-again c =
     let elements = c .before .before .before .before .before .before .args .elements .now in
     let l = c .before .before .before .before .loop in
-    (search needs, ap (composedMaps (drop (l .t + 1) elements)) (c .product .ensures .0 ∙ ap (product (l .y .0)) (c .before .sum .ensures)) ∙ through-next elements (l .t) (l .y .0) (omega arith) ∙ l .inv .1)
+    (search needs, ap (composedMaps (drop (l .i + 1) elements)) (c .product .ensures .0 ∙ ap (product (l .y .0)) (c .before .sum .ensures)) ∙ through-next elements (l .i) (l .y .0) (omega arith) ∙ l .inv .1)
 
 returns : tie.Need-returns Inv-loop μ-loop
 returns c =
     let elements = c .before .before .before .args .elements .now in
     let l = c .before .loop in
-    sym (through-end elements (l .t) (l .y .0) (c .loop-test .left)) ∙ l .inv .1
+    sym (through-end elements (l .i) (l .y .0) (c .loop-test .left)) ∙ l .inv .1
 
 pub composed-maps-spec : {M : Type 1} → statement M
 composed-maps-spec =
@@ -60,7 +60,7 @@ composed-maps-spec =
     shared-slice-read-t9
     sum-requires
     product-requires
-    add-t
+    add-i
     loop-less
     loop-again
     returns)
