@@ -61,9 +61,11 @@ void rz_interpolate(uint64_t offset, const uint64_t *basis, size_t basis_length,
 
 /* Folds a word over a coset of dimension k with a step, at a challenge. q is the product of X - a over all sums of some or
  * none of the first `step` basis elements. The next coset has dimension k - step, the offset q(offset) and the basis q(basis[step]) ..
- * q(basis[k - 1]), which is written into `next_basis`; its point j is q of points j * 2^step to j * 2^step + 2^step - 1. Into
+ * q(basis[k - 1]), which is written into `next_basis`; the next coset's point j is q of points j * 2^step to j * 2^step + 2^step - 1. Into
  * values[j] goes the value at the challenge of the one polynomial of degree below 2^step that has the word's values at those
- * points. value: the next offset. Refused, in this order, with
+ * points. The challenge may be any element, a point too. value: the next offset; with it and `next_basis` the values can be
+ * folded again, as long as k - step is at least 2. Where k is the step, the next basis is empty, and `next_basis` not null even so.
+ * Nothing is folded in place: `values` is another list than `word`. Refused, in this order, with
  *   number 4   k is outside 2 to 20; no place
  *   number 6   the step is outside 1 to 3; no place
  *   number 7   k is below the step; no place
@@ -71,7 +73,8 @@ void rz_interpolate(uint64_t offset, const uint64_t *basis, size_t basis_length,
  *              than 2^k; 6, `values`, other than 2^(k - step); 7, `next_basis`, other than k - step
  *   number 8   a basis element lies in the span of earlier ones, and its place is the first such place, from 0
  *   number 16  the next basis is dependent, which happens to no independent basis; no place, round 0
- * A refusal leaves `values` and `next_basis` as they were. The answer has 0 reads. */
+ * A refusal leaves `values` and `next_basis` as they were, and has no value. The answer has no round but with number 16, and 0
+ * reads. */
 void rz_fold(size_t k, size_t step, uint64_t offset, const uint64_t *basis, size_t basis_length, const uint64_t *word,
              size_t word_length, uint64_t challenge, uint64_t *values, size_t values_length, uint64_t *next_basis,
              size_t next_basis_length, uint64_t *answer, size_t answer_length);

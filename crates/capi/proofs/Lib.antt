@@ -1,1 +1,2 @@
 mod Five
+pub mod Theorems

@@ -1,7 +1,7 @@
 -- The subspace polynomial is a composition of maps X · (X - e). So it is additive, it is zero exactly on the span that it was built
 -- from, it sends an independent basis to an independent one and the points of a coset to those of the next. Assumes nothing.
 use mathlib.Core.Path.{_≡_, refl, sym, ap, ap₂, _∙_, subst}
-use mathlib.Core.Logic.{_⊎_, inl, inr}
+use mathlib.Core.Logic.{_≢_, _⊎_, inl, inr}
 use mathlib.Core.Bool.{Bool, true, false, cond}
 use mathlib.Core.List.{List, [], _∷_, _++_, map, map-id, map-map}
 use Prim.Native.Nat.{ℕ, zero, suc, _+_, _*_, _/_, _^_, _<_, _≤_}
@@ -268,6 +268,14 @@ independent-through (suc n) (b ∷ basis) h d =
     subst Independent
     (composed-images (stepElements n (map (oneStep b) basis)) b n basis)
     (independent-through n (map (oneStep b) basis) (mapped-elements b basis (h .1)) (independent-step b basis h d))
+
+-- no map of an independent basis has the element zero
+pub elements-not-zero : (n : ℕ) (basis : List ℕ) → All IsElement basis → Independent basis → All (λ e. e ≢ 0) (stepElements n basis)
+unfolding stepElements firstDependent
+elements-not-zero zero basis h d = record {}
+elements-not-zero (suc n) [] h d = record {}
+elements-not-zero (suc n) (b ∷ basis) h d =
+    (first-not-zero b basis 0 d, elements-not-zero n (map (oneStep b) basis) (mapped-elements b basis (h .1)) (independent-step b basis h d))
 
 -- ---- zero exactly on the span
 

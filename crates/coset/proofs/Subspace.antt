@@ -52,6 +52,10 @@ lowerCoefficients-elements step basis h e =
     subst (All IsElement) (sym (below-leading step basis h))
     (lower-elements gf64 IsElement gf64-laws (points 0 (take step basis)) (points-elements 0 (take step basis) (omega arith) (all-take IsElement step basis e)))
 
+pub subspace-lower : (step : ℕ) (basis : List ℕ) → step ≤ length basis → subspacePolynomial step basis ≡ lowerCoefficients step basis ++ (1 ∷ [])
+unfolding monic
+subspace-lower step basis h = subspace-monic step basis h
+
 -- 2^step + 1 coefficients, the leading one 1
 pub subspace-degree : (step : ℕ) (basis : List ℕ) → step ≤ length basis
     → (length (subspacePolynomial step basis) ≡ 2 ^ step + 1) × (getD (subspacePolynomial step basis) (2 ^ step) 0 ≡ 1)

@@ -6,8 +6,8 @@ use Rattle.coset.proofs.Points.{length-points, getD-points, points-dist
 use Rattle.coset.proofs.Sequence.{point-next}
 use Rattle.coset.proofs.Dimension.{independent-short}
 use Rattle.coset.proofs.Dependence.{point-shifted, reached-of-span, span-of-point, first-found, first-before, none-dependent}
-use Rattle.coset.proofs.Steps.{image-through}
-use Rattle.coset.proofs.Subspace.{subspace-degree, image-additive, image-zero, length-nextBasis, next-independent, image-of-coset, image-only}
+use Rattle.coset.proofs.Steps.{image-through, elements-not-zero}
+use Rattle.coset.proofs.Subspace.{subspace-degree, subspace-lower, image-additive, image-zero, length-nextBasis, next-independent, image-of-coset, image-only}
 
 pub cosets : Cosets
 cosets =
@@ -24,7 +24,7 @@ pub first-dependent : FirstDependent
 first-dependent = record { found = first-found; first = first-before; none = none-dependent; short = independent-short }
 
 pub subspaces : Subspaces
-subspaces = record { monic = subspace-degree; additive = image-additive; zero = image-zero; composition = image-through }
+subspaces = record { monic = subspace-degree; lower = subspace-lower; additive = image-additive; zero = image-zero; composition = image-through; elements = elements-not-zero }
 
 pub next-cosets : NextCosets
 next-cosets = record { count = length-nextBasis; independent = next-independent; points = image-of-coset; only = image-only }

@@ -1,8 +1,8 @@
 -- What is proved of cosets, as statements: proofs/Theorems.antt has a value of each.
 use mathlib.Core.Path.{_≡_}
-use mathlib.Core.Logic.{_↔_}
+use mathlib.Core.Logic.{_≢_, _↔_}
 use mathlib.Core.Bool.{true, false}
-use mathlib.Core.List.{List}
+use mathlib.Core.List.{List, [], _∷_, _++_}
 use Prim.Native.Nat.{ℕ, suc, _+_, _*_, _-_, _/_, _^_, _≤_, _<_}
 use lib.Count.{trailingZeros}
 use lib.ListN.{length, getD, take}
@@ -12,7 +12,7 @@ use Rattle.poly.specs.Polynomial.{All, Distinct}
 use Rattle.coset.specs.Coset.{point, points}
 use Rattle.coset.specs.Sequence.{prefixSums}
 use Rattle.coset.specs.Span.{inSpan, firstDependent, Independent}
-use Rattle.coset.specs.Subspace.{subspacePolynomial, image, nextOffset, nextBasis}
+use Rattle.coset.specs.Subspace.{subspacePolynomial, lowerCoefficients, image, nextOffset, nextBasis}
 use Rattle.coset.specs.Steps.{composedMaps, stepElements}
 
 pub record Cosets : Type 0 where
@@ -44,6 +44,7 @@ pub record Subspaces : Type 0 where
   -- it is monic, of degree 2^step
   pub monic : (step : ℕ) (basis : List ℕ) → step ≤ length basis
       → (length (subspacePolynomial step basis) ≡ 2 ^ step + 1) × (getD (subspacePolynomial step basis) (2 ^ step) 0 ≡ 1)
+  pub lower : (step : ℕ) (basis : List ℕ) → step ≤ length basis → subspacePolynomial step basis ≡ lowerCoefficients step basis ++ (1 ∷ [])
   -- additive
   pub additive : (step : ℕ) (basis : List ℕ) (a b : ℕ) → IsElement a → IsElement b
       → image step basis (sum a b) ≡ sum (image step basis a) (image step basis b)
@@ -52,6 +53,8 @@ pub record Subspaces : Type 0 where
       → (image step basis x ≡ 0) ↔ (inSpan (take step basis) x ≡ true)
   -- the composition of the maps X · (X - e)
   pub composition : (step : ℕ) (basis : List ℕ) (x : ℕ) → IsElement x → image step basis x ≡ composedMaps (stepElements step basis) x
+  -- whose elements are not zero where the basis is independent: these a fold inverts
+  pub elements : (step : ℕ) (basis : List ℕ) → All IsElement basis → Independent basis → All (λ e. e ≢ 0) (stepElements step basis)
 
 -- the next coset
 pub record NextCosets : Type 0 where

@@ -29,6 +29,7 @@ use Rattle.coset.proofs.Subspace.{nextOffset-element, nextBasis-elements, next-
 use lib.Pow.{pow-pos}
 use Rattle.reed_solomon.specs.Codes.{encoded, interpolated, WordDegreeBelow}
 use Rattle.reed_solomon.proofs.Theorems.{round-trips, encoding}
+use Rattle.reed_solomon.proofs.Cases.{code-cases}
 use Rattle.fold.specs.declared.Folded.the-variants.{NextOffset}
 use Rattle.fold.specs.Fold.{folded}
 use Rattle.fold.specs.Answers.{foldOutcome, foldAnswer, nextBasisAfter}
@@ -55,27 +56,31 @@ inverse-of-one : 1 ≡ inverse 1
 unfolding product carryless carrylessIn remainder remainderIn timesT
 inverse-of-one = inverse-unique 1 1 (omega arith) (omega arith) refl
 
-by-lines : (basis word : List ℕ) (x : ℕ) → length word ≡ 2 ^ length (1 ∷ basis)
-    → folded 1 0 (1 ∷ basis) word x ≡ halvedEntries 1 x (2 ^ length basis) (points 0 (1 ∷ basis)) word
-by-lines basis word x fits =
-    sym (halved-entries 0 1 basis word fits x)
-    ∙ ap (λ (i : ℕ). halvedEntries i x (2 ^ length basis) (points 0 (1 ∷ basis)) word) (sym inverse-of-one)
+by-lines : (offset : ℕ) (basis word : List ℕ) (x : ℕ) → length word ≡ 2 ^ length (1 ∷ basis)
+    → folded 1 offset (1 ∷ basis) word x ≡ halvedEntries 1 x (2 ^ length basis) (points offset (1 ∷ basis)) word
+by-lines offset basis word x fits =
+    sym (halved-entries offset 1 basis word fits x)
+    ∙ ap (λ (i : ℕ). halvedEntries i x (2 ^ length basis) (points offset (1 ∷ basis)) word) (sym inverse-of-one)
+
+d-values : folded 1 0x8 (1 ∷ 2 ∷ []) (7 ∷ 4 ∷ 1 ∷ 2 ∷ []) 4 ≡ 0x13 ∷ 0x13 ∷ []
+unfolding halvedEntries lineAt points tabulated point product carryless carrylessIn remainder remainderIn timesT
+d-values = by-lines 0x8 (2 ∷ []) (7 ∷ 4 ∷ 1 ∷ 2 ∷ []) 4 refl
 
 f : folded 1 0 (1 ∷ 2 ∷ []) (7 ∷ 4 ∷ 1 ∷ 2 ∷ []) 4 ≡ 0xb ∷ 0xb ∷ []
 unfolding halvedEntries lineAt points tabulated point product carryless carrylessIn remainder remainderIn timesT
-f = by-lines (2 ∷ []) (7 ∷ 4 ∷ 1 ∷ 2 ∷ []) 4 refl
+f = by-lines 0 (2 ∷ []) (7 ∷ 4 ∷ 1 ∷ 2 ∷ []) 4 refl
 
 j-at-4 : folded 1 0 (1 ∷ 2 ∷ []) (0 ∷ 0 ∷ 0 ∷ 1 ∷ []) 4 ≡ 0 ∷ 6 ∷ []
 unfolding halvedEntries lineAt points tabulated point product carryless carrylessIn remainder remainderIn timesT
-j-at-4 = by-lines (2 ∷ []) (0 ∷ 0 ∷ 0 ∷ 1 ∷ []) 4 refl
+j-at-4 = by-lines 0 (2 ∷ []) (0 ∷ 0 ∷ 0 ∷ 1 ∷ []) 4 refl
 
 j-at-2 : folded 1 0 (1 ∷ 2 ∷ []) (0 ∷ 0 ∷ 0 ∷ 1 ∷ []) 2 ≡ 0 ∷ 0 ∷ []
 unfolding halvedEntries lineAt points tabulated point product carryless carrylessIn remainder remainderIn timesT
-j-at-2 = by-lines (2 ∷ []) (0 ∷ 0 ∷ 0 ∷ 1 ∷ []) 2 refl
+j-at-2 = by-lines 0 (2 ∷ []) (0 ∷ 0 ∷ 0 ∷ 1 ∷ []) 2 refl
 
 k : folded 1 0 (1 ∷ 2 ∷ 4 ∷ []) (0 ∷ 1 ∷ 4 ∷ 5 ∷ 0x10 ∷ 0x11 ∷ 0x14 ∷ 0x15 ∷ []) 2 ≡ 2 ∷ 4 ∷ 0x16 ∷ 0x10 ∷ []
 unfolding halvedEntries lineAt points tabulated point product carryless carrylessIn remainder remainderIn timesT
-k = by-lines (2 ∷ 4 ∷ []) (0 ∷ 1 ∷ 4 ∷ 5 ∷ 0x10 ∷ 0x11 ∷ 0x14 ∷ 0x15 ∷ []) 2 refl
+k = by-lines 0 (2 ∷ 4 ∷ []) (0 ∷ 1 ∷ 4 ∷ 5 ∷ 0x10 ∷ 0x11 ∷ 0x14 ∷ 0x15 ∷ []) 2 refl
 
 -- ---- case J: the exceptional set
 
@@ -174,10 +179,15 @@ j-zero-word : encoded 0 (6 ∷ []) (0 ∷ 0 ∷ []) ≡ 0 ∷ 0 ∷ []
 unfolding encoded points tabulated point evaluate product carryless carrylessIn remainder remainderIn timesT
 j-zero-word = refl
 
+zero-offset : nextOffset 1 0 (1 ∷ 2 ∷ []) ≡ 0
+unfolding nextOffset image subspacePolynomial points tabulated point vanishingPolynomial timesLinear plus scale evaluate product carryless carrylessIn remainder remainderIn timesT
+zero-offset = refl
+
 back-over-6 : (coefficients values : List ℕ) → All IsElement coefficients → length coefficients ≡ 2 → encoded 0 (6 ∷ []) coefficients ≡ values
-    → interpolated 0 (6 ∷ []) values ≡ coefficients
+    → interpolated (nextOffset 1 0 (1 ∷ 2 ∷ [])) (nextBasis 1 (1 ∷ 2 ∷ [])) values ≡ coefficients
 back-over-6 coefficients values hc l e =
-    ap (interpolated 0 (6 ∷ [])) (sym e) ∙ two-back 0 6 coefficients (omega arith) (omega arith) independent-6 hc l
+    ap₂ (λ (o : ℕ) (b : List ℕ). interpolated o b values) zero-offset d-basis
+    ∙ ap (interpolated 0 (6 ∷ [])) (sym e) ∙ two-back 0 6 coefficients (omega arith) (omega arith) independent-6 hc l
 
 -- ---- case K: the second fold, over the next coset
 
@@ -236,14 +246,26 @@ d-call : (foldAnswer 2 1 0x8 (1 ∷ 2 ∷ []) (0 ∷ 0 ∷ 0 ∷ 0 ∷ []) (0 �
     × (nextBasisAfter 2 1 (1 ∷ 2 ∷ []) (0 ∷ 0 ∷ 0 ∷ 0 ∷ []) (0 ∷ 0 ∷ []) (0 ∷ []) ≡ 6 ∷ [])
 d-call =
     let a = accepted .answer 2 1 0x8 (1 ∷ 2 ∷ []) (0 ∷ 0 ∷ 0 ∷ 0 ∷ []) 4 (0 ∷ 0 ∷ []) (0 ∷ []) d-done in
-    (a .0 ∙ ap (λ (o : ℕ). NextOffset (record { 0 = o })) d-offset, a .2 ∙ d-basis)
+    (a .0 ∙ ap (λ (o : ℕ). NextOffset (record { 0 = o })) d-offset, a .4 ∙ d-basis)
+
+-- ---- case F: the word has low degree, so that no challenge is exceptional
+
+f-low : WordDegreeBelow 2 0 basis (7 ∷ 4 ∷ 1 ∷ 2 ∷ [])
+f-low =
+    subst (WordDegreeBelow 2 0 basis) (code-cases .e)
+    (encoding .degree 0 basis (7 ∷ 3 ∷ []) (omega arith) (omega arith, (omega arith, record {})) (omega arith, (omega arith, record {})) independent (omega arith))
+
+f-none : (x : ℕ) → Exceptional 1 1 0 (1 ∷ 2 ∷ []) (7 ∷ 4 ∷ 1 ∷ 2 ∷ []) x → ⊥
+f-none x h = h .1 f-low
 
 pub fold-cases : FoldCases
 fold-cases =
     record {
       d = d-call .0;
       d-basis = d-call .1;
+      d-values = d-values;
       f = f;
+      f-none = f-none;
       f-coefficient = back-over-6 (0xb ∷ 0 ∷ []) (0xb ∷ 0xb ∷ []) (omega arith, (omega arith, record {})) refl f-word;
       j-at-4 = j-at-4;
       j-degree-1 = back-over-6 (0 ∷ 1 ∷ []) (0 ∷ 6 ∷ []) (omega arith, (omega arith, record {})) refl j-word;

@@ -23,10 +23,11 @@ use Rattle.coset.specs.Span.{firstDependent, Independent}
 use Rattle.coset.specs.Answers.{outcomeOfBasis}
 use Rattle.coset.specs.Subspace.{nextOffset, nextBasis}
 use Rattle.coset.proofs.Subspace.{next-independent}
-use Rattle.fold.specs.Answers.{rangesOutcome, lengthsOutcome, outcomeOfNextBasis, basesOutcome, foldOutcome, answerOf, foldAnswer, foldValuesAfter, nextBasisAfter, numberOfFolded, placeOfFolded, roundOfFolded}
+use Rattle.fold.specs.Answers.{rangesOutcome, lengthsOutcome, outcomeOfNextBasis, basesOutcome, foldOutcome, answerOf, foldAnswer, foldValuesAfter, nextBasisAfter, numberOfFolded, placeOfFolded, roundOfFolded, valueOfFolded}
+use Rattle.fold.specs.declared.Folded.{Folded}
 use Rattle.fold.specs.declared.Folded.the-variants.{NextOffset}
 use Rattle.fold.specs.Fold.{folded}
-use Rattle.fold.specs.Theorems.{InRange, Fits, FoldAccepted, Refuses, FoldRefusals}
+use Rattle.fold.specs.Theorems.{InRange, Fits, Tells, FoldAccepted, Refuses, FoldRefusals}
 use Rattle.fold.proofs.Checks as checks
 
 in-range-k : (k step : ℕ) → InRange k step → (leb 2 k && leb k 20) ≡ true
@@ -86,28 +87,34 @@ accepts k step basis word values next h = (
   λ a. sym (bases-decide k step basis word values next (a .0) (a .1) (a .2)) ∙ bases-pass step basis h (a .3),
 )
 
--- a refusal carries its cause's number, place and round, and leaves both lists
+-- a refusal carries its cause's number, place and round and no value, and leaves both lists
 refuses : (k step : ℕ) (basis word values next : List ℕ) (cause : Cause) → Refused cause ≡ foldOutcome k step basis word values next
     → Refuses k step basis word values next (numberOf cause) (placeOf cause) (roundOf cause)
 refuses k step basis word values next cause e offset x =
     subst
     (λ (o : Outcome).
-    (numberOfFolded (answerOf o (nextOffset step offset basis)) ≡ numberOf cause)
-    × (placeOfFolded (answerOf o (nextOffset step offset basis)) ≡ placeOf cause)
-    × (roundOfFolded (answerOf o (nextOffset step offset basis)) ≡ roundOf cause)
+    Tells (answerOf o (nextOffset step offset basis)) (numberOf cause) (placeOf cause) (roundOf cause)
+    × ((none : ℕ) → valueOfFolded (answerOf o (nextOffset step offset basis)) none ≡ none)
     × (afterwards o (folded step offset basis word x) values ≡ values)
     × (afterwards o (nextBasis step basis) next ≡ next))
-    e (refl, refl, refl, refl, refl)
+    e ((refl, refl, refl), (λ none. refl), refl, refl)
 
 answers-done : (k step offset : ℕ) (basis word : List ℕ) (x : ℕ) (values next : List ℕ) → foldOutcome k step basis word values next ≡ Done
     → (foldAnswer k step offset basis word values next ≡ NextOffset (record { 0 = nextOffset step offset basis }))
+    × Tells (foldAnswer k step offset basis word values next) 0 Absent Absent
+    × ((none : ℕ) → valueOfFolded (foldAnswer k step offset basis word values next) none ≡ nextOffset step offset basis)
     × (foldValuesAfter k step offset basis word x values next ≡ folded step offset basis word x)
     × (nextBasisAfter k step basis word values next ≡ nextBasis step basis)
 answers-done k step offset basis word x values next e = (
-  ap (λ (o : Outcome). answerOf o (nextOffset step offset basis)) e,
+  is-offset,
+  (ap numberOfFolded is-offset, ap placeOfFolded is-offset, ap roundOfFolded is-offset),
+  λ none. ap (λ (a : Folded). valueOfFolded a none) is-offset,
   ap (λ (o : Outcome). afterwards o (folded step offset basis word x) values) e,
   ap (λ (o : Outcome). afterwards o (nextBasis step basis) next) e,
 )
+  where
+    is-offset : foldAnswer k step offset basis word values next ≡ NextOffset (record { 0 = nextOffset step offset basis })
+    is-offset = ap (λ (o : Outcome). answerOf o (nextOffset step offset basis)) e
 
 dependent-refused : (step : ℕ) (basis : List ℕ) (place : ℕ) → firstDependent basis ≡ At place → Refused (BasisDependent place) ≡ basesOutcome step basis
 dependent-refused step basis place e =

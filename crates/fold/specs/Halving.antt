@@ -1,5 +1,5 @@
 -- How the value of a coset's interpolant at a challenge is computed: the coset is halved until one entry is left. Only inner functions cite
--- this.
+-- this, and the theorem `Halvings`.
 use mathlib.Core.List.{List, [], _∷_, map}
 use Prim.Native.Nat.{ℕ, suc, _*_, _^_}
 use lib.ListN.{length, getD, take, drop}

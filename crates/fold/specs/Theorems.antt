@@ -1,4 +1,4 @@
--- What is proved of the fold, as statements: proofs/Theorems.antt and Cases.antt have a value of each.
+-- What is proved of the fold, as statements: Theorems.antt, Outcomes.antt and Cases.antt of proofs/ have a value of each.
 use mathlib.Core.Path.{_≡_}
 use mathlib.Core.Logic.{_≢_, _⊎_, _↔_}
 use mathlib.Core.List.{List, [], _∷_, map}
@@ -15,12 +15,13 @@ use Rattle.coset.specs.Span.{firstDependent, Independent}
 use Rattle.coset.specs.Subspace.{image, nextOffset, nextBasis}
 use Rattle.coset.specs.Steps.{stepElements, imagesBefore}
 use Rattle.reed_solomon.specs.Codes.{encoded, interpolated, WordDegreeBelow}
+use Rattle.fold.specs.declared.Folded.{Folded}
 use Rattle.fold.specs.declared.Folded.the-variants.{NextOffset}
 use Rattle.fold.specs.Fold.{cosetPoints, cosetEntries, foldEntry, folded}
 use Rattle.fold.specs.Halving.{valueAt}
 use Rattle.fold.specs.Rows.{wordRows, rowsAt}
 use Rattle.fold.specs.Exceptional.{Exceptional}
-use Rattle.fold.specs.Answers.{foldOutcome, foldAnswer, foldValuesAfter, nextBasisAfter, numberOfFolded, placeOfFolded, roundOfFolded}
+use Rattle.fold.specs.Answers.{foldOutcome, foldAnswer, foldValuesAfter, nextBasisAfter, numberOfFolded, placeOfFolded, roundOfFolded, valueOfFolded}
 
 -- a word of elements over a coset with an independent basis, whatever its entries
 pub record IsWord (offset : ℕ) (basis word : List ℕ) : Type 0 where
@@ -31,7 +32,7 @@ pub record IsWord (offset : ℕ) (basis word : List ℕ) : Type 0 where
   pub count : length word ≡ 2 ^ length basis
 
 pub record Folds : Type 0 where
-  -- entry j of the fold at x is the value at x of any polynomial p of degree below 2^step that agrees with the word at the points that q sends
+  -- entry j of the fold at x is the value at x of any polynomial p of 2^step coefficients that agrees with the word at the points that q sends
   -- to point j of the next coset
   pub entry : (step offset : ℕ) (basis word : List ℕ) → IsWord offset basis word → step ≤ length basis → (x j : ℕ) (p : List ℕ)
       → j < 2 ^ (length basis - step) → All IsElement p → length p ≡ 2 ^ step
@@ -79,12 +80,16 @@ pub record Halvings : Type 0 where
 pub record FoldCases : Type 0 where
   pub d : foldAnswer 2 1 0x8 (1 ∷ 2 ∷ []) (0 ∷ 0 ∷ 0 ∷ 0 ∷ []) (0 ∷ 0 ∷ []) (0 ∷ []) ≡ NextOffset (record { 0 = 0x48 })
   pub d-basis : nextBasisAfter 2 1 (1 ∷ 2 ∷ []) (0 ∷ 0 ∷ 0 ∷ 0 ∷ []) (0 ∷ 0 ∷ []) (0 ∷ []) ≡ 6 ∷ []
+  -- the word of case F over the coset of case D
+  pub d-values : folded 1 0x8 (1 ∷ 2 ∷ []) (7 ∷ 4 ∷ 1 ∷ 2 ∷ []) 4 ≡ 0x13 ∷ 0x13 ∷ []
   pub f : folded 1 0 (1 ∷ 2 ∷ []) (7 ∷ 4 ∷ 1 ∷ 2 ∷ []) 4 ≡ 0xb ∷ 0xb ∷ []
-  pub f-coefficient : interpolated 0 (6 ∷ []) (0xb ∷ 0xb ∷ []) ≡ 0xb ∷ 0 ∷ []
+  pub f-coefficient : interpolated (nextOffset 1 0 (1 ∷ 2 ∷ [])) (nextBasis 1 (1 ∷ 2 ∷ [])) (0xb ∷ 0xb ∷ []) ≡ 0xb ∷ 0 ∷ []
+  -- a word of low degree has no exceptional challenge
+  pub f-none : (x : ℕ) → Exceptional 1 1 0 (1 ∷ 2 ∷ []) (7 ∷ 4 ∷ 1 ∷ 2 ∷ []) x → ⊥
   pub j-at-4 : folded 1 0 (1 ∷ 2 ∷ []) (0 ∷ 0 ∷ 0 ∷ 1 ∷ []) 4 ≡ 0 ∷ 6 ∷ []
-  pub j-degree-1 : interpolated 0 (6 ∷ []) (0 ∷ 6 ∷ []) ≡ 0 ∷ 1 ∷ []
+  pub j-degree-1 : interpolated (nextOffset 1 0 (1 ∷ 2 ∷ [])) (nextBasis 1 (1 ∷ 2 ∷ [])) (0 ∷ 6 ∷ []) ≡ 0 ∷ 1 ∷ []
   pub j-at-2 : folded 1 0 (1 ∷ 2 ∷ []) (0 ∷ 0 ∷ 0 ∷ 1 ∷ []) 2 ≡ 0 ∷ 0 ∷ []
-  pub j-coefficient : interpolated 0 (6 ∷ []) (0 ∷ 0 ∷ []) ≡ 0 ∷ 0 ∷ []
+  pub j-coefficient : interpolated (nextOffset 1 0 (1 ∷ 2 ∷ [])) (nextBasis 1 (1 ∷ 2 ∷ [])) (0 ∷ 0 ∷ []) ≡ 0 ∷ 0 ∷ []
   -- the exceptional set is 2 alone
   pub j : (x : ℕ) → Exceptional 1 1 0 (1 ∷ 2 ∷ []) (0 ∷ 0 ∷ 0 ∷ 1 ∷ []) x ↔ (x ≡ 2)
   pub k-layer : folded 1 0 (1 ∷ 2 ∷ 4 ∷ []) (0 ∷ 1 ∷ 4 ∷ 5 ∷ 0x10 ∷ 0x11 ∷ 0x14 ∷ 0x15 ∷ []) 2 ≡ 2 ∷ 4 ∷ 0x16 ∷ 0x10 ∷ []
@@ -102,6 +107,11 @@ abbrev pub Fits : ℕ → ℕ → List ℕ → List ℕ → List ℕ → List �
 Fits k step basis word values next =
     (length basis ≡ k) × (length word ≡ 2 ^ k) × (length values ≡ 2 ^ (k - step)) × (length next ≡ k - step)
 
+-- an answer's number, place and round
+abbrev pub Tells : Folded → ℕ → Position → Position → Type 0
+Tells answer number place round =
+    (numberOfFolded answer ≡ number) × (placeOfFolded answer ≡ place) × (roundOfFolded answer ≡ round)
+
 -- which calls are done, and what they answer and leave; number 16 has no part in it
 pub record FoldAccepted : Type 0 where
   pub done : (k step : ℕ) (basis word values next : List ℕ) → All IsElement basis
@@ -109,16 +119,17 @@ pub record FoldAccepted : Type 0 where
       ↔ (InRange k step × (step ≤ k) × Fits k step basis word values next × Independent basis)
   pub answer : (k step offset : ℕ) (basis word : List ℕ) (x : ℕ) (values next : List ℕ) → foldOutcome k step basis word values next ≡ Done
       → (foldAnswer k step offset basis word values next ≡ NextOffset (record { 0 = nextOffset step offset basis }))
+      × Tells (foldAnswer k step offset basis word values next) 0 Absent Absent
+      × ((none : ℕ) → valueOfFolded (foldAnswer k step offset basis word values next) none ≡ nextOffset step offset basis)
       × (foldValuesAfter k step offset basis word x values next ≡ folded step offset basis word x)
       × (nextBasisAfter k step basis word values next ≡ nextBasis step basis)
 
--- a call is refused with this number, place and round, and both lent lists are left as they were
+-- a call is refused with this number, place and round and no value, and both lent lists are left as they were
 abbrev pub Refuses : ℕ → ℕ → List ℕ → List ℕ → List ℕ → List ℕ → ℕ → Position → Position → Type 0
 Refuses k step basis word values next number place round =
     (offset x : ℕ)
-    → (numberOfFolded (foldAnswer k step offset basis word values next) ≡ number)
-    × (placeOfFolded (foldAnswer k step offset basis word values next) ≡ place)
-    × (roundOfFolded (foldAnswer k step offset basis word values next) ≡ round)
+    → Tells (foldAnswer k step offset basis word values next) number place round
+    × ((none : ℕ) → valueOfFolded (foldAnswer k step offset basis word values next) none ≡ none)
     × (foldValuesAfter k step offset basis word x values next ≡ values)
     × (nextBasisAfter k step basis word values next ≡ next)
 

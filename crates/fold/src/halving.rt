@@ -1,5 +1,5 @@
 // A coset of the fold, and the value of its interpolant at a challenge. It is found by halving the coset: points 2 i and 2 i + 1 become one
-// point, and their entries the value at the challenge of the line through the two.
+// point, and their entries the value of the line through the two, at the challenge or, in later halvings, at its image.
 use field::Element;
 ghost use mathlib.Core.Path.{_≡_};
 ghost use mathlib.Core.List.{map};
@@ -18,17 +18,17 @@ pub struct Coset {
 }
 
 impl Coset {
-    // Point i is the first point plus entry i of the span, its entry that of the word.
-    pub fn read(span: &[u64], first: Element, word: &[u64]) -> Coset
-        requires { ⌜ (length (now span) ≤ 8) × (length (now word) ≡ length (now span)) ⌝ }
-        ensures { λ r. ⌜ r ≡ record { points = padded gf64 8 (map (sum (first .0)) (now (span .entry))); entries = padded gf64 8 (now (word .entry)); count = length (now (span .entry)) } ⌝ }
+    // Point i is the first point plus entry i of the span; part is the coset's part of the word.
+    pub fn read(span: &[u64], first: Element, part: &[u64]) -> Coset
+        requires { ⌜ (length (now span) ≤ 8) × (length (now part) ≡ length (now span)) ⌝ }
+        ensures { λ r. ⌜ r ≡ record { points = padded gf64 8 (map (sum (first .0)) (now (span .entry))); entries = padded gf64 8 (now (part .entry)); count = length (now (span .entry)) } ⌝ }
     {
         let mut points = [0u64; 8];
         let mut entries = [0u64; 8];
         let mut i: usize = 0;
         while i < span.len() {
             points[i] = first.sum(Element(span[i])).0;
-            entries[i] = word[i];
+            entries[i] = part[i];
             i += 1;
         }
         Coset {
@@ -38,8 +38,8 @@ impl Coset {
         }
     }
 
-    // The value at the challenge of the polynomial with these entries at these points, where the inverses are those of the elements e of the
-    // step's maps X · (X - e) and the images those of the challenge before each map (`Halvings.entry`).
+    // The value at the challenge of the polynomial with these entries at these points, where the points are a coset of the fold, the inverses
+    // those of the elements e of the step's maps X · (X - e), and the images those of the challenge before each map (`Halvings.entry`).
     pub fn value_at(self, inverses: &[u64], images: &[u64]) -> Element
         requires { ⌜ (1 ≤ length (now inverses)) × (length (now inverses) ≤ 3) × (length (now images) ≡ length (now inverses))
             × (self .count ≡ 2 ^ length (now inverses)) ⌝ }
@@ -78,7 +78,7 @@ impl Coset {
         }
     }
 
-    // The value at x of the line through points 2 i and 2 i + 1.
+    // The value at x of the line through points 2 i and 2 i + 1, where inverse is that of their difference.
     fn line(self, i: usize, inverse: Element, x: Element) -> Element
         requires { ⌜ i ≤ 3 ⌝ }
         ensures { λ r. ⌜ r .0 ≡ lineAt (inverse .0) (x .0) (getD (self .points) (i * 2) 0) (getD (self .entries) (i * 2) 0) (getD (self .entries) (suc (i * 2)) 0) ⌝ }

@@ -233,7 +233,7 @@ fn fill_cosets(
     }
 }
 
-// The inverses of at most three elements, and zeros.
+// The inverses of at most three elements, and zeros. None of a step's elements is zero (`Subspaces.elements`).
 fn inverses_of(elements: &[u64]) -> [u64; 3]
     requires { ⌜ length (now elements) ≤ 3 ⌝ }
     ensures { λ r. ⌜ r ≡ padded gf64 3 (map inverse (now (elements .entry))) ⌝ }

@@ -43,5 +43,6 @@ at-field =
       laws = gf64-laws;
       roots = over-every-carrier .roots ℕ gf64 IsElement gf64-laws;
       interpolation = over-every-carrier .interpolation ℕ gf64 IsElement gf64-laws;
+      root-product = over-every-carrier .root-product ℕ gf64 IsElement gf64-laws;
       row-division = over-every-carrier .row-division ℕ gf64 IsElement gf64-laws;
     }

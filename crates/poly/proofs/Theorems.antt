@@ -1,9 +1,10 @@
 -- The statements of specs/Theorems.antt over every carrier with the laws, proved. Assumes nothing.
 use Rattle.poly.specs.Carrier.{Operations, Laws}
-use Rattle.poly.specs.Theorems.{Roots, Interpolation, RowDivision, OverEveryCarrier}
+use Rattle.poly.specs.Theorems.{Roots, Interpolation, RootProduct, RowDivision, OverEveryCarrier}
 use Rattle.poly.proofs.Evaluation.{evaluate-padded}
 use Rattle.poly.proofs.Roots.{root-bound-degree, unique}
 use Rattle.poly.proofs.Interpolation.{length-interpolant, interpolant-elements, interpolant-agrees, interpolant-recovers}
+use Rattle.poly.proofs.Vanishing.{evaluate-vanishing, vanishing-leading}
 use Rattle.poly.proofs.Identity.{rows-identity}
 use Rattle.poly.proofs.Rows.{length-rows, rows-lengths, rows-evaluate, rows-degree, degree-of-rows}
 
@@ -20,6 +21,9 @@ interpolation A F Element L =
       recovers = interpolant-recovers F Element L;
     }
 
+root-product : (A : Type 0) (F : Operations A) (Element : A → Type 0) → Laws A F Element → RootProduct A F
+root-product A F Element L = record { value = evaluate-vanishing F Element L; leading = vanishing-leading F }
+
 row-division : (A : Type 0) (F : Operations A) (Element : A → Type 0) → Laws A F Element → RowDivision A F Element
 row-division A F Element L =
     record {
@@ -31,4 +35,4 @@ row-division A F Element L =
     }
 
 pub over-every-carrier : OverEveryCarrier
-over-every-carrier = record { roots = roots; interpolation = interpolation; row-division = row-division }
+over-every-carrier = record { roots = roots; interpolation = interpolation; root-product = root-product; row-division = row-division }

@@ -1,11 +1,12 @@
 -- The product of X - a over a list of roots: its value, and that it is monic, of as high a degree as there are roots. Assumes nothing.
 use mathlib.Core.Path.{_≡_, refl, ap, _∙_}
 use mathlib.Core.List.{List, [], _∷_, _++_}
-use Prim.Native.Nat.{suc, _≤_}
+use Prim.Native.Nat.{ℕ, suc, _+_, _≤_}
 use native.Mathlib.Nat.{le-of-eq}
 use native.Mathlib.Numerals.{add-one}
 use native.Mathlib.Omega.{arith}
-use lib.ListN.{length, length-append}
+use lib.ListN.{length, getD, length-append}
+use lib.Seq.{getD-at}
 use Rattle.poly.specs.Carrier.{Operations, Laws}
 use Rattle.poly.specs.Polynomial.{All, evaluate, plus, scale, timesLinear, vanishingPolynomial}
 use Rattle.poly.specs.Newton.{vanishing}
@@ -62,6 +63,15 @@ pub vanishing-monic : {A : Type 0} (F : Operations A) (roots : List A) → vanis
 unfolding vanishingPolynomial lower monic
 vanishing-monic F [] = refl
 vanishing-monic F (a ∷ roots) = ap (timesLinear F (F .zero) a) (vanishing-monic F roots) ∙ times-monic F a (lower F roots)
+
+pub vanishing-leading : {A : Type 0} (F : Operations A) (roots : List A)
+    → (length (vanishingPolynomial F roots) ≡ length roots + 1) × (getD (vanishingPolynomial F roots) (length roots) (F .zero) ≡ F .one)
+unfolding monic
+vanishing-leading {A = A} F roots = (
+  ap length (vanishing-monic F roots) ∙ length-append (lower F roots) (F .one ∷ []) ∙ ap (λ (n : ℕ). n + 1) (length-lower F roots),
+  ap (λ (l : List A). getD l (length roots) (F .zero)) (vanishing-monic F roots)
+      ∙ getD-at (lower F roots) (F .one) [] (F .zero) (length roots) (length-lower F roots),
+)
 
 module _ {A : Type 0} (F : Operations A) (Element : A → Type 0) (L : Laws A F Element) where
   open Operations F using (zero as 𝟘, one as 𝟙)

@@ -3,12 +3,13 @@
 use mathlib.Core.Path.{_≡_}
 use mathlib.Core.Logic.{_↔_}
 use mathlib.Core.List.{List, map}
-use Prim.Native.Nat.{ℕ, _*_, _≤_}
+use Prim.Native.Nat.{ℕ, _+_, _*_, _≤_}
 use lib.ListN.{length, drop, getD}
 use Rattle.gf64.specs.Field.{IsElement}
 use Rattle.poly.specs.Carrier.{Operations, Laws, gf64}
-use Rattle.poly.specs.Polynomial.{All, Distinct, Zeros, DegreeBelow, evaluate, padded, interpolant}
+use Rattle.poly.specs.Polynomial.{All, Distinct, Zeros, DegreeBelow, evaluate, padded, interpolant, vanishingPolynomial}
 use Rattle.poly.specs.Rows.{monic, rows, composed}
+use Rattle.poly.specs.Newton.{vanishing}
 
 -- n coefficients are fixed by n values
 pub record Roots (A : Type 0) (F : Operations A) (Element : A → Type 0) : Type 0 where
@@ -31,6 +32,12 @@ pub record Interpolation (A : Type 0) (F : Operations A) (Element : A → Type 0
   pub recovers : (p points : List A) → All Element p → All Element points → Distinct points → length p ≤ length points
       → interpolant F points (map (evaluate F p) points) ≡ padded F (length points) p
 
+-- the product of X - a over a list of roots
+pub record RootProduct (A : Type 0) (F : Operations A) : Type 0 where
+  -- its value is the product of the differences, its leading coefficient one
+  pub value : (roots : List A) (z : A) → evaluate F (vanishingPolynomial F roots) z ≡ vanishing F roots z
+  pub leading : (roots : List A) → (length (vanishingPolynomial F roots) ≡ length roots + 1) × (getD (vanishingPolynomial F roots) (length roots) (F .zero) ≡ F .one)
+
 -- division by a monic polynomial, given by its coefficients below the leading one, into n rows
 pub record RowDivision (A : Type 0) (F : Operations A) (Element : A → Type 0) : Type 0 where
   pub count : (q : List A) (n : ℕ) (p : List A) → length (rows F q n p) ≡ n
@@ -49,6 +56,7 @@ pub record RowDivision (A : Type 0) (F : Operations A) (Element : A → Type 0) 
 pub record OverEveryCarrier : Type 1 where
   pub roots : (A : Type 0) (F : Operations A) (Element : A → Type 0) → Laws A F Element → Roots A F Element
   pub interpolation : (A : Type 0) (F : Operations A) (Element : A → Type 0) → Laws A F Element → Interpolation A F Element
+  pub root-product : (A : Type 0) (F : Operations A) (Element : A → Type 0) → Laws A F Element → RootProduct A F
   pub row-division : (A : Type 0) (F : Operations A) (Element : A → Type 0) → Laws A F Element → RowDivision A F Element
 
 -- the field of 2^64 elements is one, so that they hold there
@@ -56,4 +64,5 @@ pub record AtField : Type 0 where
   pub laws : Laws ℕ gf64 IsElement
   pub roots : Roots ℕ gf64 IsElement
   pub interpolation : Interpolation ℕ gf64 IsElement
+  pub root-product : RootProduct ℕ gf64
   pub row-division : RowDivision ℕ gf64 IsElement

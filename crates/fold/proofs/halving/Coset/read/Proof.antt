@@ -14,19 +14,19 @@ use Rattle.fold.proofs.halving.Coset.read.Statement.{statement}
 use Rattle.fold.proofs.halving.Coset.read.Tie as tie
 
 abbrev Inv-loop : tie.InvT-loop
-Inv-loop span first word points₀ entries₀ i₀ points entries i =
+Inv-loop span first part points₀ entries₀ i₀ points entries i =
     (i ≤ length span) × (points ≡ filled (padded gf64 8 (map (sum (first .0)) span)) (replicate 8 0) i)
-    × (entries ≡ filled (padded gf64 8 word) (replicate 8 0) i)
+    × (entries ≡ filled (padded gf64 8 part) (replicate 8 0) i)
 
 abbrev μ-loop : tie.MeasureT-loop
-μ-loop span first word points₀ entries₀ i₀ points entries i = length span - i
+μ-loop span first part points₀ entries₀ i₀ points entries i = length span - i
 
 loop-holds : tie.Need-loop-holds Inv-loop μ-loop
 loop-holds c =
     let a = c .before .before .args in (
       search needs,
       filled-start (padded gf64 8 (map (sum (a .first .0)) (a .span .now))) (replicate 8 0),
-      filled-start (padded gf64 8 (a .word .now)) (replicate 8 0),
+      filled-start (padded gf64 8 (a .part .now)) (replicate 8 0),
     )
 
 mul-entries : tie.Need-mul-entries Inv-loop μ-loop
@@ -74,8 +74,8 @@ loop-again c =
       ap (λ (held : List ℕ). set held (l .i) point) (l .inv .1)
           ∙ padded-next 8 moved (l .i) point (omega (arith, count)) (omega (arith, count, start .pre .0))
           (c .before .sum .ensures ∙ sym (getD-map (sum (a .first .0)) (a .span .now) (l .i) (omega arith))),
-      ap (λ (held : List ℕ). set held (l .i) (getD (a .word .now) (l .i) 0)) (l .inv .2)
-          ∙ padded-next 8 (a .word .now) (l .i) (getD (a .word .now) (l .i) 0) (omega (arith, start .pre .1)) (omega (arith, start .pre .0, start .pre .1)) refl,
+      ap (λ (held : List ℕ). set held (l .i) (getD (a .part .now) (l .i) 0)) (l .inv .2)
+          ∙ padded-next 8 (a .part .now) (l .i) (getD (a .part .now) (l .i) 0) (omega (arith, start .pre .1)) (omega (arith, start .pre .0, start .pre .1)) refl,
     )
 
 returns : tie.Need-returns Inv-loop μ-loop
@@ -86,9 +86,9 @@ returns c =
     let moved = map (sum (a .first .0)) (a .span .now) in
     let count = length-map (a .span .now) (sum (a .first .0)) in
     let end : l .i ≡ length (a .span .now) = omega arith in
-    coset-equal (l .points) (padded gf64 8 moved) (l .entries) (padded gf64 8 (a .word .now)) (l .i) (length (a .span .now))
+    coset-equal (l .points) (padded gf64 8 moved) (l .entries) (padded gf64 8 (a .part .now)) (l .i) (length (a .span .now))
     (l .inv .1 ∙ filled-padded 8 moved (l .i) (omega (arith, count)) (omega (arith, count, start .pre .0)))
-    (l .inv .2 ∙ filled-padded 8 (a .word .now) (l .i) (omega (arith, start .pre .1)) (omega (arith, start .pre .0, start .pre .1)))
+    (l .inv .2 ∙ filled-padded 8 (a .part .now) (l .i) (omega (arith, start .pre .1)) (omega (arith, start .pre .0, start .pre .1)))
     end
 
 pub read-spec : {M : Type 1} → statement M
