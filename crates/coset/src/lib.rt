@@ -153,7 +153,8 @@ pub fn composed_maps(elements: &[u64], x: Element) -> Element
     let mut y = x;
     let mut i: usize = 0;
     while i < elements.len() {
-        y = y.product(y.sum(Element(elements[i])));
+        let e = elements[i];
+        y = y.product(y.sum(Element(e)));
         i += 1;
     }
     y
