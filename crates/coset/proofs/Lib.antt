@@ -6,6 +6,7 @@ pub mod Dependence
 pub mod Dimension
 pub mod Steps
 pub mod Subspace
+pub mod Independence
 pub mod Sizes
 pub mod Theorems
 mod FirstPlace

@@ -1,21 +1,20 @@
 -- The refusals of a lone fold, one check after the other, and what holds where all have passed. Assumes nothing.
-use mathlib.Core.Path.{_≡_, refl, sym, ap, _∙_, subst}
+use mathlib.Core.Path.{_≡_, sym, ap, _∙_, subst}
 use mathlib.Core.Bool.{true, false, _&&_}
 use mathlib.Core.List.{List}
 use Prim.Native.Nat.{ℕ, _-_, _^_, _≤_}
 use lib.Dec.{leb, eqb}
 use lib.ListN.{length}
-use Rattle.refusal.specs.declared.Cause.the-variants.{DimensionOutOfRange, StepOutOfRange, DimensionTooSmall, WrongLength, BasisDependent}
+use Rattle.refusal.specs.declared.Cause.the-variants.{DimensionOutOfRange, StepOutOfRange, DimensionTooSmall, WrongLength}
 use Rattle.refusal.specs.declared.Outcome.{Outcome}
 use Rattle.refusal.specs.declared.Outcome.the-variants.{Done, Refused}
-use Rattle.refusal.specs.declared.Position.{Position}
-use Rattle.refusal.specs.declared.Position.the-variants.{At, Absent}
 use Rattle.refusal.specs.declared.Cause.{Cause}
 use Rattle.refusal.specs.Checks.{refusedUnless, andThen, afterwards}
-use Rattle.refusal.proofs.Checks.{refused-not-done, equal-of-test, le-of-test, passed-by, refused-by, unless-done, then-done, each-true, done-holds, refused-holds}
+use Rattle.refusal.proofs.Checks.{equal-of-test, le-of-test, passed-by, refused-by, unless-done, then-done, each-true, done-holds, refused-holds}
 use Rattle.field.specs.declared.Element.{Element}
 use Rattle.coset.specs.Answers.{outcomeOfBasis}
 use Rattle.coset.specs.Span.{firstDependent, Independent}
+use Rattle.coset.proofs.Independence.{independent-of}
 use Rattle.coset.specs.Subspace.{nextBasis}
 use Rattle.fold.specs.declared.Folded.the-variants as answers
 use Rattle.fold.specs.Answers.{rangesOutcome, lengthsOutcome, outcomeOfNextBasis, basesOutcome, foldOutcome, answerOf}
@@ -23,10 +22,10 @@ use Rattle.fold.specs.Answers.{rangesOutcome, lengthsOutcome, outcomeOfN
 -- ---- ranges
 
 module _ (k step : ℕ) where
-  abbrev smallEnough : Outcome
+  abbrev pub smallEnough : Outcome
   smallEnough = refusedUnless (leb step k) DimensionTooSmall Done
 
-  abbrev stepChecked : Outcome
+  abbrev pub stepChecked : Outcome
   stepChecked = refusedUnless (leb 1 step && leb step 3) StepOutOfRange smallEnough
 
   pub dimension-refused : (leb 2 k && leb k 20) ≡ false → Refused DimensionOutOfRange ≡ rangesOutcome k step
@@ -75,13 +74,13 @@ in-range k step e =
 -- ---- lengths
 
 module _ (k step length1 length3 length6 length7 : ℕ) where
-  abbrev after6 : Outcome
+  abbrev pub after6 : Outcome
   after6 = refusedUnless (eqb length7 (k - step)) (WrongLength 7) Done
 
-  abbrev after3 : Outcome
+  abbrev pub after3 : Outcome
   after3 = refusedUnless (eqb length6 (2 ^ (k - step))) (WrongLength 6) after6
 
-  abbrev after1 : Outcome
+  abbrev pub after1 : Outcome
   after1 = refusedUnless (eqb length3 (2 ^ k)) (WrongLength 3) after3
 
   pub list1-refused : eqb length1 k ≡ false → Refused (WrongLength 1) ≡ lengthsOutcome k step length1 length3 length6 length7
@@ -132,10 +131,6 @@ fitting k step length1 length3 length6 length7 e =
     }
 
 -- ---- all checks
-
-independent-of : (p : Position) → outcomeOfBasis p ≡ Done → p ≡ Absent
-independent-of (At place) e = absurd (refused-not-done (BasisDependent place) e)
-independent-of Absent e = refl
 
 pub record Passed (k step : ℕ) (basis word values next : List ℕ) : Type 0 where
   pub ranges : InRange k step

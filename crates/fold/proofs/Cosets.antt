@@ -16,7 +16,7 @@ use Rattle.coset.specs.Coset.{point, tabulated}
 use Rattle.coset.proofs.Points.{length-tabulated, getD-tabulated, tabulated-agree}
 use Rattle.fold.proofs.Folding.{coset-within}
 use Rattle.fold.specs.declared.halving.Coset.{Coset}
-use Rattle.fold.specs.Halving.{lineAt, halvedPoints, halvedEntries, valueAt, cosetValue, cosetValues}
+use Rattle.fold.specs.Halving.{lineAt, halvedPoints, halvedEntries, valueAt, cosetValue, cosetValues, CosetsFit}
 
 abbrev pub coset : List ℕ → List ℕ → ℕ → Coset
 coset points entries count = record { points = points; entries = entries; count = count }
@@ -138,13 +138,14 @@ pub record Part (j m whole : ℕ) : Type 0 where
   pub small : j * m + m ≤ 8388608
   pub eight : m ≤ 8
 
-pub part-of : (j m n i k whole : ℕ) → j < n → n ≡ 2 ^ k → k ≤ 20 → m ≡ 2 ^ i → i ≤ 3 → whole ≡ n * m → Part j m whole
-part-of j m n i k whole h e l f u w =
-    let many : n ≤ 1048576 = subst (λ (s : ℕ). s ≤ 1048576) (sym e) (pow-mono {i = k} {j = 20} l) in
-    let few : m ≤ 8 = subst (λ (s : ℕ). s ≤ 8) (sym f) (pow-mono {i = i} {j = 3} u) in
-    let within = coset-within j n m h in
+pub part-of : {inverses images span upper word values : List ℕ} → CosetsFit inverses images span upper word values
+    → (j : ℕ) → j < length values → Part j (length span) (length word)
+part-of {inverses} {images} {span} {upper} {word} {values} f j h =
+    let many : length values ≤ 1048576 = subst (λ (s : ℕ). s ≤ 1048576) (sym (f .values-fit)) (pow-mono {i = length upper} {j = 20} (f .upper-fits)) in
+    let few : length span ≤ 8 = subst (λ (s : ℕ). s ≤ 8) (sym (f .span-fits)) (pow-mono {i = length inverses} {j = 3} (f .few)) in
+    let within = coset-within j (length values) (length span) h in
     record {
-      within = subst (λ (s : ℕ). j * m + m ≤ s) (sym w) within;
+      within = subst (λ (s : ℕ). j * length span + length span ≤ s) (sym (f .word-fits)) within;
       small = le-trans within (mul-le-mul many few);
       eight = few;
     }

@@ -44,16 +44,15 @@ unfolding encoded
 encoded-elements offset basis p ho hb hp =
     values-elements gf64 IsElement gf64-laws p (points offset basis) hp (points-elements offset basis ho hb)
 
--- a part of a list as a table of its entries
+-- a list, and so a part of it, as a table of its entries
+list-tabulated : (xs : List ℕ) → tabulated (λ i. getD xs i 0) 0 (length xs) ≡ xs
+list-tabulated xs =
+    ext-getD 0 (tabulated (λ i. getD xs i 0) 0 (length xs)) xs (length-tabulated (λ i. getD xs i 0) 0 (length xs))
+    (λ i l. getD-tabulated (λ n. getD xs n 0) 0 (length xs) i (omega (arith, length-tabulated (λ i. getD xs i 0) 0 (length xs))) ∙ ap (λ (n : ℕ). getD xs n 0) (zero-add i))
+
 entries-tabulated : (xs : List ℕ) (from count : ℕ) → from + count ≤ length xs → tabulated (λ i. getD xs i 0) from count ≡ take count (drop from xs)
 entries-tabulated xs from count h =
-    ext-getD 0 (tabulated (λ i. getD xs i 0) from count) (take count (drop from xs))
-    (length-tabulated (λ i. getD xs i 0) from count ∙ sym (length-take-le count (drop from xs) (omega (arith, length-drop from xs))))
-    (λ i l. at i (omega (arith, length-tabulated (λ i. getD xs i 0) from count)))
-  where
-    at : (i : ℕ) → i < count → getD (tabulated (λ i. getD xs i 0) from count) i 0 ≡ getD (take count (drop from xs)) i 0
-    at i l =
-        getD-tabulated (λ n. getD xs n 0) from count i l ∙ sym (getD-take count (drop from xs) i 0 l ∙ getD-drop from xs i 0)
+    sym (tabulated-part (λ i. getD xs i 0) from count (length xs) h) ∙ ap (λ (l : List ℕ). take count (drop from l)) (list-tabulated xs)
 
 module _ (step offset : ℕ) (basis word : List ℕ) (w : IsWord offset basis word) (fits : step ≤ length basis) where
   -- the word's interpolant

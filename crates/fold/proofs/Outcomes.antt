@@ -152,28 +152,26 @@ other-all k step basis word values next h =
     lengths : Outcome
     lengths = lengthsOutcome k step (length basis) (length word) (length values) (length next)
 
-    small : Outcome
-    small = refusedUnless (leb step k) DimensionTooSmall Done
-
     ranges-other : Other (rangesOutcome k step)
     ranges-other =
-        other-unless (leb 2 k && leb k 20) DimensionOutOfRange (refusedUnless (leb 1 step && leb step 3) StepOutOfRange small) (omega arith)
-        (other-unless (leb 1 step && leb step 3) StepOutOfRange small (omega arith) (other-unless (leb step k) DimensionTooSmall Done (omega arith) (omega arith)))
-
-    last : Outcome
-    last = refusedUnless (eqb (length next) (k - step)) (WrongLength 7) Done
-
-    after3 : Outcome
-    after3 = refusedUnless (eqb (length values) (2 ^ (k - step))) (WrongLength 6) last
+        other-unless (leb 2 k && leb k 20) DimensionOutOfRange (checks.stepChecked k step) (omega arith)
+        (other-unless (leb 1 step && leb step 3) StepOutOfRange (checks.smallEnough k step) (omega arith)
+        (other-unless (leb step k) DimensionTooSmall Done (omega arith) (omega arith)))
 
     after1 : Outcome
-    after1 = refusedUnless (eqb (length word) (2 ^ k)) (WrongLength 3) after3
+    after1 = checks.after1 k step (length basis) (length word) (length values) (length next)
+
+    after3 : Outcome
+    after3 = checks.after3 k step (length basis) (length word) (length values) (length next)
+
+    after6 : Outcome
+    after6 = checks.after6 k step (length basis) (length word) (length values) (length next)
 
     lengths-other : Other lengths
     lengths-other =
         other-unless (eqb (length basis) k) (WrongLength 1) after1 (omega arith)
         (other-unless (eqb (length word) (2 ^ k)) (WrongLength 3) after3 (omega arith)
-        (other-unless (eqb (length values) (2 ^ (k - step))) (WrongLength 6) last (omega arith)
+        (other-unless (eqb (length values) (2 ^ (k - step))) (WrongLength 6) after6 (omega arith)
         (other-unless (eqb (length next) (k - step)) (WrongLength 7) Done (omega arith) (omega arith))))
 
 same-number : (outcome : Outcome) (offset : ℕ) → numberOfFolded (answerOf outcome offset) ≡ numberOfOutcome outcome

@@ -1,7 +1,8 @@
 -- How the value of a coset's interpolant at a challenge is computed: the coset is halved until one entry is left. Only inner functions cite
 -- this, and the theorem `Halvings`.
+use mathlib.Core.Path.{_≡_}
 use mathlib.Core.List.{List, [], _∷_, map}
-use Prim.Native.Nat.{ℕ, suc, _*_, _^_}
+use Prim.Native.Nat.{ℕ, suc, _*_, _^_, _≤_}
 use lib.ListN.{length, getD, take, drop}
 use Rattle.gf64.specs.Field.{sum, product}
 use Rattle.coset.specs.Coset.{point, tabulated}
@@ -35,3 +36,13 @@ cosetValue inverses images span offset upper word j =
 -- the values of all cosets
 unfoldable pub cosetValues : List ℕ → List ℕ → List ℕ → ℕ → List ℕ → List ℕ → List ℕ
 cosetValues inverses images span offset upper word = tabulated (cosetValue inverses images span offset upper word) 0 (2 ^ length upper)
+
+-- what they are computed from: an inverse and an image for each map of the step, its span, and a word with one coset for each value
+pub record CosetsFit (inverses images span upper word values : List ℕ) : Type 0 where
+  pub some : 1 ≤ length inverses
+  pub few : length inverses ≤ 3
+  pub images-fit : length images ≡ length inverses
+  pub span-fits : length span ≡ 2 ^ length inverses
+  pub upper-fits : length upper ≤ 20
+  pub values-fit : length values ≡ 2 ^ length upper
+  pub word-fits : length word ≡ length values * length span

@@ -8,7 +8,7 @@ use refusal::Outcome;
 use refusal::Position;
 ghost use mathlib.Core.Path.{_≡_};
 ghost use mathlib.Core.List.{map};
-ghost use Prim.Native.Nat.{_*_, _-_, _^_, _≤_};
+ghost use Prim.Native.Nat.{_-_, _^_, _≤_};
 ghost use lib.ListN.{length};
 ghost use Rattle.gf64.specs.Field.{inverse};
 ghost use Rattle.poly.specs.Carrier.{gf64};
@@ -19,7 +19,7 @@ ghost use Rattle.coset.specs.Span.{firstDependent, Independent};
 ghost use Rattle.coset.specs.Subspace.{nextOffset, nextBasis};
 ghost use Rattle.coset.specs.Steps.{stepElements};
 ghost use Rattle.fold.specs.Fold.{folded};
-ghost use Rattle.fold.specs.Halving.{cosetValues};
+ghost use Rattle.fold.specs.Halving.{cosetValues, CosetsFit};
 ghost use Rattle.fold.specs.Answers.{rangesOutcome, lengthsOutcome, outcomeOfNextBasis, basesOutcome, foldAnswer, foldValuesAfter, nextBasisAfter};
 
 // What a fold answers.
@@ -216,9 +216,7 @@ fn fill_cosets(
     word: &[u64],
     values: &mut [u64],
 )
-    requires { ⌜ (1 ≤ length (now inverses)) × (length (now inverses) ≤ 3) × (length (now images) ≡ length (now inverses))
-        × (length (now span) ≡ 2 ^ length (now inverses)) × (length (now upper) ≤ 20) × (length (now values) ≡ 2 ^ length (now upper))
-        × (length (now word) ≡ length (now values) * length (now span)) ⌝ }
+    requires { ⌜ CosetsFit (now inverses) (now images) (now span) (now upper) (now word) (now values) ⌝ }
     ensures { λ _. ⌜ now (values .exit) ≡ cosetValues (now (inverses .entry)) (now (images .entry)) (now (span .entry)) (offset .0) (now (upper .entry)) (now (word .entry)) ⌝ }
 {
     let sums = coset::prefix_sums(upper);

@@ -1,5 +1,5 @@
 -- The order of the refusals, one check after the other, and what holds where all have passed. Assumes nothing.
-use mathlib.Core.Path.{_≡_, refl, sym, ap, ap₂, _∙_}
+use mathlib.Core.Path.{_≡_, refl, sym, ap, _∙_}
 use mathlib.Core.Bool.{Bool, true, false, cond}
 use mathlib.Core.List.{List}
 use Prim.Native.Nat.{ℕ, _^_, _≤_, _<_}
@@ -7,44 +7,40 @@ use lib.Dec.{leb}
 use lib.ListN.{length}
 use borrow.Author.Tests.{le-leb, lt-leb}
 use Rattle.refusal.specs.declared.Cause.{Cause}
-use Rattle.refusal.specs.declared.Cause.the-variants.{DimensionOutOfRange, BasisDependent, WrongLength}
+use Rattle.refusal.specs.declared.Cause.the-variants.{DimensionOutOfRange, WrongLength}
 use Rattle.refusal.specs.declared.Outcome.{Outcome}
 use Rattle.refusal.specs.declared.Outcome.the-variants.{Done, Refused}
-use Rattle.refusal.specs.declared.Position.{Position}
-use Rattle.refusal.specs.declared.Position.the-variants.{At, Absent}
 use Rattle.coset.specs.Span.{firstDependent, Independent}
-use Rattle.refusal.specs.Checks.{afterwards}
-use Rattle.refusal.proofs.Checks.{le-of-test, refused-not-done, done-holds, refused-holds}
+use Rattle.refusal.specs.Checks.{refusedUnless, afterwards}
+use Rattle.refusal.proofs.Checks.{le-of-test, passed-by, refused-by, unless-done, done-holds, refused-holds}
+use Rattle.coset.proofs.Independence.{independent-of}
 use Rattle.coset.specs.Answers.{outcomeOfBasis}
 use Rattle.reed_solomon.specs.Answers.{checked}
 
--- the checks as a function of their results
-unfoldable picked : Bool → Bool → Bool → Outcome → Outcome
-picked k fits3 fits6 rest = cond k (cond fits3 (cond fits6 rest (Refused (WrongLength 6))) (Refused (WrongLength 3))) (Refused DimensionOutOfRange)
-
 module _ (basis : List ℕ) (fits3 fits6 : Bool) where
+  abbrev after3 : Outcome
+  after3 = refusedUnless fits6 (WrongLength 6) (outcomeOfBasis (firstDependent basis))
+
+  abbrev lists : Outcome
+  lists = refusedUnless fits3 (WrongLength 3) after3
+
   pub dimension-refused : 12 < length basis → Refused DimensionOutOfRange ≡ checked basis fits3 fits6
-  unfolding picked
-  dimension-refused h = sym (ap (λ (k : Bool). picked k fits3 fits6 (outcomeOfBasis (firstDependent basis))) (lt-leb (length basis) 12 h))
+  dimension-refused h = refused-by (leb (length basis) 12) DimensionOutOfRange lists (lt-leb (length basis) 12 h)
+
+  dimension-passed : length basis ≤ 12 → lists ≡ checked basis fits3 fits6
+  dimension-passed h = passed-by (leb (length basis) 12) DimensionOutOfRange lists (le-leb (length basis) 12 h)
 
   pub list3-refused : length basis ≤ 12 → fits3 ≡ false → Refused (WrongLength 3) ≡ checked basis fits3 fits6
-  unfolding picked
-  list3-refused h e =
-      sym (ap₂ (λ (k a : Bool). picked k a fits6 (outcomeOfBasis (firstDependent basis))) (le-leb (length basis) 12 h) e)
+  list3-refused h e = refused-by fits3 (WrongLength 3) after3 e ∙ dimension-passed h
+
+  list3-passed : length basis ≤ 12 → fits3 ≡ true → after3 ≡ checked basis fits3 fits6
+  list3-passed h e = passed-by fits3 (WrongLength 3) after3 e ∙ dimension-passed h
 
   pub list6-refused : length basis ≤ 12 → fits3 ≡ true → fits6 ≡ false → Refused (WrongLength 6) ≡ checked basis fits3 fits6
-  unfolding picked
-  list6-refused h e f =
-      sym
-      (ap₂ (λ (k a : Bool). picked k a fits6 (outcomeOfBasis (firstDependent basis))) (le-leb (length basis) 12 h) e
-      ∙ ap (λ (b : Bool). picked true true b (outcomeOfBasis (firstDependent basis))) f)
+  list6-refused h e f = refused-by fits6 (WrongLength 6) (outcomeOfBasis (firstDependent basis)) f ∙ list3-passed h e
 
   pub basis-looked-at : length basis ≤ 12 → fits3 ≡ true → fits6 ≡ true → outcomeOfBasis (firstDependent basis) ≡ checked basis fits3 fits6
-  unfolding picked
-  basis-looked-at h e f =
-      sym
-      (ap₂ (λ (k a : Bool). picked k a fits6 (outcomeOfBasis (firstDependent basis))) (le-leb (length basis) 12 h) e
-      ∙ ap (λ (b : Bool). picked true true b (outcomeOfBasis (firstDependent basis))) f)
+  basis-looked-at h e f = passed-by fits6 (WrongLength 6) (outcomeOfBasis (firstDependent basis)) f ∙ list3-passed h e
 
 -- where all have passed
 pub record Passed (basis : List ℕ) (fits3 fits6 : Bool) : Type 0 where
@@ -54,28 +50,26 @@ pub record Passed (basis : List ℕ) (fits3 fits6 : Bool) : Type 0 where
   pub independent : Independent basis
 
 pub passed : (basis : List ℕ) (fits3 fits6 : Bool) → checked basis fits3 fits6 ≡ Done → Passed basis fits3 fits6
-unfolding picked
-passed basis fits3 fits6 e = by (leb (length basis) 12) fits3 fits6 (firstDependent basis) refl refl refl refl e
-  where
-    by : (k a b : Bool) (p : Position) → leb (length basis) 12 ≡ k → fits3 ≡ a → fits6 ≡ b → firstDependent basis ≡ p
-        → picked k a b (outcomeOfBasis p) ≡ Done → Passed basis fits3 fits6
-    by false a b p ek ea eb ep d = absurd (refused-not-done DimensionOutOfRange d)
-    by true false b p ek ea eb ep d = absurd (refused-not-done (WrongLength 3) d)
-    by true true false p ek ea eb ep d = absurd (refused-not-done (WrongLength 6) d)
-    by true true true (At place) ek ea eb ep d = absurd (refused-not-done (BasisDependent place) d)
-    by true true true Absent ek ea eb ep d =
-        record { small = le-of-test (length basis) 12 ek; list3 = ea; list6 = eb; independent = ep }
+passed basis fits3 fits6 e =
+    let first = unless-done (leb (length basis) 12) DimensionOutOfRange (lists basis fits3 fits6) e in
+    let second = unless-done fits3 (WrongLength 3) (after3 basis fits3 fits6) (first .1) in
+    let third = unless-done fits6 (WrongLength 6) (outcomeOfBasis (firstDependent basis)) (second .1) in
+    record {
+      small = le-of-test (length basis) 12 (first .0);
+      list3 = second .0;
+      list6 = third .0;
+      independent = independent-of (firstDependent basis) (third .1);
+    }
 
 -- the code's size is 2^k, or 0 where k is refused anyway: so the tests of the lengths may take it
 pub answered-by-size : (basis : List ℕ) (fits3 fits6 : ℕ → Bool) (size : ℕ) (answer : Outcome) → size ≡ cond (leb (length basis) 12) (2 ^ length basis) 0
     → answer ≡ checked basis (fits3 size) (fits6 size) → checked basis (fits3 (2 ^ length basis)) (fits6 (2 ^ length basis)) ≡ answer
-unfolding picked
 answered-by-size basis fits3 fits6 size answer e a =
     sym (a ∙ ap (λ (n : ℕ). checked basis (fits3 n) (fits6 n)) e ∙ by (leb (length basis) 12))
   where
     by : (k : Bool)
-        → picked k (fits3 (cond k (2 ^ length basis) 0)) (fits6 (cond k (2 ^ length basis) 0)) (outcomeOfBasis (firstDependent basis))
-        ≡ picked k (fits3 (2 ^ length basis)) (fits6 (2 ^ length basis)) (outcomeOfBasis (firstDependent basis))
+        → refusedUnless k DimensionOutOfRange (lists basis (fits3 (cond k (2 ^ length basis) 0)) (fits6 (cond k (2 ^ length basis) 0)))
+        ≡ refusedUnless k DimensionOutOfRange (lists basis (fits3 (2 ^ length basis)) (fits6 (2 ^ length basis)))
     by true = refl
     by false = refl
 

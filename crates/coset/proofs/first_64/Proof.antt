@@ -8,8 +8,7 @@ use borrow.Author.Needs.{needs}
 use native.Mathlib.Omega.{arith}
 use Rattle.poly.specs.Carrier.{gf64}
 use Rattle.poly.specs.Polynomial.{padded}
-use Rattle.poly.proofs.Evaluation.{length-padded}
-use Rattle.poly.proofs.Filling.{filled, filled-start, filled-next, filled-padded, getD-padded}
+use Rattle.poly.proofs.Filling.{filled, filled-start, padded-next, filled-padded}
 use Rattle.coset.proofs.first_64.Statement.{statement}
 use Rattle.coset.proofs.first_64.Tie as tie
 
@@ -52,9 +51,8 @@ loop-again c =
       search needs,
       l .inv .1,
       ap (λ (held : List ℕ). set held (l .i) (getD basis (l .i) 0)) (l .inv .2)
-          ∙ filled-next (padded gf64 64 (take 64 basis)) (replicate 64 0) (l .i) (getD basis (l .i) 0) (omega arith)
-          (length-padded gf64 64 (take 64 basis) (omega (arith, length-take 64 basis)))
-          (sym (getD-padded 64 (take 64 basis) (l .i) ∙ getD-take 64 basis (l .i) 0 (omega arith))),
+          ∙ padded-next 64 (take 64 basis) (l .i) (getD basis (l .i) 0) (omega (arith, length-take 64 basis, l .inv .1)) (omega (arith, length-take 64 basis))
+          (sym (getD-take 64 basis (l .i) 0 (omega arith))),
     )
 
 returns : tie.Need-returns Inv-loop μ-loop

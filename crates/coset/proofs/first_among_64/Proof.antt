@@ -1,6 +1,6 @@
 -- `coset::first_among_64` meets its contract. The loop's invariant: the definition from place on, over what is left of the rows, is the
 -- definition over the first 64 elements. Assumes nothing.
-use mathlib.Core.Path.{_≡_, sym, ap, ap₂, _∙_}
+use mathlib.Core.Path.{_≡_, sym, ap, _∙_}
 use mathlib.Core.List.{List}
 use Prim.Native.Nat.{ℕ, _+_, _-_, _≤_, min}
 use lib.ListN.{length, take, getD, length-take, length-map}
@@ -11,7 +11,7 @@ use native.Mathlib.Omega.{arith}
 use Rattle.poly.specs.Carrier.{gf64}
 use Rattle.poly.specs.Polynomial.{padded}
 use Rattle.poly.proofs.Evaluation.{length-padded}
-use Rattle.poly.proofs.Filling.{take-padded}
+use Rattle.poly.proofs.Filling.{padded-taken}
 use Rattle.coset.specs.Span.{firstDependent}
 use Rattle.coset.specs.Elimination.{cleared}
 use Rattle.coset.proofs.FirstPlace.{from, row-zero, row-next, rows-end}
@@ -20,11 +20,7 @@ use Rattle.coset.proofs.first_among_64.Tie as tie
 
 -- the first `count` rows are the first 64 elements
 take-rows : (basis rows : List ℕ) (count : ℕ) → count ≡ min (length basis) 64 → rows ≡ padded gf64 64 (take 64 basis) → take count rows ≡ take 64 basis
-take-rows basis rows count many copied =
-    ap₂ (λ (n : ℕ) (l : List ℕ). take n l) counted copied ∙ take-padded 64 (take 64 basis)
-  where
-    counted : count ≡ length (take 64 basis)
-    counted = omega (arith, length-take 64 basis)
+take-rows basis rows count many copied = padded-taken 64 count (take 64 basis) rows copied (omega (arith, length-take 64 basis))
 
 abbrev Inv-loop : tie.InvT-loop
 Inv-loop basis count rows₀ place₀ rows place =

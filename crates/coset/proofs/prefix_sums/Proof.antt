@@ -9,8 +9,7 @@ use borrow.Author.Needs.{needs}
 use native.Mathlib.Omega.{arith}
 use Rattle.poly.specs.Carrier.{gf64}
 use Rattle.poly.specs.Polynomial.{padded}
-use Rattle.poly.proofs.Evaluation.{length-padded}
-use Rattle.poly.proofs.Filling.{filled, filled-start, filled-next, filled-padded, getD-padded}
+use Rattle.poly.proofs.Filling.{filled, filled-start, padded-next, filled-padded}
 use Rattle.coset.specs.Sequence.{prefixSums}
 use Rattle.coset.proofs.Sequence.{length-prefixSums, prefixSums-taken}
 use Rattle.coset.proofs.prefix_sums.Statement.{statement}
@@ -58,9 +57,8 @@ loop-again c =
       l .inv .1,
       is-next ∙ ap (λ (n : ℕ). getD (0 ∷ prefixSums 0 (take 20 basis)) n 0) (sym (add-one (l .t))),
       ap (λ (held : List ℕ). set held (l .t) next) (l .inv .3)
-          ∙ filled-next (padded gf64 20 (prefixSums 0 (take 20 basis))) (replicate 20 0) (l .t) next (omega arith)
-          (length-padded gf64 20 (prefixSums 0 (take 20 basis)) (omega (arith, length-prefixSums 0 (take 20 basis), length-take 20 basis)))
-          (is-next ∙ sym (getD-padded 20 (prefixSums 0 (take 20 basis)) (l .t))),
+          ∙ padded-next 20 (prefixSums 0 (take 20 basis)) (l .t) next (omega (arith, length-prefixSums 0 (take 20 basis), length-take 20 basis, l .inv .1))
+          (omega (arith, length-prefixSums 0 (take 20 basis), length-take 20 basis)) is-next,
     )
 
 returns : tie.Need-returns Inv-loop μ-loop

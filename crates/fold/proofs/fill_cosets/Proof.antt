@@ -49,28 +49,22 @@ loop-holds c =
 mul-start : tie.Need-mul-start Inv-loop μ-loop
 mul-start c =
     let start = c .before .before .before .before .before .before .before .before .before in
-    let a = start .args in
     let l = c .before .loop in
-    let inside : l .j < length (a .values .now) = omega (arith, l .inv .2) in
-    let part = part-of (l .j) (length (a .span .now)) (length (a .values .now)) (length (a .inverses .now)) (length (a .upper .now)) (length (a .word .now)) inside (start .pre .5) (start .pre .4) (start .pre .3) (start .pre .1) (start .pre .6) in
+    let part = part-of (start .pre) (l .j) (omega (arith, l .inv .2)) in
     omega (arith, part .small)
 
 add-read : tie.Need-add-read Inv-loop μ-loop
 add-read c =
     let start = c .before .before .before .before .before .before .before .before .before in
-    let a = start .args in
     let l = c .before .loop in
-    let inside : l .j < length (a .values .now) = omega (arith, l .inv .2) in
-    let part = part-of (l .j) (length (a .span .now)) (length (a .values .now)) (length (a .inverses .now)) (length (a .upper .now)) (length (a .word .now)) inside (start .pre .5) (start .pre .4) (start .pre .3) (start .pre .1) (start .pre .6) in
+    let part = part-of (start .pre) (l .j) (omega (arith, l .inv .2)) in
     omega (arith, part .small)
 
 mul-read : tie.Need-mul-read Inv-loop μ-loop
 mul-read c =
     let start = c .before .before .before .before .before .before .before .before .before in
-    let a = start .args in
     let l = c .before .loop in
-    let inside : l .j < length (a .values .now) = omega (arith, l .inv .2) in
-    let part = part-of (l .j) (length (a .span .now)) (length (a .values .now)) (length (a .inverses .now)) (length (a .upper .now)) (length (a .word .now)) inside (start .pre .5) (start .pre .4) (start .pre .3) (start .pre .1) (start .pre .6) in
+    let part = part-of (start .pre) (l .j) (omega (arith, l .inv .2)) in
     omega (arith, part .small)
 
 sub-read : tie.Need-sub-read Inv-loop μ-loop
@@ -82,10 +76,8 @@ part-read-start c = search needs
 part-read-end : tie.Need-part-read-end Inv-loop μ-loop
 part-read-end c =
     let start = c .before .before .before .before .before .before .before .before .before in
-    let a = start .args in
     let l = c .before .loop in
-    let inside : l .j < length (a .values .now) = omega (arith, l .inv .2) in
-    let part = part-of (l .j) (length (a .span .now)) (length (a .values .now)) (length (a .inverses .now)) (length (a .upper .now)) (length (a .word .now)) inside (start .pre .5) (start .pre .4) (start .pre .3) (start .pre .1) (start .pre .6) in
+    let part = part-of (start .pre) (l .j) (omega (arith, l .inv .2)) in
     part .within
 
 read-requires : tie.Need-read-requires Inv-loop μ-loop
@@ -93,14 +85,13 @@ read-requires c κs =
     let start = c .before .before .before .before .before .before .before .before .before .before in
     let a = start .args in
     let l = c .before .before .loop in
-    let inside : l .j < length (a .values .now) = omega (arith, l .inv .2) in
-    let part = part-of (l .j) (length (a .span .now)) (length (a .values .now)) (length (a .inverses .now)) (length (a .upper .now)) (length (a .word .now)) inside (start .pre .5) (start .pre .4) (start .pre .3) (start .pre .1) (start .pre .6) in
+    let part = part-of (start .pre) (l .j) (omega (arith, l .inv .2)) in
     (part .eight, length-part (length (a .span .now)) (l .j * length (a .span .now)) (a .word .now) (part .within))
 
 value-at-requires : tie.Need-value-at-requires Inv-loop μ-loop
 value-at-requires c κs =
     let start = c .before .before .before .before .before .before .before .before .before .before .before in
-    (start .pre .0, start .pre .1, start .pre .2, ap (λ (r : Coset). r .count) (c .read .ensures) ∙ start .pre .3)
+    (start .pre .some, start .pre .few, start .pre .images-fit, ap (λ (r : Coset). r .count) (c .read .ensures) ∙ start .pre .span-fits)
 
 mul-values : tie.Need-mul-values Inv-loop μ-loop
 mul-values c = search needs
@@ -132,17 +123,17 @@ loop-again c =
       search needs,
       ap (λ (held : List ℕ). set held (l .j) value) (l .inv .1)
           ∙ filled-next target (a .values .now) (l .j) value inside
-          (length-cosetValues (a .inverses .now) (a .images .now) (a .span .now) (a .offset .0) (a .upper .now) (a .word .now) ∙ sym (start .pre .5))
+          (length-cosetValues (a .inverses .now) (a .images .now) (a .span .now) (a .offset .0) (a .upper .now) (a .word .now) ∙ sym (start .pre .values-fit))
           (c .before .before .value-at .ensures
           ∙ ap (λ (r : Coset). valueAt (a .inverses .now) (a .images .now) (r .points) (r .entries)) (c .before .before .before .read .ensures)
           ∙ cosetValue-is (a .inverses .now) (a .images .now) (a .span .now) (a .offset .0) (a .upper .now) (a .word .now) (l .j) (l .first .0)
           (take (l .j * m + m - l .j * m) (drop (l .j * m) (a .word .now))) (l .inv .3 inside)
           (ap (λ (n : ℕ). take n (drop (l .j * m) (a .word .now))) (back (l .j * m) m))
-          ∙ sym (cosetValues-at (a .inverses .now) (a .images .now) (a .span .now) (a .offset .0) (a .upper .now) (a .word .now) (l .j) (omega (arith, start .pre .5)))),
+          ∙ sym (cosetValues-at (a .inverses .now) (a .images .now) (a .span .now) (a .offset .0) (a .upper .now) (a .word .now) (l .j) (omega (arith, start .pre .values-fit)))),
       length-set (l .values) (l .j) value ∙ l .inv .2,
       λ h. c .stepped .ensures
           ∙ ap (λ (sums : List ℕ). sum (l .first .0) (getD sums (trailingZeros 64 (l .j + 1)) 0)) (c .before .before .before .before .before .before .before .prefix-sums .ensures)
-          ∙ point-stepped (a .offset .0) (a .upper .now) (l .j) (l .first .0) (start .pre .4) (l .inv .3 inside) (omega (arith, start .pre .5)),
+          ∙ point-stepped (a .offset .0) (a .upper .now) (l .j) (l .first .0) (start .pre .upper-fits) (l .inv .3 inside) (omega (arith, start .pre .values-fit)),
     )
 
 same-length : tie.Need-same-length Inv-loop μ-loop
@@ -155,7 +146,7 @@ returns c =
     let l = c .before .loop in
     l .inv .1
     ∙ filled-all (cosetValues (a .inverses .now) (a .images .now) (a .span .now) (a .offset .0) (a .upper .now) (a .word .now)) (a .values .now) (l .j) (omega (arith, l .inv .2))
-    (length-cosetValues (a .inverses .now) (a .images .now) (a .span .now) (a .offset .0) (a .upper .now) (a .word .now) ∙ sym (start .pre .5))
+    (length-cosetValues (a .inverses .now) (a .images .now) (a .span .now) (a .offset .0) (a .upper .now) (a .word .now) ∙ sym (start .pre .values-fit))
 
 pub fill-cosets-spec : {M : Type 1} → statement M
 fill-cosets-spec =

@@ -119,15 +119,16 @@ fill-cosets-requires c κs =
     let others = mid-suffix step (a .basis .now) in
     let some = length-take-le step (c .before .before .before .before .before .before .before .before .inverses-of .result) (omega (arith, start .pre .1, ap length (ready .inverted) ∙ length-padded gf64 3 (map inverse (a .elements .now)) (omega (arith, start .pre .1, length-map (a .elements .now) inverse)))) in
     let behind : length (take (length (a .basis .now) - step) (drop step (a .basis .now))) ≡ length (a .basis .now) - step = ap length others ∙ length-drop step (a .basis .now) in
-    let count = length-span-taken (a .elements .now) (a .basis .now) (c .before .before .before .before .before .before .before .before .inverses-of .result) (c .before .before .before .before .before .before .before .images-before .result) (c .before .before .before .before .before .span-of .result) (a .challenge .0) (1 * 2 ^ step % 2 ^ 64) ready in (
-      omega (arith, some, start .pre .0),
-      omega (arith, some, start .pre .1),
-      ap length (challenges-taken (a .elements .now) (a .basis .now) (c .before .before .before .before .before .before .before .before .inverses-of .result) (c .before .before .before .before .before .before .before .images-before .result) (c .before .before .before .before .before .span-of .result) (a .challenge .0) (1 * 2 ^ step % 2 ^ 64) ready) ∙ length-before (a .elements .now) (a .challenge .0) ∙ sym some,
-      count ∙ ap (λ (n : ℕ). 2 ^ n) (sym some),
-      omega (arith, behind, start .pre .3),
-      start .pre .7 ∙ ap (λ (n : ℕ). 2 ^ n) (sym behind),
-      start .pre .6 ∙ sym (cosets-of step (length (a .basis .now)) (start .pre .2)) ∙ sym (ap₂ (λ (m n : ℕ). m * n) (start .pre .7) count),
-    )
+    let count = length-span-taken (a .elements .now) (a .basis .now) (c .before .before .before .before .before .before .before .before .inverses-of .result) (c .before .before .before .before .before .before .before .images-before .result) (c .before .before .before .before .before .span-of .result) (a .challenge .0) (1 * 2 ^ step % 2 ^ 64) ready in
+    record {
+      some = omega (arith, some, start .pre .0);
+      few = omega (arith, some, start .pre .1);
+      images-fit = ap length (challenges-taken (a .elements .now) (a .basis .now) (c .before .before .before .before .before .before .before .before .inverses-of .result) (c .before .before .before .before .before .before .before .images-before .result) (c .before .before .before .before .before .span-of .result) (a .challenge .0) (1 * 2 ^ step % 2 ^ 64) ready) ∙ length-before (a .elements .now) (a .challenge .0) ∙ sym some;
+      span-fits = count ∙ ap (λ (n : ℕ). 2 ^ n) (sym some);
+      upper-fits = omega (arith, behind, start .pre .3);
+      values-fit = start .pre .7 ∙ ap (λ (n : ℕ). 2 ^ n) (sym behind);
+      word-fits = start .pre .6 ∙ sym (cosets-of step (length (a .basis .now)) (start .pre .2)) ∙ sym (ap₂ (λ (m n : ℕ). m * n) (start .pre .7) count);
+    }
 
 same-length : tie.Need-same-length
 same-length c = search needs
