@@ -28,6 +28,11 @@ module _ {A : Type 0} (P : A → Type 0) where
   all-of h [] = record {}
   all-of h (x ∷ xs) = (h x, all-of h xs)
 
+  pub all-getD : (xs : List A) (i : ℕ) (a : A) → P a → All P xs → P (getD xs i a)
+  all-getD [] i a h all = h
+  all-getD (x ∷ xs) zero a h all = all .0
+  all-getD (x ∷ xs) (suc i) a h all = all-getD xs i a h (all .1)
+
 -- from one predicate to another
 pub all-map : {A B : Type 0} (P : A → Type 0) (Q : B → Type 0) (f : A → B) → ((a : A) → P a → Q (f a)) → (xs : List A) → All P xs → All Q (map f xs)
 all-map P Q f h [] a = record {}

@@ -4,9 +4,9 @@ use mathlib.Core.List.{List, [], _∷_, _++_, append-nil}
 use Prim.Native.Nat.{ℕ, zero, suc, _+_, _-_, _≤_}
 use native.Mathlib.Nat.{sub-self}
 use native.Mathlib.Omega.{arith}
-use lib.ListN.{length, replicate, length-map, length-append, length-replicate}
+use lib.ListN.{length, take, replicate, length-map, length-append, length-replicate}
 use Rattle.poly.specs.Carrier.{Operations, Laws}
-use Rattle.poly.specs.Polynomial.{All, evaluate, plus, scale, padded, timesLinear, Zeros}
+use Rattle.poly.specs.Polynomial.{All, evaluate, plus, scale, padded, timesLinear, Zeros, DegreeBelow}
 use Rattle.poly.proofs.Sums.{sum-zero-r, sum-swap, product-zero-r, product-left-comm, distributive-l}
 use Rattle.poly.proofs.Entries.{all-append, all-replicate}
 
@@ -76,6 +76,13 @@ module _ {A : Type 0} (F : Operations A) (Element : A → Type 0) (L : Laws A F 
   evaluate-zeros [] x z = refl
   evaluate-zeros (c ∷ p) x z =
       ap₂ (λ (b v : A). b ⊕ x ⊗ v) (z .0) (evaluate-zeros p x (z .1)) ∙ L .sum-zero (x ⊗ 𝟘) ∙ product-zero-r F Element L x
+
+  -- coefficients from n on that are zero may be left off
+  pub evaluate-taken : (n : ℕ) (p : List A) (x : A) → DegreeBelow F n p → evaluate F (take n p) x ≡ evaluate F p x
+  unfolding evaluate
+  evaluate-taken zero p x z = sym (evaluate-zeros p x z)
+  evaluate-taken (suc n) [] x z = refl
+  evaluate-taken (suc n) (c ∷ p) x z = ap (λ (v : A). c ⊕ x ⊗ v) (evaluate-taken n p x z)
 
   evaluate-followed : (p : List A) (n : ℕ) (x : A) → evaluate F (p ++ replicate n 𝟘) x ≡ evaluate F p x
   unfolding evaluate

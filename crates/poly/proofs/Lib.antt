@@ -6,6 +6,7 @@ pub mod Interpolation
 pub mod Division
 pub mod Rows
 pub mod Newton
+pub mod Degree
 pub mod Identity
 pub mod Vanishing
 pub mod Combined

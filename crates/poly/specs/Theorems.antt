@@ -8,6 +8,7 @@ use lib.ListN.{length, drop, getD}
 use Rattle.gf64.specs.Field.{IsElement}
 use Rattle.poly.specs.Carrier.{Operations, Laws, gf64}
 use Rattle.poly.specs.Polynomial.{All, Distinct, Zeros, DegreeBelow, evaluate, padded, interpolant, vanishingPolynomial}
+use Rattle.poly.specs.Degree.{degreeBound}
 use Rattle.poly.specs.Rows.{monic, rows, composed}
 use Rattle.poly.specs.Newton.{vanishing}
 
@@ -51,6 +52,10 @@ pub record RowDivision (A : Type 0) (F : Operations A) (Element : A → Type 0) 
   -- rows from N on are zero exactly when the coefficients from N · (degree of q) on are
   pub degrees : (N : ℕ) (q : List A) (n : ℕ) (p : List A) → DegreeBelow F (n * length q) p
       → DegreeBelow F (N * length q) p ↔ All (Zeros F) (drop N (rows F q n p))
+
+-- the degree as a number: it is below n exactly where n is at least its least bound
+pub record Degrees : Type 0 where
+  pub least : (n : ℕ) (p : List ℕ) → DegreeBelow gf64 n p ↔ (degreeBound p ≤ n)
 
 -- for every carrier with the laws of a field of characteristic 2
 pub record OverEveryCarrier : Type 1 where
