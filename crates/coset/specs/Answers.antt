@@ -1,5 +1,6 @@
 -- What is answered where a basis must be independent.
-use Rattle.refusal.specs.declared.Cause.the-variants.{BasisDependent}
+use Prim.Native.Nat.{ℕ}
+use Rattle.refusal.specs.declared.Cause.the-variants.{BasisDependent, LaterBasisDependent}
 use Rattle.refusal.specs.declared.Outcome.{Outcome}
 use Rattle.refusal.specs.declared.Outcome.the-variants.{Done, Refused}
 use Rattle.refusal.specs.declared.Position.{Position}
@@ -9,3 +10,8 @@ use Rattle.refusal.specs.declared.Position.the-variants.{At, Absent}
 abbrev pub outcomeOfBasis : Position → Outcome
 outcomeOfBasis (At place) = Refused (BasisDependent place)
 outcomeOfBasis Absent = Done
+
+-- a dependent basis of a later layer is refused (16) with the round whose fold gives that layer
+abbrev pub outcomeOfLaterBasis : ℕ → Position → Outcome
+outcomeOfLaterBasis round (At place) = Refused (LaterBasisDependent round)
+outcomeOfLaterBasis round Absent = Done

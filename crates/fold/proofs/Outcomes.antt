@@ -1,7 +1,7 @@
 -- Which folds are done, and the numbers, places and rounds of the refusals. Assumes nothing.
 use mathlib.Core.Path.{_≡_, refl, sym, ap, _∙_, subst}
-use mathlib.Core.Logic.{_≢_, _⊎_, _↔_, ⊎-elim}
-use mathlib.Core.Bool.{Bool, true, false, _&&_}
+use mathlib.Core.Logic.{_≢_, _↔_}
+use mathlib.Core.Bool.{true, _&&_}
 use mathlib.Core.List.{List}
 use Prim.Native.Nat.{ℕ, _-_, _^_, _≤_, _<_}
 use native.Mathlib.Omega.{arith}
@@ -16,9 +16,9 @@ use Rattle.refusal.specs.declared.Outcome.{Outcome}
 use Rattle.refusal.specs.declared.Outcome.the-variants.{Done, Refused}
 use Rattle.refusal.specs.declared.Position.{Position}
 use Rattle.refusal.specs.declared.Position.the-variants.{At, Absent}
-use Rattle.refusal.specs.Checks.{refusedUnless, andThen, afterwards}
+use Rattle.refusal.specs.Checks.{andThen, afterwards}
 use Rattle.refusal.specs.Numbers.{numberOf, placeOf, roundOf, numberOfOutcome}
-use Rattle.refusal.proofs.Checks.{both-true, first-false, second-false, then-passed, then-refused}
+use Rattle.refusal.proofs.Checks.{within, outside, number-unless, number-then, then-passed, then-refused}
 use Rattle.coset.specs.Span.{firstDependent, Independent}
 use Rattle.coset.specs.Answers.{outcomeOfBasis}
 use Rattle.coset.specs.Subspace.{nextOffset, nextBasis}
@@ -31,15 +31,10 @@ use Rattle.fold.specs.Theorems.{InRange, Fits, Tells, FoldAccepted, Refu
 use Rattle.fold.proofs.Checks as checks
 
 in-range-k : (k step : ℕ) → InRange k step → (leb 2 k && leb k 20) ≡ true
-in-range-k k step r = both-true (leb 2 k) (leb k 20) (le-leb 2 k (r .0)) (le-leb k 20 (r .1))
+in-range-k k step r = within 2 20 k (r .0) (r .1)
 
 in-range-step : (k step : ℕ) → InRange k step → (leb 1 step && leb step 3) ≡ true
-in-range-step k step r = both-true (leb 1 step) (leb step 3) (le-leb 1 step (r .2)) (le-leb step 3 (r .3))
-
-outside : (low n high : ℕ) → (n < low) ⊎ (high < n) → (leb low n && leb n high) ≡ false
-outside low n high o =
-    ⊎-elim (λ (l : n < low). first-false (leb low n) (leb n high) (lt-leb low n l))
-    (λ (u : high < n). second-false (leb low n) (leb n high) (lt-leb n high u)) o
+in-range-step k step r = within 1 3 step (r .2) (r .3)
 
 module _ (k step : ℕ) (basis word values next : List ℕ) where
   abbrev outcome : Outcome
@@ -123,21 +118,10 @@ dependent-refused step basis place e =
 -- ---- no call is refused with number 16
 
 -- the outcome is one of the others: a refusal whose number is below 16, or done
-Other : Outcome → Type 0
+abbrev Other : Outcome → Type 0
 Other outcome = numberOfOutcome outcome < 16
 
-other-unless : (test : Bool) (cause : Cause) (after : Outcome) → numberOf cause < 16 → Other after → Other (refusedUnless test cause after)
-unfolding Other
-other-unless true cause after c a = a
-other-unless false cause after c a = c
-
-other-then : (first after : Outcome) → Other first → Other after → Other (andThen first after)
-unfolding Other
-other-then Done after f a = a
-other-then (Refused cause) after f a = f
-
 other-bases : (step : ℕ) (basis : List ℕ) → All IsElement basis → Other (basesOutcome step basis)
-unfolding Other
 other-bases step basis h = by (firstDependent basis) refl
   where
     by : (p : Position) → firstDependent basis ≡ p → numberOfOutcome (basesOutcome step basis) < 16
@@ -145,18 +129,17 @@ other-bases step basis h = by (firstDependent basis) refl
     by Absent e = subst (λ (o : Outcome). numberOfOutcome o < 16) (sym (bases-pass step basis h e)) (omega arith)
 
 other-all : (k step : ℕ) (basis word values next : List ℕ) → All IsElement basis → Other (foldOutcome k step basis word values next)
-unfolding Other
 other-all k step basis word values next h =
-    other-then (rangesOutcome k step) (andThen lengths (basesOutcome step basis)) ranges-other (other-then lengths (basesOutcome step basis) lengths-other (other-bases step basis h))
+    number-then (λ n. n < 16) (rangesOutcome k step) (andThen lengths (basesOutcome step basis)) ranges-other (number-then (λ n. n < 16) lengths (basesOutcome step basis) lengths-other (other-bases step basis h))
   where
     lengths : Outcome
     lengths = lengthsOutcome k step (length basis) (length word) (length values) (length next)
 
     ranges-other : Other (rangesOutcome k step)
     ranges-other =
-        other-unless (leb 2 k && leb k 20) DimensionOutOfRange (checks.stepChecked k step) (omega arith)
-        (other-unless (leb 1 step && leb step 3) StepOutOfRange (checks.smallEnough k step) (omega arith)
-        (other-unless (leb step k) DimensionTooSmall Done (omega arith) (omega arith)))
+        number-unless (λ n. n < 16) (leb 2 k && leb k 20) DimensionOutOfRange (checks.stepChecked k step) (omega arith)
+        (number-unless (λ n. n < 16) (leb 1 step && leb step 3) StepOutOfRange (checks.smallEnough k step) (omega arith)
+        (number-unless (λ n. n < 16) (leb step k) DimensionTooSmall Done (omega arith) (omega arith)))
 
     after1 : Outcome
     after1 = checks.after1 k step (length basis) (length word) (length values) (length next)
@@ -169,10 +152,10 @@ other-all k step basis word values next h =
 
     lengths-other : Other lengths
     lengths-other =
-        other-unless (eqb (length basis) k) (WrongLength 1) after1 (omega arith)
-        (other-unless (eqb (length word) (2 ^ k)) (WrongLength 3) after3 (omega arith)
-        (other-unless (eqb (length values) (2 ^ (k - step))) (WrongLength 6) after6 (omega arith)
-        (other-unless (eqb (length next) (k - step)) (WrongLength 7) Done (omega arith) (omega arith))))
+        number-unless (λ n. n < 16) (eqb (length basis) k) (WrongLength 1) after1 (omega arith)
+        (number-unless (λ n. n < 16) (eqb (length word) (2 ^ k)) (WrongLength 3) after3 (omega arith)
+        (number-unless (λ n. n < 16) (eqb (length values) (2 ^ (k - step))) (WrongLength 6) after6 (omega arith)
+        (number-unless (λ n. n < 16) (eqb (length next) (k - step)) (WrongLength 7) Done (omega arith) (omega arith))))
 
 same-number : (outcome : Outcome) (offset : ℕ) → numberOfFolded (answerOf outcome offset) ≡ numberOfOutcome outcome
 same-number Done offset = refl
@@ -180,7 +163,6 @@ same-number (Refused cause) offset = refl
 
 never : (k step offset : ℕ) (basis word values next : List ℕ) → All IsElement basis
     → numberOfFolded (foldAnswer k step offset basis word values next) ≢ 16
-unfolding Other
 never k step offset basis word values next h e =
     not-below
     (subst (λ (n : ℕ). n < 16) (sym (same-number (foldOutcome k step basis word values next) (nextOffset step offset basis)) ∙ e)
@@ -197,11 +179,11 @@ refusals =
     record {
       dimension = λ k step basis word values next o.
           refuses k step basis word values next DimensionOutOfRange
-          (ranges-refuse k step basis word values next DimensionOutOfRange (checks.dimension-refused k step (outside 2 k 20 o)));
+          (ranges-refuse k step basis word values next DimensionOutOfRange (checks.dimension-refused k step (outside 2 20 k o)));
       step = λ k step basis word values next l u o.
           refuses k step basis word values next StepOutOfRange
           (ranges-refuse k step basis word values next StepOutOfRange
-          (checks.step-refused k step (both-true (leb 2 k) (leb k 20) (le-leb 2 k l) (le-leb k 20 u)) (outside 1 step 3 o)));
+          (checks.step-refused k step (within 2 20 k l u) (outside 1 3 step o)));
       too-small = λ k step basis word values next r s.
           refuses k step basis word values next DimensionTooSmall
           (ranges-refuse k step basis word values next DimensionTooSmall

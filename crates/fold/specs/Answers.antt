@@ -4,7 +4,7 @@ use mathlib.Core.List.{List}
 use Prim.Native.Nat.{ℕ, _-_, _^_}
 use lib.Dec.{leb, eqb}
 use lib.ListN.{length}
-use Rattle.refusal.specs.declared.Cause.the-variants.{DimensionOutOfRange, StepOutOfRange, DimensionTooSmall, WrongLength, LaterBasisDependent}
+use Rattle.refusal.specs.declared.Cause.the-variants.{DimensionOutOfRange, StepOutOfRange, DimensionTooSmall, WrongLength}
 use Rattle.refusal.specs.declared.Outcome.{Outcome}
 use Rattle.refusal.specs.declared.Outcome.the-variants.{Done, Refused}
 use Rattle.refusal.specs.declared.Position.{Position}
@@ -12,7 +12,7 @@ use Rattle.refusal.specs.declared.Position.the-variants.{At, Absent}
 use Rattle.refusal.specs.Checks.{refusedUnless, andThen, afterwards}
 use Rattle.refusal.specs.Numbers.{numberOf, placeOf, roundOf}
 use Rattle.coset.specs.Span.{firstDependent}
-use Rattle.coset.specs.Answers.{outcomeOfBasis}
+use Rattle.coset.specs.Answers.{outcomeOfBasis, outcomeOfLaterBasis}
 use Rattle.coset.specs.Subspace.{nextOffset, nextBasis}
 use Rattle.fold.specs.declared.Folded.{Folded}
 use Rattle.fold.specs.declared.Folded.the-variants as answers
@@ -37,8 +37,7 @@ lengthsOutcome k step length1 length3 length6 length7 =
 
 -- a dependent next basis is refused (16), with the round whose fold gives it: a lone fold is round 0
 abbrev pub outcomeOfNextBasis : Position → Outcome
-outcomeOfNextBasis (At place) = Refused (LaterBasisDependent 0)
-outcomeOfNextBasis Absent = Done
+outcomeOfNextBasis next = outcomeOfLaterBasis 0 next
 
 -- the basis (8), then the next one
 abbrev pub basesOutcome : ℕ → List ℕ → Outcome

@@ -1,14 +1,17 @@
 -- Tests, and what checks and lent lists come to where all pass and where one fails. Assumes nothing.
 use mathlib.Core.Path.{_≡_, refl, sym, ap, ap₂, _∙_, subst}
+use mathlib.Core.Logic.{_⊎_, ⊎-elim}
 use mathlib.Core.Bool.{Bool, true, false, cond, not, _&&_}
 use mathlib.Core.List.{List}
-use Prim.Native.Nat.{ℕ, _≤_}
+use Prim.Native.Nat.{ℕ, _≤_, _<_}
 use native.Mathlib.Omega.{arith}
 use lib.Dec.{T, leb, eqb, leb→le, eqb→eq}
+use borrow.Author.Tests.{le-leb, lt-leb}
 use Rattle.refusal.specs.declared.Cause.{Cause}
 use Rattle.refusal.specs.declared.Outcome.{Outcome}
 use Rattle.refusal.specs.declared.Outcome.the-variants.{Done, Refused}
 use Rattle.refusal.specs.Checks.{refusedUnless, andThen, afterwards}
+use Rattle.refusal.specs.Numbers.{numberOf, numberOfOutcome}
 
 pub not-true : (a : Bool) → not a ≡ true → a ≡ false
 not-true true e = sym e
@@ -56,6 +59,18 @@ pub then-done : (first after : Outcome) → andThen first after ≡ Done → (fi
 then-done Done after e = (refl, e)
 then-done (Refused cause) after e = absurd (refused-not-done cause e)
 
+-- ---- what holds of every number that checks may give
+
+pub number-unless : (P : ℕ → Type 0) (test : Bool) (cause : Cause) (after : Outcome) → P (numberOf cause) → P (numberOfOutcome after)
+    → P (numberOfOutcome (refusedUnless test cause after))
+number-unless P true cause after c a = a
+number-unless P false cause after c a = c
+
+pub number-then : (P : ℕ → Type 0) (first after : Outcome) → P (numberOfOutcome first) → P (numberOfOutcome after)
+    → P (numberOfOutcome (andThen first after))
+number-then P Done after f a = a
+number-then P (Refused cause) after f a = f
+
 -- ---- two tests in one
 
 pub both-true : (a b : Bool) → a ≡ true → b ≡ true → (a && b) ≡ true
@@ -71,3 +86,17 @@ second-false false b e = refl
 pub each-true : (a b : Bool) → (a && b) ≡ true → (a ≡ true) × (b ≡ true)
 each-true true b e = (refl, e)
 each-true false b e = absurd (let impossible : _≡_ {A = ℕ} 0 1 = ap (λ (t : Bool). cond t 1 0) e in omega arith)
+
+-- a number in a range
+pub within : (least most n : ℕ) → least ≤ n → n ≤ most → (leb least n && leb n most) ≡ true
+within least most n l m = both-true (leb least n) (leb n most) (le-leb least n l) (le-leb n most m)
+
+pub within-of : (least most n : ℕ) → (leb least n && leb n most) ≡ true → (least ≤ n) × (n ≤ most)
+within-of least most n e =
+    let both = each-true (leb least n) (leb n most) e in
+    (le-of-test least n (both .0), le-of-test n most (both .1))
+
+pub outside : (least most n : ℕ) → (n < least) ⊎ (most < n) → (leb least n && leb n most) ≡ false
+outside least most n o =
+    ⊎-elim (λ (l : n < least). first-false (leb least n) (leb n most) (lt-leb least n l))
+    (λ (u : most < n). second-false (leb least n) (leb n most) (lt-leb n most u)) o
