@@ -1,0 +1,356 @@
+-- Which parameters, lists, bases and queries pass the checks, and what the first failing check refuses. Assumes nothing.
+use mathlib.Core.Path.{_≡_, refl, sym, ap, _∙_, subst}
+use mathlib.Core.Logic.{_≢_, _⊎_, inl, inr}
+use mathlib.Core.Bool.{Bool, true, false, cond, _&&_}
+use mathlib.Core.List.{List, [], _∷_}
+use Prim.Native.Nat.{ℕ, zero, suc, _+_, _^_, _≤_, _<_}
+use native.Mathlib.Nat.{suc-add, add-suc, add-zero}
+use native.Mathlib.Omega.{arith}
+use lib.Dec.{leb, ltb, eqb}
+use lib.ListN.{length, getD}
+use borrow.Author.Tests.{le-leb, lt-leb, lt-ltb, eq-eqb, ne-eqb, ltb-true, ltb-false}
+use Rattle.gf64.specs.Field.{IsElement}
+use Rattle.refusal.specs.declared.Cause.the-variants.{DimensionOutOfRange, RateOutOfRange, StepOutOfRange, DimensionTooSmall, WrongLength, BasisDependent, QueryCountOutOfRange, QueryOutOfRange}
+use Rattle.refusal.specs.declared.Outcome.{Outcome}
+use Rattle.refusal.specs.declared.Outcome.the-variants.{Done, Refused}
+use Rattle.refusal.specs.declared.Position.{Position}
+use Rattle.refusal.specs.declared.Position.the-variants.{At, Absent}
+use Rattle.refusal.specs.Checks.{refusedUnless, andThen}
+use Rattle.refusal.specs.Numbers.{numberOfOutcome}
+use Rattle.refusal.proofs.Checks.{equal-of-test, le-of-test, refused-not-done, passed-by, refused-by, unless-done, then-passed, then-refused, then-done, number-unless, number-then, within, within-of, outside}
+use Rattle.poly.specs.Polynomial.{All}
+use Rattle.coset.specs.Span.{firstDependent, Independent}
+use Rattle.coset.specs.Answers.{outcomeOfBasis, outcomeOfLaterBasis}
+use Rattle.coset.proofs.Independence.{independent-of}
+use Rattle.fri.specs.Layout.{roundsOf, lastCount, storeLength}
+use Rattle.fri.specs.Run.{Run, stepsIn, roundsIn}
+use Rattle.fri.specs.Layers.{basisIn}
+use Rattle.fri.specs.Checks.{parametersOutcome, lengthsOutcome, laterBasesOutcome, basesOutcome, runOutcome, firstOutside, outcomeOfOutside, queriesOutcome}
+use Rattle.fri.specs.Demand.{ValidParameters, ValidQueries}
+use Rattle.fri.specs.Theorems.{Fit}
+use Rattle.fri.proofs.Layouts.{length-steps}
+use Rattle.fri.proofs.Cosets.{later-independent}
+
+-- ---- parameters, check by check
+
+module _ (k rate step : ℕ) where
+  abbrev after-step : Outcome
+  after-step = refusedUnless (leb (rate + step) k) DimensionTooSmall Done
+
+  abbrev after-rate : Outcome
+  after-rate = refusedUnless (leb 1 step && leb step 3) StepOutOfRange after-step
+
+  abbrev after-k : Outcome
+  after-k = refusedUnless (leb 1 rate && leb rate 6) RateOutOfRange after-rate
+
+  k-passes : 2 ≤ k → k ≤ 20 → parametersOutcome k rate step ≡ after-k
+  k-passes l m = sym (passed-by (leb 2 k && leb k 20) DimensionOutOfRange after-k (within 2 20 k l m))
+
+  rate-passes : 1 ≤ rate → rate ≤ 6 → after-k ≡ after-rate
+  rate-passes l m = sym (passed-by (leb 1 rate && leb rate 6) RateOutOfRange after-rate (within 1 6 rate l m))
+
+  step-passes : 1 ≤ step → step ≤ 3 → after-rate ≡ after-step
+  step-passes l m = sym (passed-by (leb 1 step && leb step 3) StepOutOfRange after-step (within 1 3 step l m))
+
+  pub parameters-pass : ValidParameters k rate step → parametersOutcome k rate step ≡ Done
+  parameters-pass v =
+      k-passes (v .k-least) (v .k-most) ∙ rate-passes (v .rate-least) (v .rate-most) ∙ step-passes (v .step-least) (v .step-most)
+      ∙ sym (passed-by (leb (rate + step) k) DimensionTooSmall Done (le-leb (rate + step) k (v .k-enough)))
+
+  pub parameters-valid : parametersOutcome k rate step ≡ Done → ValidParameters k rate step
+  parameters-valid e =
+      let first = unless-done (leb 2 k && leb k 20) DimensionOutOfRange after-k e in
+      let second = unless-done (leb 1 rate && leb rate 6) RateOutOfRange after-rate (first .1) in
+      let third = unless-done (leb 1 step && leb step 3) StepOutOfRange after-step (second .1) in
+      let fourth = unless-done (leb (rate + step) k) DimensionTooSmall Done (third .1) in
+      let k-within = within-of 2 20 k (first .0) in
+      let rate-within = within-of 1 6 rate (second .0) in
+      let step-within = within-of 1 3 step (third .0) in
+      record {
+        k-least = k-within .0;
+        k-most = k-within .1;
+        rate-least = rate-within .0;
+        rate-most = rate-within .1;
+        step-least = step-within .0;
+        step-most = step-within .1;
+        k-enough = le-of-test (rate + step) k (fourth .0);
+      }
+
+  pub k-refused : (k < 2) ⊎ (20 < k) → parametersOutcome k rate step ≡ Refused DimensionOutOfRange
+  k-refused o = sym (refused-by (leb 2 k && leb k 20) DimensionOutOfRange after-k (outside 2 20 k o))
+
+  pub rate-refused : 2 ≤ k → k ≤ 20 → (rate < 1) ⊎ (6 < rate) → parametersOutcome k rate step ≡ Refused RateOutOfRange
+  rate-refused l m o = k-passes l m ∙ sym (refused-by (leb 1 rate && leb rate 6) RateOutOfRange after-rate (outside 1 6 rate o))
+
+  pub step-refused : 2 ≤ k → k ≤ 20 → 1 ≤ rate → rate ≤ 6 → (step < 1) ⊎ (3 < step) → parametersOutcome k rate step ≡ Refused StepOutOfRange
+  step-refused l m a b o =
+      k-passes l m ∙ rate-passes a b ∙ sym (refused-by (leb 1 step && leb step 3) StepOutOfRange after-step (outside 1 3 step o))
+
+  pub too-small-refused : 2 ≤ k → k ≤ 20 → 1 ≤ rate → rate ≤ 6 → 1 ≤ step → step ≤ 3 → k < rate + step
+      → parametersOutcome k rate step ≡ Refused DimensionTooSmall
+  too-small-refused l m a b s t h =
+      k-passes l m ∙ rate-passes a b ∙ step-passes s t
+      ∙ sym (refused-by (leb (rate + step) k) DimensionTooSmall Done (lt-leb (rate + step) k h))
+
+-- ---- lists, check by check
+
+module _ (run : Run) where
+  abbrev stored : ℕ
+  stored = storeLength (run .k) (stepsIn run)
+
+  abbrev last-due : ℕ
+  last-due = lastCount (run .k) (run .rate) (stepsIn run)
+
+  abbrev after4 : Outcome
+  after4 = refusedUnless (eqb (length (run .last)) last-due) (WrongLength 5) Done
+
+  abbrev after3 : Outcome
+  after3 = refusedUnless (eqb (length (run .store)) stored) (WrongLength 4) after4
+
+  abbrev after2 : Outcome
+  after2 = refusedUnless (eqb (length (run .word)) (2 ^ run .k)) (WrongLength 3) after3
+
+  abbrev after1 : Outcome
+  after1 = refusedUnless (eqb (length (run .challenges)) (roundsIn run)) (WrongLength 2) after2
+
+  due : length (run .challenges) ≡ roundsOf (run .k) (run .rate) (run .step) → length (run .challenges) ≡ roundsIn run
+  due e = e ∙ sym (length-steps (run .k) (run .rate) (run .step))
+
+  list1-passes : length (run .basis) ≡ run .k → lengthsOutcome run ≡ after1
+  list1-passes e = sym (passed-by (eqb (length (run .basis)) (run .k)) (WrongLength 1) after1 (eq-eqb (length (run .basis)) (run .k) e))
+
+  list2-passes : length (run .challenges) ≡ roundsOf (run .k) (run .rate) (run .step) → after1 ≡ after2
+  list2-passes e = sym (passed-by (eqb (length (run .challenges)) (roundsIn run)) (WrongLength 2) after2 (eq-eqb (length (run .challenges)) (roundsIn run) (due e)))
+
+  list3-passes : length (run .word) ≡ 2 ^ run .k → after2 ≡ after3
+  list3-passes e = sym (passed-by (eqb (length (run .word)) (2 ^ run .k)) (WrongLength 3) after3 (eq-eqb (length (run .word)) (2 ^ run .k) e))
+
+  list4-passes : length (run .store) ≡ stored → after3 ≡ after4
+  list4-passes e = sym (passed-by (eqb (length (run .store)) stored) (WrongLength 4) after4 (eq-eqb (length (run .store)) stored e))
+
+  pub lengths-pass : Fit run → lengthsOutcome run ≡ Done
+  lengths-pass f =
+      list1-passes (f .basis) ∙ list2-passes (f .challenges) ∙ list3-passes (f .word) ∙ list4-passes (f .store)
+      ∙ sym (passed-by (eqb (length (run .last)) last-due) (WrongLength 5) Done (eq-eqb (length (run .last)) last-due (f .last)))
+
+  pub lengths-fit : lengthsOutcome run ≡ Done → Fit run
+  lengths-fit e =
+      let first = unless-done (eqb (length (run .basis)) (run .k)) (WrongLength 1) after1 e in
+      let second = unless-done (eqb (length (run .challenges)) (roundsIn run)) (WrongLength 2) after2 (first .1) in
+      let third = unless-done (eqb (length (run .word)) (2 ^ run .k)) (WrongLength 3) after3 (second .1) in
+      let fourth = unless-done (eqb (length (run .store)) stored) (WrongLength 4) after4 (third .1) in
+      let fifth = unless-done (eqb (length (run .last)) last-due) (WrongLength 5) Done (fourth .1) in
+      record {
+        basis = equal-of-test (length (run .basis)) (run .k) (first .0);
+        challenges = equal-of-test (length (run .challenges)) (roundsIn run) (second .0) ∙ length-steps (run .k) (run .rate) (run .step);
+        word = equal-of-test (length (run .word)) (2 ^ run .k) (third .0);
+        store = equal-of-test (length (run .store)) stored (fourth .0);
+        last = equal-of-test (length (run .last)) last-due (fifth .0);
+      }
+
+  pub list1-refused : length (run .basis) ≢ run .k → lengthsOutcome run ≡ Refused (WrongLength 1)
+  list1-refused n = sym (refused-by (eqb (length (run .basis)) (run .k)) (WrongLength 1) after1 (ne-eqb (length (run .basis)) (run .k) n))
+
+  pub list2-refused : length (run .basis) ≡ run .k → length (run .challenges) ≢ roundsOf (run .k) (run .rate) (run .step) → lengthsOutcome run ≡ Refused (WrongLength 2)
+  list2-refused a n =
+      list1-passes a
+      ∙ sym (refused-by (eqb (length (run .challenges)) (roundsIn run)) (WrongLength 2) after2
+      (ne-eqb (length (run .challenges)) (roundsIn run) (λ e. n (e ∙ length-steps (run .k) (run .rate) (run .step)))))
+
+  pub list3-refused : length (run .basis) ≡ run .k → length (run .challenges) ≡ roundsOf (run .k) (run .rate) (run .step) → length (run .word) ≢ 2 ^ run .k
+      → lengthsOutcome run ≡ Refused (WrongLength 3)
+  list3-refused a b n =
+      list1-passes a ∙ list2-passes b ∙ sym (refused-by (eqb (length (run .word)) (2 ^ run .k)) (WrongLength 3) after3 (ne-eqb (length (run .word)) (2 ^ run .k) n))
+
+  pub list4-refused : length (run .basis) ≡ run .k → length (run .challenges) ≡ roundsOf (run .k) (run .rate) (run .step) → length (run .word) ≡ 2 ^ run .k
+      → length (run .store) ≢ stored → lengthsOutcome run ≡ Refused (WrongLength 4)
+  list4-refused a b d n =
+      list1-passes a ∙ list2-passes b ∙ list3-passes d
+      ∙ sym (refused-by (eqb (length (run .store)) stored) (WrongLength 4) after4 (ne-eqb (length (run .store)) stored n))
+
+  pub list5-refused : length (run .basis) ≡ run .k → length (run .challenges) ≡ roundsOf (run .k) (run .rate) (run .step) → length (run .word) ≡ 2 ^ run .k
+      → length (run .store) ≡ stored → length (run .last) ≢ last-due → lengthsOutcome run ≡ Refused (WrongLength 5)
+  list5-refused a b d s n =
+      list1-passes a ∙ list2-passes b ∙ list3-passes d ∙ list4-passes s
+      ∙ sym (refused-by (eqb (length (run .last)) last-due) (WrongLength 5) Done (ne-eqb (length (run .last)) last-due n))
+
+-- ---- bases
+
+-- number 16 does not come after an independent basis
+later-bases-pass : (run : Run) → ((i : ℕ) → Independent (basisIn run i)) → (round left : ℕ) → laterBasesOutcome run round left ≡ Done
+unfolding laterBasesOutcome
+later-bases-pass run d round zero = refl
+later-bases-pass run d round (suc left) =
+    sym (then-passed (outcomeOfLaterBasis round (firstDependent (basisIn run (suc round)))) (laterBasesOutcome run (suc round) left)
+    (ap (outcomeOfLaterBasis round) (d (suc round))))
+    ∙ later-bases-pass run d (suc round) left
+
+pub bases-pass : (run : Run) → All IsElement (run .basis) → Independent (run .basis) → basesOutcome run ≡ Done
+bases-pass run h d =
+    sym (then-passed (outcomeOfBasis (firstDependent (run .basis))) (laterBasesOutcome run 0 (roundsIn run)) (ap outcomeOfBasis d))
+    ∙ later-bases-pass run (later-independent (stepsIn run) (run .basis) h d) 0 (roundsIn run)
+
+pub bases-independent : (run : Run) → basesOutcome run ≡ Done → Independent (run .basis)
+bases-independent run e =
+    independent-of (firstDependent (run .basis)) (then-done (outcomeOfBasis (firstDependent (run .basis))) (laterBasesOutcome run 0 (roundsIn run)) e .0)
+
+pub bases-refused : (run : Run) (place : ℕ) → firstDependent (run .basis) ≡ At place → basesOutcome run ≡ Refused (BasisDependent place)
+bases-refused run place e =
+    sym (then-refused (outcomeOfBasis (firstDependent (run .basis))) (laterBasesOutcome run 0 (roundsIn run)) (BasisDependent place) (ap outcomeOfBasis e))
+
+-- ---- a run
+
+pub run-passes : (run : Run) → All IsElement (run .basis) → ValidParameters (run .k) (run .rate) (run .step) → Fit run → Independent (run .basis) → runOutcome run ≡ Done
+run-passes run h v f d =
+    sym (then-passed (parametersOutcome (run .k) (run .rate) (run .step)) (andThen (lengthsOutcome run) (basesOutcome run)) (parameters-pass (run .k) (run .rate) (run .step) v))
+    ∙ sym (then-passed (lengthsOutcome run) (basesOutcome run) (lengths-pass run f)) ∙ bases-pass run h d
+
+pub run-valid : (run : Run) → runOutcome run ≡ Done → ValidParameters (run .k) (run .rate) (run .step) × Fit run × Independent (run .basis)
+run-valid run e =
+    let first = then-done (parametersOutcome (run .k) (run .rate) (run .step)) (andThen (lengthsOutcome run) (basesOutcome run)) e in
+    let second = then-done (lengthsOutcome run) (basesOutcome run) (first .1) in
+    (parameters-valid (run .k) (run .rate) (run .step) (first .0), lengths-fit run (second .0), bases-independent run (second .1))
+
+-- ---- queries
+
+-- what the first query outside tells
+abbrev Outside : ℕ → List ℕ → ℕ → Position → Type 0
+Outside size queries place Absent = All (λ j. j < size) queries
+Outside size queries place (At query) =
+    (t : ℕ) × (query ≡ place + t) × (t < length queries) × (size ≤ getD queries t 0) × ((u : ℕ) → u < t → getD queries u 0 < size)
+
+one-inside : (size j : ℕ) (queries : List ℕ) (place : ℕ) → j < size → (p : Position) → Outside size queries (suc place) p → Outside size (j ∷ queries) place p
+one-inside size j queries place h Absent told = (h, told)
+one-inside size j queries place h (At query) (t, e, l, o, before) = (suc t, e ∙ suc-add place t ∙ sym (add-suc place t), omega arith, o, earlier)
+  where
+    earlier : (u : ℕ) → u < suc t → getD (j ∷ queries) u 0 < size
+    earlier zero b = h
+    earlier (suc u) b = before u (omega arith)
+
+one-query : (size j : ℕ) (queries : List ℕ) (place : ℕ) (rest : Position) → Outside size queries (suc place) rest
+    → (test : Bool) → ltb j size ≡ test → Outside size (j ∷ queries) place (cond test rest (At place))
+one-query size j queries place rest told true e = one-inside size j queries place (ltb-true j size e) rest told
+one-query size j queries place rest told false e =
+    (0, sym (add-zero place), omega arith, ltb-false j size e, λ u b. absurd (omega arith))
+
+outside-told : (size : ℕ) (queries : List ℕ) (place : ℕ) → Outside size queries place (firstOutside size queries place)
+unfolding firstOutside
+outside-told size [] place = record {}
+outside-told size (j ∷ queries) place =
+    one-query size j queries place (firstOutside size queries (suc place)) (outside-told size queries (suc place)) (ltb j size) refl
+
+none-outside : (size : ℕ) (queries : List ℕ) (place : ℕ) → All (λ j. j < size) queries → firstOutside size queries place ≡ Absent
+unfolding firstOutside
+none-outside size [] place h = refl
+none-outside size (j ∷ queries) place h =
+    ap (λ (t : Bool). cond t (firstOutside size queries (suc place)) (At place)) (lt-ltb j size (h .0))
+    ∙ none-outside size queries (suc place) (h .1)
+
+pub first-outside : (size : ℕ) (queries : List ℕ) (query : ℕ) → firstOutside size queries 0 ≡ At query
+    → (query < length queries) × (size ≤ getD queries query 0) × ((t : ℕ) → t < query → getD queries t 0 < size)
+first-outside size queries query e = by (subst (Outside size queries 0) e (outside-told size queries 0))
+  where
+    by : Outside size queries 0 (At query) → (query < length queries) × (size ≤ getD queries query 0) × ((t : ℕ) → t < query → getD queries t 0 < size)
+    by (t, s, l, o, before) =
+        let same : t ≡ query = omega (arith, s) in
+        subst (λ (q : ℕ). (q < length queries) × (size ≤ getD queries q 0) × ((u : ℕ) → u < q → getD queries u 0 < size)) same (l, o, before)
+
+all-inside : (p : Position) → outcomeOfOutside p ≡ Done → p ≡ Absent
+all-inside (At query) e = absurd (refused-not-done (QueryOutOfRange query) e)
+all-inside Absent e = refl
+
+abbrev counted : List ℕ → Bool
+counted queries = leb 1 (length queries) && leb (length queries) 256
+
+pub queries-pass : (k : ℕ) (queries : List ℕ) → ValidQueries k queries → queriesOutcome k queries ≡ Done
+queries-pass k queries v =
+    sym (passed-by (counted queries) QueryCountOutOfRange (outcomeOfOutside (firstOutside (2 ^ k) queries 0)) (within 1 256 (length queries) (v .least) (v .most)))
+    ∙ ap outcomeOfOutside (none-outside (2 ^ k) queries 0 (v .within))
+
+pub queries-valid : (k : ℕ) (queries : List ℕ) → queriesOutcome k queries ≡ Done → ValidQueries k queries
+queries-valid k queries e =
+    let both = unless-done (counted queries) QueryCountOutOfRange (outcomeOfOutside (firstOutside (2 ^ k) queries 0)) e in
+    let count = within-of 1 256 (length queries) (both .0) in
+    record {
+      least = count .0;
+      most = count .1;
+      within = subst (Outside (2 ^ k) queries 0) (all-inside (firstOutside (2 ^ k) queries 0) (both .1)) (outside-told (2 ^ k) queries 0);
+    }
+
+pub count-refused : (k : ℕ) (queries : List ℕ) → (length queries < 1) ⊎ (256 < length queries) → queriesOutcome k queries ≡ Refused QueryCountOutOfRange
+count-refused k queries o =
+    sym (refused-by (counted queries) QueryCountOutOfRange (outcomeOfOutside (firstOutside (2 ^ k) queries 0)) (outside 1 256 (length queries) o))
+
+pub outside-refused : (k : ℕ) (queries : List ℕ) (query : ℕ) → 1 ≤ length queries → length queries ≤ 256 → firstOutside (2 ^ k) queries 0 ≡ At query
+    → queriesOutcome k queries ≡ Refused (QueryOutOfRange query)
+outside-refused k queries query l m e =
+    sym (passed-by (counted queries) QueryCountOutOfRange (outcomeOfOutside (firstOutside (2 ^ k) queries 0)) (within 1 256 (length queries) l m))
+    ∙ ap outcomeOfOutside e
+
+-- ---- which numbers there are
+
+-- an independent basis gives 0, a dependent one 8, so that 16 does not come
+pub bases-number : (run : Run) → All IsElement (run .basis) → numberOfOutcome (basesOutcome run) < 9
+bases-number run h = by (firstDependent (run .basis)) refl
+  where
+    by : (p : Position) → firstDependent (run .basis) ≡ p → numberOfOutcome (basesOutcome run) < 9
+    by (At place) e = subst (λ (o : Outcome). numberOfOutcome o < 9) (sym (bases-refused run place e)) (omega arith)
+    by Absent e = subst (λ (o : Outcome). numberOfOutcome o < 9) (sym (bases-pass run h e)) (omega arith)
+
+-- numbers other than 9 to 12
+abbrev pub Early : ℕ → Type 0
+Early n = (n < 9) ⊎ (12 < n)
+
+later-bases-early : (run : Run) (round left : ℕ) → Early (numberOfOutcome (laterBasesOutcome run round left))
+unfolding laterBasesOutcome
+later-bases-early run round zero = inl (omega arith)
+later-bases-early run round (suc left) =
+    number-then Early (outcomeOfLaterBasis round (firstDependent (basisIn run (suc round)))) (laterBasesOutcome run (suc round) left)
+    (by (firstDependent (basisIn run (suc round)))) (later-bases-early run (suc round) left)
+  where
+    by : (p : Position) → Early (numberOfOutcome (outcomeOfLaterBasis round p))
+    by (At place) = inr (omega arith)
+    by Absent = inl (omega arith)
+
+pub bases-early : (run : Run) → Early (numberOfOutcome (basesOutcome run))
+bases-early run =
+    number-then Early (outcomeOfBasis (firstDependent (run .basis))) (laterBasesOutcome run 0 (roundsIn run)) (by (firstDependent (run .basis)))
+    (later-bases-early run 0 (roundsIn run))
+  where
+    by : (p : Position) → Early (numberOfOutcome (outcomeOfBasis p))
+    by (At place) = inl (omega arith)
+    by Absent = inl (omega arith)
+
+-- what holds of numbers below 9, of 13 and of the bases' number holds of a run's
+pub run-number : (P : ℕ → Type 0) → ((n : ℕ) → n < 9 → P n) → P 13 → (run : Run) → P (numberOfOutcome (basesOutcome run))
+    → P (numberOfOutcome (runOutcome run))
+run-number P low p13 run bases =
+    number-then P (parametersOutcome (run .k) (run .rate) (run .step)) (andThen (lengthsOutcome run) (basesOutcome run)) parameters-number
+    (number-then P (lengthsOutcome run) (basesOutcome run) lengths-number bases)
+  where
+    parameters-number : P (numberOfOutcome (parametersOutcome (run .k) (run .rate) (run .step)))
+    parameters-number =
+        number-unless P (leb 2 (run .k) && leb (run .k) 20) DimensionOutOfRange (after-k (run .k) (run .rate) (run .step)) (low 4 (omega arith))
+        (number-unless P (leb 1 (run .rate) && leb (run .rate) 6) RateOutOfRange (after-rate (run .k) (run .rate) (run .step)) (low 5 (omega arith))
+        (number-unless P (leb 1 (run .step) && leb (run .step) 3) StepOutOfRange (after-step (run .k) (run .rate) (run .step)) (low 6 (omega arith))
+        (number-unless P (leb (run .rate + run .step) (run .k)) DimensionTooSmall Done (low 7 (omega arith)) (low 0 (omega arith)))))
+
+    lengths-number : P (numberOfOutcome (lengthsOutcome run))
+    lengths-number =
+        number-unless P (eqb (length (run .basis)) (run .k)) (WrongLength 1) (after1 run) p13
+        (number-unless P (eqb (length (run .challenges)) (roundsIn run)) (WrongLength 2) (after2 run) p13
+        (number-unless P (eqb (length (run .word)) (2 ^ run .k)) (WrongLength 3) (after3 run) p13
+        (number-unless P (eqb (length (run .store)) (stored run)) (WrongLength 4) (after4 run) p13
+        (number-unless P (eqb (length (run .last)) (last-due run)) (WrongLength 5) Done p13 (low 0 (omega arith))))))
+
+pub run-early : (run : Run) → Early (numberOfOutcome (runOutcome run))
+run-early run = run-number Early (λ n l. inl l) (inr (omega arith)) run (bases-early run)
+
+pub queries-number : (k : ℕ) (queries : List ℕ) → numberOfOutcome (queriesOutcome k queries) < 11
+queries-number k queries =
+    number-unless (λ n. n < 11) (counted queries) QueryCountOutOfRange (outcomeOfOutside (firstOutside (2 ^ k) queries 0)) (omega arith)
+    (by (firstOutside (2 ^ k) queries 0))
+  where
+    by : (p : Position) → numberOfOutcome (outcomeOfOutside p) < 11
+    by (At query) = omega arith
+    by Absent = omega arith

@@ -1,0 +1,246 @@
+-- Demand 3, first half: folding keeps the degree bound, so that the last coefficients carry layer r whole, and every round check compares an
+-- honest entry with itself. Assumes nothing.
+use mathlib.Core.Path.{_≡_, refl, sym, ap, _∙_, subst}
+use mathlib.Core.Logic.{_≢_, _⊎_, inl, inr, ⊎-elim}
+use mathlib.Core.List.{List, [], _∷_, map}
+use Prim.Native.Nat.{ℕ, zero, suc, _+_, _*_, _-_, _^_, _≤_, _<_}
+use native.Mathlib.Nat.{eq-or-lt-of-le, le-of-eq, le-trans, sub-add-cancel}
+use native.Mathlib.Omega.{arith}
+use lib.Dec.{leb}
+use lib.Pow.{pow-pos, pow-mono, shl-lt, shl-shr}
+use lib.ListN.{length, getD}
+use lib.Seq.{length-take-le}
+use Rattle.gf64.specs.Field.{IsElement}
+use Rattle.poly.specs.Carrier.{gf64}
+use Rattle.poly.specs.Polynomial.{All, evaluate}
+use Rattle.poly.specs.Degree.{degreeBound}
+use Rattle.poly.proofs.AtField.{gf64-laws}
+use Rattle.poly.proofs.Evaluation.{evaluate-taken}
+use Rattle.poly.proofs.Degree.{below-bound}
+use Rattle.refusal.specs.declared.Cause.the-variants.{DegreeTooLarge}
+use Rattle.refusal.specs.declared.Outcome.{Outcome}
+use Rattle.refusal.specs.declared.Outcome.the-variants.{Done, Refused}
+use Rattle.refusal.specs.Checks.{andThen}
+use Rattle.refusal.specs.Numbers.{numberOf, numberOfOutcome}
+use Rattle.refusal.proofs.Checks.{number-unless, number-then}
+use Rattle.coset.specs.Coset.{point, tabulated}
+use Rattle.reed_solomon.specs.Codes.{interpolated}
+use Rattle.reed_solomon.proofs.Theorems.{round-trips, encoding}
+use Rattle.fold.specs.Theorems.{IsWord}
+use Rattle.fri.specs.declared.Answer.the-variants as answers
+use Rattle.fri.specs.declared.Verdict.{Verdict}
+use Rattle.fri.specs.Layout.{roundsOf, dimension, lastCount, storeLength, indexIn}
+use Rattle.fri.specs.Run.{Run, stepsIn, roundsIn, stepIn}
+use Rattle.fri.specs.Layers.{basisIn, offsetIn, foldOf, honestLayer, honestStore, lastInterpolant, honestLast, honest}
+use Rattle.fri.specs.Checks.{basesOutcome, runOutcome, queriesOutcome}
+use Rattle.fri.specs.Judge.{listsOutcome, answerOf, verdictOf, numberOfAnswer}
+use Rattle.fri.specs.Rounds.{valueComputed, valueFound, roundsOutcome}
+use Rattle.fri.specs.Prover.{degreeOutcome, proveOutcome, storeAfter, lastAfter}
+use Rattle.fri.specs.Demand.{ValidCoset, ProverInput, LowDegree, ValidQueries, Any, Accepted, Visits, Covered, Completeness}
+use Rattle.fri.specs.Theorems.{PassesEveryRound, Fit}
+use Rattle.fri.proofs.Layouts.{index-within}
+use Rattle.fri.proofs.Cosets.{first-fits, layer-steps-fit, length-layerBasis, honest-is-word, honest-degree, length-honestStore, honest-layers}
+use Rattle.fri.proofs.Values.{computed-entry, found-entry, found-last}
+use Rattle.fri.proofs.Rounds.{refused-by-round}
+use Rattle.fri.proofs.Checks.{run-passes, run-number, run-early, bases-number, queries-number}
+use Rattle.fri.proofs.Verdicts.{accepted-verdict, lists-pass}
+use Rattle.fri.proofs.Provers.{early-not-12, degree-passes, degree-done, done-holds-both}
+
+honest-valid : (run : Run) → ValidCoset run → ValidCoset (honest run)
+honest-valid run v =
+    record {
+      parameters = v .parameters;
+      offset-element = v .offset-element;
+      basis-elements = v .basis-elements;
+      basis-count = v .basis-count;
+      independent = v .independent;
+    }
+
+module _ (run : Run) (v : ValidCoset run) (p : ProverInput run) where
+  abbrev r : ℕ
+  r = roundsIn run
+
+  abbrev d : ℕ
+  d = lastCount (run .k) (run .rate) (stepsIn run)
+
+  last-word : IsWord (offsetIn run r) (basisIn run r) (honestLayer run r)
+  last-word = honest-is-word run v p r (omega arith)
+
+  length-lastInterpolant : length (lastInterpolant run) ≡ 2 ^ dimension (run .k) (stepsIn run) r
+  unfolding lastInterpolant
+  length-lastInterpolant =
+      round-trips .count (offsetIn run r) (basisIn run r) (honestLayer run r) (last-word .count) ∙ ap (λ (n : ℕ). 2 ^ n) (length-layerBasis run v r)
+
+  -- ---- the round checks
+
+  -- the interpolant of layer r has its entries for values
+  interpolant-value : (m : ℕ) → m < 2 ^ dimension (run .k) (stepsIn run) r
+      → evaluate gf64 (lastInterpolant run) (point (offsetIn run r) (basisIn run r) m) ≡ getD (honestLayer run r) m 0
+  unfolding lastInterpolant
+  interpolant-value m h =
+      let basis : List ℕ = basisIn run r in
+      sym (encoding .values (offsetIn run r) basis (interpolated (offsetIn run r) basis (honestLayer run r)) m
+      (subst (λ (n : ℕ). m < 2 ^ n) (sym (length-layerBasis run v r)) h))
+      ∙ ap (λ (l : List ℕ). getD l m 0)
+      (round-trips .word (offsetIn run r) basis (honestLayer run r) (last-word .offset-element) (last-word .basis-elements) (last-word .word-elements)
+      (last-word .independent) (last-word .count))
+
+  computed : (j i : ℕ) → i < r → j < 2 ^ run .k → valueComputed (honest run) j i ≡ getD (honestLayer run (suc i)) (indexIn (stepsIn run) j (suc i)) 0
+  unfolding foldOf honestLayer
+  computed j i h l =
+      computed-entry (honest run) (honest-valid run v) j i (indexIn (stepsIn run) j (suc i)) (index-within (run .k) (stepsIn run) (layer-steps-fit run v) j (suc i) h l) refl
+      ∙ ap (λ (entries : List ℕ). getD (foldOf run i entries) (indexIn (stepsIn run) j (suc i)) 0) (honest-layers run v (p .word-count) i h)
+
+  module _ (low : LowDegree run) where
+    pub low-last : degreeBound (lastInterpolant run) ≤ d
+    unfolding lastInterpolant lastCount
+    low-last = below-bound d (lastInterpolant run) .0 (honest-degree run v p low r (omega arith))
+
+    last-value : (m : ℕ) → m < 2 ^ dimension (run .k) (stepsIn run) r
+        → evaluate gf64 (honestLast run) (point (offsetIn run r) (basisIn run r) m) ≡ getD (honestLayer run r) m 0
+    unfolding honestLast
+    last-value m h =
+        evaluate-taken gf64 IsElement gf64-laws d (lastInterpolant run) (point (offsetIn run r) (basisIn run r) m) (below-bound d (lastInterpolant run) .1 low-last)
+        ∙ interpolant-value m h
+
+    found-at-last : (j i : ℕ) → suc i ≡ r → j < 2 ^ run .k → valueFound (honest run) j i ≡ getD (honestLayer run (suc i)) (indexIn (stepsIn run) j (suc i)) 0
+    found-at-last j i e l =
+        found-last (honest run) j i (indexIn (stepsIn run) j (suc i)) e refl
+        ∙ ap (λ (n : ℕ). evaluate gf64 (honestLast run) (point (offsetIn run n) (basisIn run n) (indexIn (stepsIn run) j n))) e
+        ∙ last-value (indexIn (stepsIn run) j r) (index-within (run .k) (stepsIn run) (layer-steps-fit run v) j r (omega arith) l)
+        ∙ ap (λ (n : ℕ). getD (honestLayer run n) (indexIn (stepsIn run) j n) 0) (sym e)
+
+    found : (j i : ℕ) → i < r → j < 2 ^ run .k → valueFound (honest run) j i ≡ getD (honestLayer run (suc i)) (indexIn (stepsIn run) j (suc i)) 0
+    found j i h l =
+        ⊎-elim (λ (e : suc i ≡ r). found-at-last j i e l)
+        (λ (u : suc i < r).
+        found-entry (honest run) j i (indexIn (stepsIn run) j (suc i)) u refl
+        ∙ ap (λ (entries : List ℕ). getD entries (indexIn (stepsIn run) j (suc i)) 0) (honest-layers run v (p .word-count) (suc i) u))
+        (eq-or-lt-of-le h)
+
+    honest-passes : (queries : List ℕ) → All (λ j. j < 2 ^ run .k) queries → (t : ℕ) → t < length queries → PassesEveryRound (honest run) (getD queries t 0)
+    honest-passes [] h t l i b = absurd (omega arith)
+    honest-passes (j ∷ queries) h zero l i b = computed j i b (h .0) ∙ sym (found j i b (h .0))
+    honest-passes (j ∷ queries) h (suc t) l i b = honest-passes queries (h .1) t (omega arith) i b
+
+  -- ---- the verdict
+
+  pub length-honestLast : length (honestLast run) ≡ d
+  unfolding honestLast lastCount
+  length-honestLast =
+      length-take-le (2 ^ (dimension (run .k) (stepsIn run) r - run .rate)) (lastInterpolant run)
+      (le-trans (pow-mono (omega arith)) (le-of-eq (sym length-lastInterpolant)))
+
+  pub honest-fit : Fit (honest run)
+  honest-fit =
+      record {
+        basis = v .basis-count;
+        challenges = p .challenges-count;
+        word = p .word-count;
+        store = length-honestStore run v (p .word-count);
+        last = length-honestLast;
+      }
+
+  pub honest-accepted : LowDegree run → (queries : List ℕ) → ValidQueries (run .k) queries
+      → verdictOf (honest run) queries
+      ≡ record { answer = answers.Accepted; reads = length queries * roundsOf (run .k) (run .rate) (run .step) * 2 ^ run .step }
+  honest-accepted low queries q =
+      accepted-verdict (honest run) queries
+      (lists-pass (honest run) queries (run-passes (honest run) (v .basis-elements) (v .parameters) honest-fit (v .independent)) q)
+      (honest-passes low queries (q .within))
+
+-- ---- numbers that are never given
+
+never12 : (run : Run) → ValidCoset run → ProverInput run → LowDegree run → numberOfOutcome (proveOutcome run) ≢ 12
+never12 run v p low =
+    number-then (λ n. n ≢ 12) (runOutcome run) (degreeOutcome run) (early-not-12 (numberOfOutcome (runOutcome run)) (run-early run))
+    (subst (λ (o : Outcome). numberOfOutcome o ≢ 12) (sym (degree-passes run (low-last run v p low))) (λ (e : _≡_ {A = ℕ} 0 12). omega arith))
+
+low-not-16 : (n : ℕ) → n < 16 → n ≢ 16
+low-not-16 n l e = omega arith
+
+run-never16 : (run : Run) → All IsElement (run .basis) → numberOfOutcome (runOutcome run) ≢ 16
+run-never16 run h =
+    run-number (λ n. n ≢ 16) (λ n l. low-not-16 n (omega arith)) (low-not-16 13 (omega arith)) run
+    (low-not-16 (numberOfOutcome (basesOutcome run)) (omega (arith, bases-number run h)))
+
+prover-never16 : (run : Run) → All IsElement (run .basis) → numberOfOutcome (proveOutcome run) ≢ 16
+prover-never16 run h =
+    number-then (λ n. n ≢ 16) (runOutcome run) (degreeOutcome run) (run-never16 run h)
+    (number-unless (λ n. n ≢ 16) (leb (degreeBound (lastInterpolant run)) (lastCount (run .k) (run .rate) (stepsIn run))) (DegreeTooLarge (degreeBound (lastInterpolant run) - 1)) Done
+    (low-not-16 12 (omega arith)) (low-not-16 0 (omega arith)))
+
+same-number : (o : Outcome) → numberOfAnswer (answerOf o) ≡ numberOfOutcome o
+same-number Done = refl
+same-number (Refused cause) = refl
+
+rounds-never16 : (run : Run) (queries : List ℕ) → numberOfOutcome (roundsOutcome run queries 0) ≢ 16
+rounds-never16 run queries = by (roundsOutcome run queries 0) refl
+  where
+    by : (o : Outcome) → roundsOutcome run queries 0 ≡ o → numberOfOutcome o ≢ 16
+    by Done e = low-not-16 0 (omega arith)
+    by (Refused cause) e = low-not-16 (numberOf cause) (omega (arith, refused-by-round run queries cause e))
+
+judge-never16 : (run : Run) → All IsElement (run .basis) → (queries : List ℕ) → numberOfAnswer (verdictOf run queries .answer) ≢ 16
+judge-never16 run h queries e =
+    number-then (λ n. n ≢ 16) (listsOutcome run queries) (roundsOutcome run queries 0)
+    (number-then (λ n. n ≢ 16) (runOutcome run) (queriesOutcome (run .k) queries) (run-never16 run h)
+    (low-not-16 (numberOfOutcome (queriesOutcome (run .k) queries)) (omega (arith, queries-number (run .k) queries))))
+    (rounds-never16 run queries)
+    (sym (same-number (andThen (listsOutcome run queries) (roundsOutcome run queries 0))) ∙ e)
+
+-- ---- the prover makes the honest run
+
+proves : (run : Run) → ValidCoset run → ProverInput run → LowDegree run → length (run .store) ≡ storeLength (run .k) (stepsIn run)
+    → length (run .last) ≡ lastCount (run .k) (run .rate) (stepsIn run)
+    → (proveOutcome run ≡ Done) × (storeAfter run ≡ honestStore run) × (lastAfter run ≡ honestLast run)
+proves run v p low ls ll =
+    let done : proveOutcome run ≡ Done = degree-done run (run-passes run (v .basis-elements) (v .parameters) fit (v .independent)) (low-last run v p low) in
+    let both = done-holds-both run done in
+    (done, both .0, both .1)
+  where
+    fit : Fit run
+    fit = record { basis = v .basis-count; challenges = p .challenges-count; word = p .word-count; store = ls; last = ll }
+
+-- ---- one judging for each first-layer coset covers it
+
+any-one : (P : List ℕ → Type 0) (f : ℕ → ℕ) (start count m : ℕ) → start ≤ m → m < start + count → P (f m ∷ [])
+    → Any P (map (λ j. j ∷ []) (tabulated f start count))
+unfolding tabulated
+any-one P f start zero m l u h = absurd (omega arith)
+any-one P f start (suc count) m l u h =
+    ⊎-elim (λ (e : start ≡ m). inl (subst (λ (n : ℕ). P (f n ∷ [])) (sym e) h))
+    (λ (b : start < m). inr (any-one P f (suc start) count m b (omega arith) h)) (eq-or-lt-of-le l)
+
+covered : (run : Run) → ValidCoset run → ProverInput run → LowDegree run → (lists : List (List ℕ)) × Covered (honest run) lists
+covered run v p low = (
+  map (λ j. j ∷ []) (tabulated (λ m. m * 2 ^ step) 0 (2 ^ (run .k - step))),
+  λ m h.
+      let inside : m < 2 ^ (run .k - step) = omega (arith, h, pow-pos (run .k - step)) in
+      any-one (λ queries. Accepted (honest run) queries × Visits (honest run) queries m) (λ n. n * 2 ^ step) 0 (2 ^ (run .k - step)) m (omega arith) (omega arith)
+      (ap (λ (verdict : Verdict). verdict .answer) (honest-accepted run v p low (m * 2 ^ step ∷ []) (valid m inside)), inl (shl-shr m step)),
+)
+  where
+    step : ℕ
+    step = stepIn run 0
+
+    valid : (m : ℕ) → m < 2 ^ (run .k - step) → ValidQueries (run .k) (m * 2 ^ step ∷ [])
+    valid m h =
+        record {
+          least = omega arith;
+          most = omega arith;
+          within = (
+            subst (λ (n : ℕ). m * 2 ^ step < 2 ^ n) (sub-add-cancel (first-fits run v)) (shl-lt (run .k - step) step h),
+            record {},
+          );
+        }
+
+pub completeness : Completeness
+completeness =
+    record {
+      accepted = λ run queries v p low q. honest-accepted run v p low queries q;
+      proves = proves;
+      never12 = never12;
+      never16 = λ run h. (prover-never16 run h, judge-never16 run h);
+      covered = covered;
+    }

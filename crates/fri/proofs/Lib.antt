@@ -1,0 +1,10 @@
+pub mod Layouts
+pub mod Cosets
+pub mod Rounds
+pub mod Checks
+pub mod Verdicts
+pub mod Values
+pub mod Provers
+pub mod Soundness
+pub mod Completeness
+pub mod Theorems

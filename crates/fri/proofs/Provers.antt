@@ -1,0 +1,93 @@
+-- What the prover answers and leaves. Assumes nothing.
+use mathlib.Core.Path.{_≡_, refl, sym, ap, _∙_}
+use mathlib.Core.Logic.{_≢_, inl, inr, ⊎-elim}
+use mathlib.Core.Bool.{Bool, true, false}
+use Prim.Native.Nat.{ℕ, suc, _-_, _≤_, _<_}
+use native.Mathlib.Omega.{arith}
+use lib.Dec.{leb}
+use borrow.Author.Tests.{le-leb, lt-leb, leb-false}
+use Rattle.poly.specs.Degree.{degreeBound}
+use Rattle.refusal.specs.declared.Cause.the-variants.{DegreeTooLarge}
+use Rattle.refusal.specs.declared.Outcome.{Outcome}
+use Rattle.refusal.specs.declared.Outcome.the-variants.{Done, Refused}
+use Rattle.refusal.specs.Checks.{refusedUnless, afterwards}
+use Rattle.refusal.specs.Numbers.{numberOfOutcome}
+use Rattle.refusal.proofs.Checks.{le-of-test, refused-not-done, passed-by, refused-by, unless-done, then-passed, then-done}
+use Rattle.fri.specs.Layout.{lastCount}
+use Rattle.fri.specs.Run.{Run, stepsIn}
+use Rattle.fri.specs.Layers.{honestStore, lastInterpolant, honestLast}
+use Rattle.fri.specs.Checks.{runOutcome}
+use Rattle.fri.specs.Prover.{degreeOutcome, proveOutcome, storeAfter, lastAfter}
+use Rattle.fri.specs.Theorems.{Proved}
+use Rattle.fri.proofs.Checks as checks
+use Rattle.fri.proofs.Checks.{Early}
+use Rattle.fri.proofs.Verdicts.{which}
+
+pub early-not-12 : (n : ℕ) → Early n → n ≢ 12
+early-not-12 n (inl l) e = omega arith
+early-not-12 n (inr u) e = omega arith
+
+module _ (run : Run) where
+  abbrev bound : ℕ
+  bound = degreeBound (lastInterpolant run)
+
+  abbrev d : ℕ
+  d = lastCount (run .k) (run .rate) (stepsIn run)
+
+  done-degree : proveOutcome run ≡ Done → (runOutcome run ≡ Done) × (bound ≤ d)
+  done-degree e =
+      let both = then-done (runOutcome run) (degreeOutcome run) e in
+      (both .0, le-of-test bound d (unless-done (leb bound d) (DegreeTooLarge (bound - 1)) Done (both .1) .0))
+
+  pub degree-passes : bound ≤ d → degreeOutcome run ≡ Done
+  degree-passes l = sym (passed-by (leb bound d) (DegreeTooLarge (bound - 1)) Done (le-leb bound d l))
+
+  pub degree-done : runOutcome run ≡ Done → bound ≤ d → proveOutcome run ≡ Done
+  degree-done e l =
+      sym (then-passed (runOutcome run) (degreeOutcome run) e) ∙ degree-passes l
+
+  -- a refusal by 12 is the degree's
+  degree-refused : (degree : ℕ) (test : Bool) → leb bound d ≡ test → refusedUnless test (DegreeTooLarge (bound - 1)) Done ≡ Refused (DegreeTooLarge degree)
+      → (bound ≡ suc degree) × (d ≤ degree)
+  degree-refused degree true t e = absurd (refused-not-done (DegreeTooLarge degree) (sym e))
+  degree-refused degree false t e =
+      let same : bound - 1 ≡ degree = cc in
+      let over : d < bound = leb-false bound d t in
+      (omega (arith, same, over), omega (arith, same, over))
+
+  high-degree : (degree : ℕ) → proveOutcome run ≡ Refused (DegreeTooLarge degree) → (runOutcome run ≡ Done) × (bound ≡ suc degree) × (d ≤ degree)
+  high-degree degree e =
+      ⊎-elim
+      (λ (h : runOutcome run ≡ Refused (DegreeTooLarge degree)). absurd (early-not-12 (numberOfOutcome (runOutcome run)) (checks.run-early run) (ap numberOfOutcome h)))
+      (λ (h : (runOutcome run ≡ Done) × (degreeOutcome run ≡ Refused (DegreeTooLarge degree))).
+      let told = degree-refused degree (leb bound d) refl (h .1) in
+      (h .0, told .0, told .1))
+      (which (runOutcome run) (degreeOutcome run) (DegreeTooLarge degree) e)
+
+  degree-high : (degree : ℕ) → runOutcome run ≡ Done → bound ≡ suc degree → d ≤ degree → proveOutcome run ≡ Refused (DegreeTooLarge degree)
+  degree-high degree e s l =
+      let same : bound - 1 ≡ degree = omega (arith, s) in
+      sym (then-passed (runOutcome run) (degreeOutcome run) e)
+      ∙ sym (refused-by (leb bound d) (DegreeTooLarge (bound - 1)) Done (lt-leb bound d (omega (arith, s))))
+      ∙ ap (λ (n : ℕ). Refused (DegreeTooLarge n)) same
+
+  high-holds : (degree : ℕ) → proveOutcome run ≡ Refused (DegreeTooLarge degree) → (storeAfter run ≡ honestStore run) × (lastAfter run ≡ run .last)
+  high-holds degree e = (
+    ap (λ (o : Outcome). afterwards o (honestStore run) (run .store)) (high-degree degree e .0),
+    ap (λ (o : Outcome). afterwards o (honestLast run) (run .last)) e,
+  )
+
+  pub done-holds-both : proveOutcome run ≡ Done → (storeAfter run ≡ honestStore run) × (lastAfter run ≡ honestLast run)
+  done-holds-both e = (
+    ap (λ (o : Outcome). afterwards o (honestStore run) (run .store)) (done-degree e .0),
+    ap (λ (o : Outcome). afterwards o (honestLast run) (run .last)) e,
+  )
+
+pub proved : Proved
+proved =
+    record {
+      done = λ run. (λ e. done-degree run e, λ t. degree-done run (t .0) (t .1));
+      holds = done-holds-both;
+      too-high = λ run degree. (λ e. high-degree run degree e, λ t. degree-high run degree (t .0) (t .1) (t .2));
+      too-high-holds = high-holds;
+    }

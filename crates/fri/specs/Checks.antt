@@ -1,0 +1,66 @@
+-- The checks of parameters, lists, bases and queries, in the order of document 01.
+use mathlib.Core.Bool.{cond, _&&_}
+use mathlib.Core.List.{List, [], _∷_}
+use Prim.Native.Nat.{ℕ, zero, suc, _+_, _^_}
+use lib.Dec.{leb, ltb, eqb}
+use lib.ListN.{length}
+use Rattle.refusal.specs.declared.Cause.the-variants.{DimensionOutOfRange, RateOutOfRange, StepOutOfRange, DimensionTooSmall, WrongLength, QueryCountOutOfRange, QueryOutOfRange}
+use Rattle.refusal.specs.declared.Outcome.{Outcome}
+use Rattle.refusal.specs.declared.Outcome.the-variants.{Done, Refused}
+use Rattle.refusal.specs.declared.Position.{Position}
+use Rattle.refusal.specs.declared.Position.the-variants.{At, Absent}
+use Rattle.refusal.specs.Checks.{refusedUnless, andThen}
+use Rattle.coset.specs.Span.{firstDependent}
+use Rattle.coset.specs.Answers.{outcomeOfBasis, outcomeOfLaterBasis}
+use Rattle.fri.specs.Layout.{lastCount, storeLength}
+use Rattle.fri.specs.Run.{Run, stepsIn, roundsIn}
+use Rattle.fri.specs.Layers.{basisIn}
+
+-- the ranges: k 2..20 (number 4), R 1..6 (5), η 1..3 (6), k at least R + η (7)
+abbrev pub parametersOutcome : ℕ → ℕ → ℕ → Outcome
+parametersOutcome k rate step =
+    refusedUnless (leb 2 k && leb k 20) DimensionOutOfRange
+    (refusedUnless (leb 1 rate && leb rate 6) RateOutOfRange
+    (refusedUnless (leb 1 step && leb step 3) StepOutOfRange
+    (refusedUnless (leb (rate + step) k) DimensionTooSmall
+    Done)))
+
+-- lists 1 to 5: the lowest one whose length is not the one due (13)
+abbrev pub lengthsOutcome : Run → Outcome
+lengthsOutcome run =
+    refusedUnless (eqb (length (run .basis)) (run .k)) (WrongLength 1)
+    (refusedUnless (eqb (length (run .challenges)) (roundsIn run)) (WrongLength 2)
+    (refusedUnless (eqb (length (run .word)) (2 ^ run .k)) (WrongLength 3)
+    (refusedUnless (eqb (length (run .store)) (storeLength (run .k) (stepsIn run))) (WrongLength 4)
+    (refusedUnless (eqb (length (run .last)) (lastCount (run .k) (run .rate) (stepsIn run))) (WrongLength 5)
+    Done))))
+
+-- the bases of the layers after layer `round`, `left` of them (16, with the round whose fold gives that layer)
+unfoldable pub laterBasesOutcome : Run → ℕ → ℕ → Outcome
+laterBasesOutcome run round zero = Done
+laterBasesOutcome run round (suc left) =
+    andThen (outcomeOfLaterBasis round (firstDependent (basisIn run (suc round)))) (laterBasesOutcome run (suc round) left)
+
+-- the basis (8), then those of layers 1 to r (16)
+abbrev pub basesOutcome : Run → Outcome
+basesOutcome run = andThen (outcomeOfBasis (firstDependent (run .basis))) (laterBasesOutcome run 0 (roundsIn run))
+
+-- the checks that prover and judge have in common: 4, 5, 6, 7, 13, 8, 16
+abbrev pub runOutcome : Run → Outcome
+runOutcome run = andThen (parametersOutcome (run .k) (run .rate) (run .step)) (andThen (lengthsOutcome run) (basesOutcome run))
+
+-- the first query, its place counted from `place`, whose index is not below the size
+unfoldable pub firstOutside : ℕ → List ℕ → ℕ → Position
+firstOutside size [] place = Absent
+firstOutside size (j ∷ queries) place = cond (ltb j size) (firstOutside size queries (suc place)) (At place)
+
+-- a query outside is refused (10)
+abbrev pub outcomeOfOutside : Position → Outcome
+outcomeOfOutside (At query) = Refused (QueryOutOfRange query)
+outcomeOfOutside Absent = Done
+
+-- a query list: 1 to 256 queries (9), each below 2^k (10)
+abbrev pub queriesOutcome : ℕ → List ℕ → Outcome
+queriesOutcome k queries =
+    refusedUnless (leb 1 (length queries) && leb (length queries) 256) QueryCountOutOfRange
+    (outcomeOfOutside (firstOutside (2 ^ k) queries 0))

@@ -1,0 +1,11 @@
+pub mod Layout
+pub mod Run
+pub mod Layers
+pub mod Lookup
+pub mod Checks
+pub mod Rounds
+pub mod Reads
+pub mod Judge
+pub mod Prover
+pub mod Demand
+pub mod Theorems

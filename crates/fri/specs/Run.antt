@@ -1,0 +1,39 @@
+-- A run of the protocol over lists: what is judged, as anybody sent it, but for the queries; and what a prover is given, with the two lists lent to it.
+use mathlib.Core.List.{List}
+use Prim.Native.Nat.{ℕ, zero, suc}
+use lib.ListN.{length, getD}
+use Rattle.fri.specs.Layout.{stepsOf, stepAt, storedLayer}
+
+pub record Run : Type 0 where
+  pub k : ℕ
+  pub rate : ℕ
+  pub step : ℕ
+  pub offset : ℕ
+  pub basis : List ℕ
+  pub challenges : List ℕ
+  pub word : List ℕ
+  -- layers 1 to r - 1, joined
+  pub store : List ℕ
+  -- the last coefficients
+  pub last : List ℕ
+
+-- the steps of its rounds
+abbrev pub stepsIn : Run → List ℕ
+stepsIn run = stepsOf (run .k) (run .rate) (run .step)
+
+-- r, the number of its rounds
+abbrev pub roundsIn : Run → ℕ
+roundsIn run = length (stepsIn run)
+
+-- the step of round i
+abbrev pub stepIn : Run → ℕ → ℕ
+stepIn run i = stepAt (stepsIn run) i
+
+-- challenge i
+abbrev pub challengeIn : Run → ℕ → ℕ
+challengeIn run i = getD (run .challenges) i 0
+
+-- layer i, i < r, as it was sent: the word, or a layer of the store
+unfoldable pub layerIn : Run → ℕ → List ℕ
+layerIn run zero = run .word
+layerIn run (suc i) = storedLayer (run .k) (stepsIn run) (run .store) (suc i)
