@@ -8,14 +8,30 @@ pub const NONE: u64 = u64::MAX;
 /// The number for a dimension out of range.
 pub const K_OUT_OF_RANGE: u64 = 4;
 
+/// The number for a rate out of range.
+pub const RATE_OUT_OF_RANGE: u64 = 5;
+
 /// The number for a step out of range.
 pub const STEP_OUT_OF_RANGE: u64 = 6;
 
-/// The number for a lone fold whose dimension is below its step.
-pub const K_BELOW_STEP: u64 = 7;
+/// The number for a dimension below rate plus step, or, in a lone fold, below
+/// the step.
+pub const K_TOO_SMALL: u64 = 7;
 
 /// The number for a basis element that lies in the span of earlier ones.
 pub const DEPENDENT_BASIS: u64 = 8;
+
+/// The number for no query, or too many.
+pub const WRONG_QUERY_COUNT: u64 = 9;
+
+/// The number for a query index that is not below the length of the word.
+pub const QUERY_OUT_OF_RANGE: u64 = 10;
+
+/// The number for a round check that fails.
+pub const ROUND_CHECK_FAILS: u64 = 11;
+
+/// The number for a prover's last layer whose degree is too high.
+pub const DEGREE_TOO_HIGH: u64 = 12;
 
 /// The number for a lent list of the wrong length.
 pub const WRONG_LENGTH: u64 = 13;
@@ -51,6 +67,11 @@ pub fn done() -> Answer {
     }
 }
 
+/// The answer of a judge that accepts.
+pub fn accepted(reads: u64) -> Answer {
+    Answer { reads, ..done() }
+}
+
 /// The answer that carries nothing but the number of its cause.
 pub fn refused(number: u64) -> Answer {
     Answer {
@@ -62,8 +83,8 @@ pub fn refused(number: u64) -> Answer {
     }
 }
 
-/// The answer that carries the number of its cause and a place: a list or the
-/// place of a basis element.
+/// The answer that carries the number of its cause and a place: a list, the
+/// place of a basis element, a query or a degree.
 pub fn refused_at(number: u64, place: u64) -> Answer {
     Answer {
         place: Some(place),
@@ -76,6 +97,16 @@ pub fn refused_in_round(number: u64, round: u64) -> Answer {
     Answer {
         round: Some(round),
         ..refused(number)
+    }
+}
+
+/// The answer of a judge that a round check fails for.
+pub fn failed(query: u64, round: u64, reads: u64) -> Answer {
+    Answer {
+        place: Some(query),
+        round: Some(round),
+        reads,
+        ..refused(ROUND_CHECK_FAILS)
     }
 }
 
@@ -96,14 +127,8 @@ mod tests {
 
     #[test]
     fn the_raw_numbers_are_in_order() {
-        let answer = Answer {
-            number: 11,
-            place: Some(1),
-            round: Some(0),
-            reads: 4,
-            value: None,
-        };
-        assert_eq!(raw(&answer), [11, 1, 0, 4, NONE]);
+        assert_eq!(raw(&failed(1, 0, 4)), [11, 1, 0, 4, NONE]);
+        assert_eq!(raw(&accepted(4)), [0, NONE, NONE, 4, NONE]);
         assert_eq!(raw(&went_well(7)), [0, NONE, NONE, 0, 7]);
         assert_eq!(raw(&done()), [0, NONE, NONE, 0, NONE]);
         assert_eq!(raw(&refused(15)), [15, NONE, NONE, 0, NONE]);

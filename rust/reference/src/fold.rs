@@ -7,7 +7,7 @@
 //! the library's the more an agreement says.
 
 use crate::answer::{
-    refused, refused_in_round, DEPENDENT_LATER_BASIS, K_BELOW_STEP, K_OUT_OF_RANGE,
+    refused, refused_in_round, DEPENDENT_LATER_BASIS, K_OUT_OF_RANGE, K_TOO_SMALL,
     STEP_OUT_OF_RANGE,
 };
 use crate::coset::{first_dependent, point, points};
@@ -61,14 +61,20 @@ pub fn entry(given: Fold, j: usize) -> u64 {
 /// The next coset, or the refusal, with the lengths of `fold`.
 pub fn next_coset(given: Fold, values: usize, next_basis: usize) -> Result<Coset, Answer> {
     may_fold(given, values, next_basis)?;
-    let (spanning, others) = given.basis.split_at(given.step);
-    let q = vanishing_on_span(spanning);
-    let next = Coset {
-        offset: value(&q, given.offset),
-        basis: others.iter().map(|&element| value(&q, element)).collect(),
-    };
+    let next = following(given.step, given.offset, given.basis);
     later_independent(&next.basis, ROUND)?;
     Ok(next)
+}
+
+/// The coset that follows one: the images of its offset and of the basis elements
+/// behind those that span.
+pub fn following(step: usize, offset: u64, basis: &[u64]) -> Coset {
+    let (spanning, others) = basis.split_at(step);
+    let q = vanishing_on_span(spanning);
+    Coset {
+        offset: value(&q, offset),
+        basis: others.iter().map(|&element| value(&q, element)).collect(),
+    }
 }
 
 /// The value at x of the product of X - a over the span.
@@ -102,14 +108,14 @@ fn right_parameters(k: usize, step: usize) -> Result<(), Answer> {
         return Err(refused(STEP_OUT_OF_RANGE));
     }
     if k < step {
-        return Err(refused(K_BELOW_STEP));
+        return Err(refused(K_TOO_SMALL));
     }
     Ok(())
 }
 
 /// No independent basis leads to a refusal here, since q is zero on the span
 /// alone; the paper has the cause all the same.
-fn later_independent(basis: &[u64], round: u64) -> Result<(), Answer> {
+pub fn later_independent(basis: &[u64], round: u64) -> Result<(), Answer> {
     match first_dependent(basis) {
         Some(_) => Err(refused_in_round(DEPENDENT_LATER_BASIS, round)),
         None => Ok(()),

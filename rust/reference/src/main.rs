@@ -3,16 +3,7 @@
 //! It prints a line for each comparison. It ends with 0 if all agree, and with
 //! 1 if one differs, having shown the smallest input that it found.
 
-mod answer;
-mod compare;
-mod coset;
-mod field;
-mod fold;
-mod polynomial;
-mod random;
-mod reed_solomon;
-mod refusal;
-
+use reference::compare;
 use std::process::ExitCode;
 
 fn main() -> ExitCode {

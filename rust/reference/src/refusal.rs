@@ -7,8 +7,17 @@ use razgwilh::Answer;
 /// The list of the basis.
 pub const LIST_OF_THE_BASIS: u64 = 1;
 
+/// The list of the challenges.
+pub const LIST_OF_THE_CHALLENGES: u64 = 2;
+
 /// The list of the word, or of the coefficients to encode.
 pub const LIST_OF_THE_GIVEN: u64 = 3;
+
+/// The store, that is the list of layers 1 to r - 1.
+pub const LIST_OF_THE_STORE: u64 = 4;
+
+/// The list of the last coefficients.
+pub const LIST_OF_THE_LAST: u64 = 5;
 
 /// The list that the values, or the interpolated coefficients, are written to.
 pub const LIST_OF_THE_OUTPUT: u64 = 6;

@@ -1,0 +1,4 @@
+pub mod TableA
+pub mod Samples
+pub mod Rows
+pub mod Agreement
