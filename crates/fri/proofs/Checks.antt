@@ -22,13 +22,12 @@ use Rattle.poly.specs.Polynomial.{All}
 use Rattle.coset.specs.Span.{firstDependent, Independent}
 use Rattle.coset.specs.Answers.{outcomeOfBasis, outcomeOfLaterBasis}
 use Rattle.coset.proofs.Independence.{independent-of}
-use Rattle.fri.specs.Layout.{roundsOf, lastCount, storeLength}
+use Rattle.fri.specs.Layout.{lastCount, storeLength}
 use Rattle.fri.specs.Run.{Run, stepsIn, roundsIn}
 use Rattle.fri.specs.Layers.{basisIn}
 use Rattle.fri.specs.Checks.{parametersOutcome, lengthsOutcome, laterBasesOutcome, basesOutcome, runOutcome, firstOutside, outcomeOfOutside, queriesOutcome}
 use Rattle.fri.specs.Demand.{ValidParameters, ValidQueries}
 use Rattle.fri.specs.Theorems.{Fit}
-use Rattle.fri.proofs.Layouts.{length-steps}
 use Rattle.fri.proofs.Cosets.{later-independent}
 
 -- ---- parameters, check by check
@@ -113,14 +112,11 @@ module _ (run : Run) where
   abbrev after1 : Outcome
   after1 = refusedUnless (eqb (length (run .challenges)) (roundsIn run)) (WrongLength 2) after2
 
-  due : length (run .challenges) ≡ roundsOf (run .k) (run .rate) (run .step) → length (run .challenges) ≡ roundsIn run
-  due e = e ∙ sym (length-steps (run .k) (run .rate) (run .step))
-
   list1-passes : length (run .basis) ≡ run .k → lengthsOutcome run ≡ after1
   list1-passes e = sym (passed-by (eqb (length (run .basis)) (run .k)) (WrongLength 1) after1 (eq-eqb (length (run .basis)) (run .k) e))
 
-  list2-passes : length (run .challenges) ≡ roundsOf (run .k) (run .rate) (run .step) → after1 ≡ after2
-  list2-passes e = sym (passed-by (eqb (length (run .challenges)) (roundsIn run)) (WrongLength 2) after2 (eq-eqb (length (run .challenges)) (roundsIn run) (due e)))
+  list2-passes : length (run .challenges) ≡ roundsIn run → after1 ≡ after2
+  list2-passes e = sym (passed-by (eqb (length (run .challenges)) (roundsIn run)) (WrongLength 2) after2 (eq-eqb (length (run .challenges)) (roundsIn run) e))
 
   list3-passes : length (run .word) ≡ 2 ^ run .k → after2 ≡ after3
   list3-passes e = sym (passed-by (eqb (length (run .word)) (2 ^ run .k)) (WrongLength 3) after3 (eq-eqb (length (run .word)) (2 ^ run .k) e))
@@ -142,7 +138,7 @@ module _ (run : Run) where
       let fifth = unless-done (eqb (length (run .last)) last-due) (WrongLength 5) Done (fourth .1) in
       record {
         basis = equal-of-test (length (run .basis)) (run .k) (first .0);
-        challenges = equal-of-test (length (run .challenges)) (roundsIn run) (second .0) ∙ length-steps (run .k) (run .rate) (run .step);
+        challenges = equal-of-test (length (run .challenges)) (roundsIn run) (second .0);
         word = equal-of-test (length (run .word)) (2 ^ run .k) (third .0);
         store = equal-of-test (length (run .store)) stored (fourth .0);
         last = equal-of-test (length (run .last)) last-due (fifth .0);
@@ -151,24 +147,24 @@ module _ (run : Run) where
   pub list1-refused : length (run .basis) ≢ run .k → lengthsOutcome run ≡ Refused (WrongLength 1)
   list1-refused n = sym (refused-by (eqb (length (run .basis)) (run .k)) (WrongLength 1) after1 (ne-eqb (length (run .basis)) (run .k) n))
 
-  pub list2-refused : length (run .basis) ≡ run .k → length (run .challenges) ≢ roundsOf (run .k) (run .rate) (run .step) → lengthsOutcome run ≡ Refused (WrongLength 2)
+  pub list2-refused : length (run .basis) ≡ run .k → length (run .challenges) ≢ roundsIn run → lengthsOutcome run ≡ Refused (WrongLength 2)
   list2-refused a n =
       list1-passes a
       ∙ sym (refused-by (eqb (length (run .challenges)) (roundsIn run)) (WrongLength 2) after2
-      (ne-eqb (length (run .challenges)) (roundsIn run) (λ e. n (e ∙ length-steps (run .k) (run .rate) (run .step)))))
+      (ne-eqb (length (run .challenges)) (roundsIn run) n))
 
-  pub list3-refused : length (run .basis) ≡ run .k → length (run .challenges) ≡ roundsOf (run .k) (run .rate) (run .step) → length (run .word) ≢ 2 ^ run .k
+  pub list3-refused : length (run .basis) ≡ run .k → length (run .challenges) ≡ roundsIn run → length (run .word) ≢ 2 ^ run .k
       → lengthsOutcome run ≡ Refused (WrongLength 3)
   list3-refused a b n =
       list1-passes a ∙ list2-passes b ∙ sym (refused-by (eqb (length (run .word)) (2 ^ run .k)) (WrongLength 3) after3 (ne-eqb (length (run .word)) (2 ^ run .k) n))
 
-  pub list4-refused : length (run .basis) ≡ run .k → length (run .challenges) ≡ roundsOf (run .k) (run .rate) (run .step) → length (run .word) ≡ 2 ^ run .k
+  pub list4-refused : length (run .basis) ≡ run .k → length (run .challenges) ≡ roundsIn run → length (run .word) ≡ 2 ^ run .k
       → length (run .store) ≢ stored → lengthsOutcome run ≡ Refused (WrongLength 4)
   list4-refused a b d n =
       list1-passes a ∙ list2-passes b ∙ list3-passes d
       ∙ sym (refused-by (eqb (length (run .store)) stored) (WrongLength 4) after4 (ne-eqb (length (run .store)) stored n))
 
-  pub list5-refused : length (run .basis) ≡ run .k → length (run .challenges) ≡ roundsOf (run .k) (run .rate) (run .step) → length (run .word) ≡ 2 ^ run .k
+  pub list5-refused : length (run .basis) ≡ run .k → length (run .challenges) ≡ roundsIn run → length (run .word) ≡ 2 ^ run .k
       → length (run .store) ≡ stored → length (run .last) ≢ last-due → lengthsOutcome run ≡ Refused (WrongLength 5)
   list5-refused a b d s n =
       list1-passes a ∙ list2-passes b ∙ list3-passes d ∙ list4-passes s
@@ -290,14 +286,40 @@ outside-refused k queries query l m e =
 -- ---- which numbers there are
 
 -- an independent basis gives 0, a dependent one 8, so that 16 does not come
-pub bases-number : (run : Run) → All IsElement (run .basis) → numberOfOutcome (basesOutcome run) < 9
-bases-number run h = by (firstDependent (run .basis)) refl
+bases-number : (P : ℕ → Type 0) → P 0 → P 8 → (run : Run) → All IsElement (run .basis) → P (numberOfOutcome (basesOutcome run))
+bases-number P p0 p8 run h = by (firstDependent (run .basis)) refl
   where
-    by : (p : Position) → firstDependent (run .basis) ≡ p → numberOfOutcome (basesOutcome run) < 9
-    by (At place) e = subst (λ (o : Outcome). numberOfOutcome o < 9) (sym (bases-refused run place e)) (omega arith)
-    by Absent e = subst (λ (o : Outcome). numberOfOutcome o < 9) (sym (bases-pass run h e)) (omega arith)
+    by : (p : Position) → firstDependent (run .basis) ≡ p → P (numberOfOutcome (basesOutcome run))
+    by (At place) e = subst (λ (o : Outcome). P (numberOfOutcome o)) (sym (bases-refused run place e)) p8
+    by Absent e = subst (λ (o : Outcome). P (numberOfOutcome o)) (sym (bases-pass run h e)) p0
 
--- numbers other than 9 to 12
+-- what holds of 0, of 4 to 8, of 13 and of the bases' number holds of a run's
+run-number-by : (P : ℕ → Type 0) → P 0 → ((n : ℕ) → 4 ≤ n → n ≤ 8 → P n) → P 13 → (run : Run) → P (numberOfOutcome (basesOutcome run))
+    → P (numberOfOutcome (runOutcome run))
+run-number-by P p0 low p13 run bases =
+    number-then P (parametersOutcome (run .k) (run .rate) (run .step)) (andThen (lengthsOutcome run) (basesOutcome run)) parameters-number
+    (number-then P (lengthsOutcome run) (basesOutcome run) lengths-number bases)
+  where
+    parameters-number : P (numberOfOutcome (parametersOutcome (run .k) (run .rate) (run .step)))
+    parameters-number =
+        number-unless P (leb 2 (run .k) && leb (run .k) 20) DimensionOutOfRange (after-k (run .k) (run .rate) (run .step)) (low 4 (omega arith) (omega arith))
+        (number-unless P (leb 1 (run .rate) && leb (run .rate) 6) RateOutOfRange (after-rate (run .k) (run .rate) (run .step)) (low 5 (omega arith) (omega arith))
+        (number-unless P (leb 1 (run .step) && leb (run .step) 3) StepOutOfRange (after-step (run .k) (run .rate) (run .step)) (low 6 (omega arith) (omega arith))
+        (number-unless P (leb (run .rate + run .step) (run .k)) DimensionTooSmall Done (low 7 (omega arith) (omega arith)) p0)))
+
+    lengths-number : P (numberOfOutcome (lengthsOutcome run))
+    lengths-number =
+        number-unless P (eqb (length (run .basis)) (run .k)) (WrongLength 1) (after1 run) p13
+        (number-unless P (eqb (length (run .challenges)) (roundsIn run)) (WrongLength 2) (after2 run) p13
+        (number-unless P (eqb (length (run .word)) (2 ^ run .k)) (WrongLength 3) (after3 run) p13
+        (number-unless P (eqb (length (run .store)) (stored run)) (WrongLength 4) (after4 run) p13
+        (number-unless P (eqb (length (run .last)) (last-due run)) (WrongLength 5) Done p13 p0))))
+
+pub run-number : (P : ℕ → Type 0) → P 0 → ((n : ℕ) → 4 ≤ n → n ≤ 8 → P n) → P 13 → (run : Run) → All IsElement (run .basis)
+    → P (numberOfOutcome (runOutcome run))
+run-number P p0 low p13 run h = run-number-by P p0 low p13 run (bases-number P p0 (low 8 (omega arith) (omega arith)) run h)
+
+-- numbers other than 9 to 12, which no check of a run gives, whatever its basis
 abbrev pub Early : ℕ → Type 0
 Early n = (n < 9) ⊎ (12 < n)
 
@@ -312,7 +334,7 @@ later-bases-early run round (suc left) =
     by (At place) = inr (omega arith)
     by Absent = inl (omega arith)
 
-pub bases-early : (run : Run) → Early (numberOfOutcome (basesOutcome run))
+bases-early : (run : Run) → Early (numberOfOutcome (basesOutcome run))
 bases-early run =
     number-then Early (outcomeOfBasis (firstDependent (run .basis))) (laterBasesOutcome run 0 (roundsIn run)) (by (firstDependent (run .basis)))
     (later-bases-early run 0 (roundsIn run))
@@ -321,36 +343,14 @@ bases-early run =
     by (At place) = inl (omega arith)
     by Absent = inl (omega arith)
 
--- what holds of numbers below 9, of 13 and of the bases' number holds of a run's
-pub run-number : (P : ℕ → Type 0) → ((n : ℕ) → n < 9 → P n) → P 13 → (run : Run) → P (numberOfOutcome (basesOutcome run))
-    → P (numberOfOutcome (runOutcome run))
-run-number P low p13 run bases =
-    number-then P (parametersOutcome (run .k) (run .rate) (run .step)) (andThen (lengthsOutcome run) (basesOutcome run)) parameters-number
-    (number-then P (lengthsOutcome run) (basesOutcome run) lengths-number bases)
-  where
-    parameters-number : P (numberOfOutcome (parametersOutcome (run .k) (run .rate) (run .step)))
-    parameters-number =
-        number-unless P (leb 2 (run .k) && leb (run .k) 20) DimensionOutOfRange (after-k (run .k) (run .rate) (run .step)) (low 4 (omega arith))
-        (number-unless P (leb 1 (run .rate) && leb (run .rate) 6) RateOutOfRange (after-rate (run .k) (run .rate) (run .step)) (low 5 (omega arith))
-        (number-unless P (leb 1 (run .step) && leb (run .step) 3) StepOutOfRange (after-step (run .k) (run .rate) (run .step)) (low 6 (omega arith))
-        (number-unless P (leb (run .rate + run .step) (run .k)) DimensionTooSmall Done (low 7 (omega arith)) (low 0 (omega arith)))))
-
-    lengths-number : P (numberOfOutcome (lengthsOutcome run))
-    lengths-number =
-        number-unless P (eqb (length (run .basis)) (run .k)) (WrongLength 1) (after1 run) p13
-        (number-unless P (eqb (length (run .challenges)) (roundsIn run)) (WrongLength 2) (after2 run) p13
-        (number-unless P (eqb (length (run .word)) (2 ^ run .k)) (WrongLength 3) (after3 run) p13
-        (number-unless P (eqb (length (run .store)) (stored run)) (WrongLength 4) (after4 run) p13
-        (number-unless P (eqb (length (run .last)) (last-due run)) (WrongLength 5) Done p13 (low 0 (omega arith))))))
-
 pub run-early : (run : Run) → Early (numberOfOutcome (runOutcome run))
-run-early run = run-number Early (λ n l. inl l) (inr (omega arith)) run (bases-early run)
+run-early run = run-number-by Early (inl (omega arith)) (λ n l u. inl (omega arith)) (inr (omega arith)) run (bases-early run)
 
-pub queries-number : (k : ℕ) (queries : List ℕ) → numberOfOutcome (queriesOutcome k queries) < 11
-queries-number k queries =
-    number-unless (λ n. n < 11) (counted queries) QueryCountOutOfRange (outcomeOfOutside (firstOutside (2 ^ k) queries 0)) (omega arith)
+pub queries-number : (P : ℕ → Type 0) → P 0 → P 9 → P 10 → (k : ℕ) (queries : List ℕ) → P (numberOfOutcome (queriesOutcome k queries))
+queries-number P p0 p9 p10 k queries =
+    number-unless P (counted queries) QueryCountOutOfRange (outcomeOfOutside (firstOutside (2 ^ k) queries 0)) p9
     (by (firstOutside (2 ^ k) queries 0))
   where
-    by : (p : Position) → numberOfOutcome (outcomeOfOutside p) < 11
-    by (At query) = omega arith
-    by Absent = omega arith
+    by : (p : Position) → P (numberOfOutcome (outcomeOfOutside p))
+    by (At query) = p10
+    by Absent = p0

@@ -17,32 +17,35 @@ use Rattle.poly.specs.Degree.{degreeBound}
 use Rattle.poly.proofs.AtField.{gf64-laws}
 use Rattle.poly.proofs.Evaluation.{evaluate-taken}
 use Rattle.poly.proofs.Degree.{below-bound}
+use Rattle.poly.proofs.Entries.{all-append, all-take}
+use Rattle.poly.proofs.Interpolation.{interpolant-elements}
 use Rattle.refusal.specs.declared.Cause.the-variants.{DegreeTooLarge}
 use Rattle.refusal.specs.declared.Outcome.{Outcome}
 use Rattle.refusal.specs.declared.Outcome.the-variants.{Done, Refused}
 use Rattle.refusal.specs.Checks.{andThen}
 use Rattle.refusal.specs.Numbers.{numberOf, numberOfOutcome}
 use Rattle.refusal.proofs.Checks.{number-unless, number-then}
-use Rattle.coset.specs.Coset.{point, tabulated}
+use Rattle.coset.specs.Coset.{point, points, tabulated}
+use Rattle.coset.proofs.Points.{points-elements}
 use Rattle.reed_solomon.specs.Codes.{interpolated}
 use Rattle.reed_solomon.proofs.Theorems.{round-trips, encoding}
 use Rattle.fold.specs.Theorems.{IsWord}
 use Rattle.fri.specs.declared.Answer.the-variants as answers
 use Rattle.fri.specs.declared.Verdict.{Verdict}
-use Rattle.fri.specs.Layout.{roundsOf, dimension, lastCount, storeLength, indexIn}
+use Rattle.fri.specs.Layout.{dimension, lastCount, storeLength, indexIn}
 use Rattle.fri.specs.Run.{Run, stepsIn, roundsIn, stepIn}
-use Rattle.fri.specs.Layers.{basisIn, offsetIn, foldOf, honestLayer, honestStore, lastInterpolant, honestLast, honest}
-use Rattle.fri.specs.Checks.{basesOutcome, runOutcome, queriesOutcome}
-use Rattle.fri.specs.Judge.{listsOutcome, answerOf, verdictOf, numberOfAnswer}
+use Rattle.fri.specs.Layers.{basisIn, offsetIn, foldOf, honestLayer, honestJoined, honestStore, lastInterpolant, honestLast, honest}
+use Rattle.fri.specs.Checks.{runOutcome, queriesOutcome}
+use Rattle.fri.specs.Judge.{checksOutcome, answerOf, verdictOf, numberOfAnswer}
 use Rattle.fri.specs.Rounds.{valueComputed, valueFound, roundsOutcome}
 use Rattle.fri.specs.Prover.{degreeOutcome, proveOutcome, storeAfter, lastAfter}
-use Rattle.fri.specs.Demand.{ValidCoset, ProverInput, LowDegree, ValidQueries, Any, Accepted, Visits, Covered, Completeness}
+use Rattle.fri.specs.Demand.{ValidCoset, ProverInput, LowDegree, ValidQueries, Any, Accepted, Visits, Covered, Elements, Completeness, HonestProofs}
 use Rattle.fri.specs.Theorems.{PassesEveryRound, Fit}
 use Rattle.fri.proofs.Layouts.{index-within}
 use Rattle.fri.proofs.Cosets.{first-fits, layer-steps-fit, length-layerBasis, honest-is-word, honest-degree, length-honestStore, honest-layers}
 use Rattle.fri.proofs.Values.{computed-entry, found-entry, found-last}
 use Rattle.fri.proofs.Rounds.{refused-by-round}
-use Rattle.fri.proofs.Checks.{run-passes, run-number, run-early, bases-number, queries-number}
+use Rattle.fri.proofs.Checks.{run-passes, run-number, run-early, queries-number}
 use Rattle.fri.proofs.Verdicts.{accepted-verdict, lists-pass}
 use Rattle.fri.proofs.Provers.{early-not-12, degree-passes, degree-done, done-holds-both}
 
@@ -143,7 +146,7 @@ module _ (run : Run) (v : ValidCoset run) (p : ProverInput run) where
 
   pub honest-accepted : LowDegree run → (queries : List ℕ) → ValidQueries (run .k) queries
       → verdictOf (honest run) queries
-      ≡ record { answer = answers.Accepted; reads = length queries * roundsOf (run .k) (run .rate) (run .step) * 2 ^ run .step }
+      ≡ record { answer = answers.Accepted; reads = length queries * roundsIn run * 2 ^ run .step }
   honest-accepted low queries q =
       accepted-verdict (honest run) queries
       (lists-pass (honest run) queries (run-passes (honest run) (v .basis-elements) (v .parameters) honest-fit (v .independent)) q)
@@ -161,8 +164,7 @@ low-not-16 n l e = omega arith
 
 run-never16 : (run : Run) → All IsElement (run .basis) → numberOfOutcome (runOutcome run) ≢ 16
 run-never16 run h =
-    run-number (λ n. n ≢ 16) (λ n l. low-not-16 n (omega arith)) (low-not-16 13 (omega arith)) run
-    (low-not-16 (numberOfOutcome (basesOutcome run)) (omega (arith, bases-number run h)))
+    run-number (λ n. n ≢ 16) (low-not-16 0 (omega arith)) (λ n l u. low-not-16 n (omega arith)) (low-not-16 13 (omega arith)) run h
 
 prover-never16 : (run : Run) → All IsElement (run .basis) → numberOfOutcome (proveOutcome run) ≢ 16
 prover-never16 run h =
@@ -170,7 +172,7 @@ prover-never16 run h =
     (number-unless (λ n. n ≢ 16) (leb (degreeBound (lastInterpolant run)) (lastCount (run .k) (run .rate) (stepsIn run))) (DegreeTooLarge (degreeBound (lastInterpolant run) - 1)) Done
     (low-not-16 12 (omega arith)) (low-not-16 0 (omega arith)))
 
-same-number : (o : Outcome) → numberOfAnswer (answerOf o) ≡ numberOfOutcome o
+pub same-number : (o : Outcome) → numberOfAnswer (answerOf o) ≡ numberOfOutcome o
 same-number Done = refl
 same-number (Refused cause) = refl
 
@@ -183,11 +185,11 @@ rounds-never16 run queries = by (roundsOutcome run queries 0) refl
 
 judge-never16 : (run : Run) → All IsElement (run .basis) → (queries : List ℕ) → numberOfAnswer (verdictOf run queries .answer) ≢ 16
 judge-never16 run h queries e =
-    number-then (λ n. n ≢ 16) (listsOutcome run queries) (roundsOutcome run queries 0)
+    number-then (λ n. n ≢ 16) (checksOutcome run queries) (roundsOutcome run queries 0)
     (number-then (λ n. n ≢ 16) (runOutcome run) (queriesOutcome (run .k) queries) (run-never16 run h)
-    (low-not-16 (numberOfOutcome (queriesOutcome (run .k) queries)) (omega (arith, queries-number (run .k) queries))))
+    (queries-number (λ n. n ≢ 16) (low-not-16 0 (omega arith)) (low-not-16 9 (omega arith)) (low-not-16 10 (omega arith)) (run .k) queries))
     (rounds-never16 run queries)
-    (sym (same-number (andThen (listsOutcome run queries) (roundsOutcome run queries 0))) ∙ e)
+    (sym (same-number (andThen (checksOutcome run queries) (roundsOutcome run queries 0))) ∙ e)
 
 -- ---- the prover makes the honest run
 
@@ -201,6 +203,38 @@ proves run v p low ls ll =
   where
     fit : Fit run
     fit = record { basis = v .basis-count; challenges = p .challenges-count; word = p .word-count; store = ls; last = ll }
+
+-- ---- the numbers of an honest run
+
+joined-elements : (run : Run) → ValidCoset run → ProverInput run → (n : ℕ) → n ≤ roundsIn run → All IsElement (honestJoined run n)
+unfolding honestJoined
+joined-elements run v p zero h = record {}
+joined-elements run v p (suc n) h =
+    all-append IsElement (honestJoined run n) (honestLayer run (suc n)) (joined-elements run v p n (omega arith)) (honest-is-word run v p (suc n) h .word-elements)
+
+pub honestStore-elements : (run : Run) → ValidCoset run → ProverInput run → All IsElement (honestStore run)
+unfolding honestStore
+honestStore-elements run v p = joined-elements run v p (roundsIn run - 1) (omega arith)
+
+pub honestLast-elements : (run : Run) → ValidCoset run → ProverInput run → All IsElement (honestLast run)
+unfolding honestLast lastInterpolant interpolated
+honestLast-elements run v p =
+    let r : ℕ = roundsIn run in
+    let w : IsWord (offsetIn run r) (basisIn run r) (honestLayer run r) = honest-is-word run v p r (omega arith) in
+    all-take IsElement (lastCount (run .k) (run .rate) (stepsIn run)) (interpolated (offsetIn run r) (basisIn run r) (honestLayer run r))
+    (interpolant-elements gf64 IsElement gf64-laws (points (offsetIn run r) (basisIn run r)) (honestLayer run r)
+    (points-elements (offsetIn run r) (basisIn run r) (w .offset-element) (w .basis-elements)) (w .word-elements))
+
+honest-elements : (run : Run) → ValidCoset run → ProverInput run → Elements (honest run)
+honest-elements run v p =
+    record {
+      offset = v .offset-element;
+      basis = v .basis-elements;
+      challenges = p .challenges-elements;
+      word = p .word-elements;
+      store = honestStore-elements run v p;
+      last = honestLast-elements run v p;
+    }
 
 -- ---- one judging for each first-layer coset covers it
 
@@ -236,11 +270,13 @@ covered run v p low = (
         }
 
 pub completeness : Completeness
-completeness =
+completeness run queries v p low q = honest-accepted run v p low queries q
+
+pub honest-proofs : HonestProofs
+honest-proofs =
     record {
-      accepted = λ run queries v p low q. honest-accepted run v p low queries q;
       proves = proves;
       never12 = never12;
       never16 = λ run h. (prover-never16 run h, judge-never16 run h);
-      covered = covered;
+      covered = λ run v p low. (honest-elements run v p, covered run v p low);
     }

@@ -18,7 +18,7 @@ use Rattle.fri.specs.Run.{Run, stepsIn}
 use Rattle.fri.specs.Layers.{honestStore, lastInterpolant, honestLast}
 use Rattle.fri.specs.Checks.{runOutcome}
 use Rattle.fri.specs.Prover.{degreeOutcome, proveOutcome, storeAfter, lastAfter}
-use Rattle.fri.specs.Theorems.{Proved}
+use Rattle.fri.specs.Theorems.{ProverAnswers}
 use Rattle.fri.proofs.Checks as checks
 use Rattle.fri.proofs.Checks.{Early}
 use Rattle.fri.proofs.Verdicts.{which}
@@ -83,8 +83,8 @@ module _ (run : Run) where
     ap (λ (o : Outcome). afterwards o (honestLast run) (run .last)) e,
   )
 
-pub proved : Proved
-proved =
+pub prover-answers : ProverAnswers
+prover-answers =
     record {
       done = λ run. (λ e. done-degree run e, λ t. degree-done run (t .0) (t .1));
       holds = done-holds-both;

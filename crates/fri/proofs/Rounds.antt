@@ -22,6 +22,7 @@ use Rattle.fri.specs.Run.{Run, stepsIn, roundsIn}
 use Rattle.fri.specs.Rounds.{valueComputed, valueFound, roundPasses, firstFailingRound, failingRound, outcomeOfRounds, roundsOutcome}
 use Rattle.fri.specs.Reads.{entryCount, queryReads, unlessFailed, entriesRead}
 use Rattle.fri.specs.Theorems.{PassesEveryRound, FailsFirst}
+use Rattle.fri.proofs.Layouts.{length-steps}
 
 -- ---- the rounds of one query
 
@@ -247,10 +248,13 @@ taken-alike (suc m) zero step = sym (ap (λ (l : ℕ). replicate l step) (min-ze
 taken-alike (suc m) (suc n) step =
     ap {B = List ℕ} (λ l. step ∷ l) (taken-alike m n step) ∙ sym (ap (λ (l : ℕ). replicate l step) (suc-min-suc m n))
 
-pub entries-of-rounds : (run : Run) → entryCount (stepsIn run) ≡ roundsOf (run .k) (run .rate) (run .step) * 2 ^ run .step
-entries-of-rounds run = entries-alike (roundsOf (run .k) (run .rate) (run .step)) (run .step)
+pub entries-of-rounds : (run : Run) → entryCount (stepsIn run) ≡ roundsIn run * 2 ^ run .step
+entries-of-rounds run =
+    entries-alike (roundsOf (run .k) (run .rate) (run .step)) (run .step)
+    ∙ ap (λ (n : ℕ). n * 2 ^ run .step) (sym (length-steps (run .k) (run .rate) (run .step)))
 
-pub entries-until : (run : Run) (i : ℕ) → queryReads run (At i) ≡ min (i + 2) (roundsOf (run .k) (run .rate) (run .step)) * 2 ^ run .step
+pub entries-until : (run : Run) (i : ℕ) → queryReads run (At i) ≡ min (i + 2) (roundsIn run) * 2 ^ run .step
 entries-until run i =
     let r : ℕ = roundsOf (run .k) (run .rate) (run .step) in
     ap entryCount (taken-alike (i + 2) r (run .step)) ∙ entries-alike (min (i + 2) r) (run .step)
+    ∙ ap (λ (n : ℕ). min (i + 2) n * 2 ^ run .step) (sym (length-steps (run .k) (run .rate) (run .step)))

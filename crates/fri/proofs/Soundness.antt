@@ -46,6 +46,18 @@ covering run coset (queries ∷ lists) (inl h) =
     (lists-valid run queries (told .0) .0, visited run coset queries (told .1) (h .1))
 covering run coset (queries ∷ lists) (inr s) = covering run coset lists s
 
+-- a run of 64-bit numbers that passes the checks has a valid coset
+valid-coset : (run : Run) → Elements run → runOutcome run ≡ Done → ValidCoset run
+valid-coset run e checked =
+    let told = run-valid run checked in
+    record {
+      parameters = told .0;
+      offset-element = e .offset;
+      basis-elements = e .basis;
+      basis-count = told .1 .basis;
+      independent = told .2;
+    }
+
 module _ (run : Run) (lists : List (List ℕ)) (e : Elements run) (cover : Covered run lists) where
   -- ---- every index is a query's
 
@@ -59,15 +71,7 @@ module _ (run : Run) (lists : List (List ℕ)) (e : Elements run) (cover : Cover
   fit = run-valid run checked .1
 
   v : ValidCoset run
-  v =
-      let told = run-valid run checked in
-      record {
-        parameters = told .0;
-        offset-element = e .offset;
-        basis-elements = e .basis;
-        basis-count = told .1 .basis;
-        independent = told .2;
-      }
+  v = valid-coset run e checked
 
   -- of a query that passes
   abbrev Reached : ℕ → ℕ → Type 0
@@ -199,7 +203,10 @@ soundness = sound
 -- ---- the exceptional sets of the layers of a run
 
 pub few-exceptional : FewExceptional
-few-exceptional run v ew es lw ls i h xs all d =
+few-exceptional run e checked i h xs all d =
+    let v : ValidCoset run = valid-coset run e checked in
+    let fit : Fit run = run-valid run checked .1 in
     let same : stepIn run i ≡ run .step = step-of-round (run .k) (run .rate) (run .step) i h in
     subst (λ (s : ℕ). length xs ≤ 2 ^ s - 1) same
-    (exceptional-bound (run .rate) (stepIn run i) (offsetIn run i) (basisIn run i) (layerIn run i) (layer-is-word run v ew es lw ls i h) (fits-basis run v i h) xs all d)
+    (exceptional-bound (run .rate) (stepIn run i) (offsetIn run i) (basisIn run i) (layerIn run i)
+    (layer-is-word run v (e .word) (e .store) (fit .word) (fit .store) i h) (fits-basis run v i h) xs all d)

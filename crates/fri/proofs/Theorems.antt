@@ -13,14 +13,17 @@ use lib.Seq.{getD-take, getD-drop}
 use borrow.Author.Tests.{le-leb, lt-leb, lt-ltb, le-ltb, eq-eqb, ne-eqb}
 use Rattle.reed_solomon.specs.Codes.{interpolated}
 use Rattle.fold.specs.Fold.{folded}
+use Rattle.gf64.specs.Field.{IsElement}
+use Rattle.poly.specs.Polynomial.{All}
+use Rattle.poly.specs.Degree.{degreeBound}
 use Rattle.refusal.specs.declared.Cause.{Cause}
-use Rattle.refusal.specs.declared.Cause.the-variants.{DimensionOutOfRange, RateOutOfRange, StepOutOfRange, DimensionTooSmall, WrongLength, BasisDependent, QueryCountOutOfRange, QueryOutOfRange, RoundCheckFails}
+use Rattle.refusal.specs.declared.Cause.the-variants.{DimensionOutOfRange, RateOutOfRange, StepOutOfRange, DimensionTooSmall, WrongLength, BasisDependent, QueryCountOutOfRange, QueryOutOfRange, RoundCheckFails, DegreeTooLarge}
 use Rattle.refusal.specs.declared.Outcome.{Outcome}
 use Rattle.refusal.specs.declared.Outcome.the-variants.{Done, Refused}
 use Rattle.refusal.specs.declared.Position.the-variants.{At, Absent}
 use Rattle.refusal.specs.Checks.{andThen, afterwards}
 use Rattle.refusal.specs.Numbers.{numberOf, placeOf, roundOf, numberOfOutcome, placeOfOutcome, roundOfOutcome}
-use Rattle.refusal.proofs.Checks.{refused-by, then-passed, then-refused, both-true, first-false, second-false, number-then}
+use Rattle.refusal.proofs.Checks.{number-unless, refused-by, then-passed, then-refused, both-true, first-false, second-false, number-then}
 use Rattle.coset.specs.Coset.{point}
 use Rattle.coset.specs.Span.{firstDependent}
 use Rattle.coset.specs.Subspace.{image}
@@ -30,14 +33,15 @@ use Rattle.fri.specs.Run.{Run, stepsIn, roundsIn, stepIn, challengeIn, l
 use Rattle.fri.specs.Layers.{basisIn, offsetIn, foldOf, honestLayer, honestStore, lastInterpolant, honestLast, honest}
 use Rattle.fri.specs.Checks.{parametersOutcome, lengthsOutcome, basesOutcome, runOutcome, queriesOutcome}
 use Rattle.fri.specs.Lookup.{partAfter, inStore, layerPart}
-use Rattle.fri.specs.Judge.{listsOutcome, verdictOf}
+use Rattle.fri.specs.Judge.{checksOutcome, verdictOf, numberOfAnswer, placeOfAnswer, roundOfAnswer}
 use Rattle.fri.specs.Rounds.{valueComputed, roundsOutcome}
 use Rattle.fri.specs.Prover.{degreeOutcome, proveOutcome}
 use Rattle.fri.specs.Demand.{ValidParameters, ValidCoset, Accepted}
-use Rattle.fri.specs.Theorems.{Layouts, LayerCosets, HonestLayers, Lookups, Fit, Passing, Tells, BothRefuse, Refusals, FailsFirst, RoundChecks, Reads}
+use Rattle.fri.specs.Theorems.{Layouts, LayerCosets, HonestLayers, Lookups, SentLayers, Fit, Passing, Tells, BothRefuse, Refusals, FailsFirst, RoundChecks, Reads, JudgeNumber, ProverNumber, OnlyNumbers}
 use Rattle.fri.proofs.Layouts as laws
 use Rattle.fri.proofs.Cosets.{first-coset, layer-steps-fit, layer-images, length-layerBasis, layerBasis-elements, layerOffset-element, layerBasis-independent, length-honestStore, honest-layers}
 use Rattle.fri.proofs.Values.{computed-entry, found-entry, found-last}
+use Rattle.fri.proofs.Completeness.{length-honestLast, honestStore-elements, honestLast-elements, same-number}
 use Rattle.fri.proofs.Rounds.{fails-of-refused, refused-by-round}
 use Rattle.fri.proofs.Checks as checks
 use Rattle.fri.proofs.Checks.{Early}
@@ -88,7 +92,7 @@ layouts =
       rounds = laws.length-steps;
       steps = λ k rate step i h. laws.step-of-round k rate step i (counted k rate step (suc i) h);
       dimensions = λ k rate step i h. laws.dimension-of-layer k rate step i (counted k rate step i h);
-      last = laws.last-count;
+      last-count = laws.last-count;
       some-round = λ k rate step v. subst (λ (n : ℕ). 1 ≤ n) (laws.length-steps k rate step) (laws.some-round k rate step (v .step-least) (v .k-enough));
       few-points = few-points;
       few-coefficients = few-coefficients;
@@ -103,10 +107,10 @@ layouts =
 
 -- ---- the cosets of the layers
 
-layer-points : (run : Run) (i j t : ℕ) → ValidCoset run → i < roundsOf (run .k) (run .rate) (run .step) → t < 2 ^ run .step
+layer-points : (run : Run) (i j t : ℕ) → ValidCoset run → i < roundsIn run → t < 2 ^ run .step
     → image (run .step) (basisIn run i) (point (offsetIn run i) (basisIn run i) (j * 2 ^ run .step + t)) ≡ point (offsetIn run (suc i)) (basisIn run (suc i)) j
 layer-points run i j t v h l =
-    let same : stepIn run i ≡ run .step = laws.step-of-round (run .k) (run .rate) (run .step) i (counted (run .k) (run .rate) (run .step) (suc i) h) in
+    let same : stepIn run i ≡ run .step = laws.step-of-round (run .k) (run .rate) (run .step) i h in
     subst
     (λ (s : ℕ). image s (basisIn run i) (point (offsetIn run i) (basisIn run i) (j * 2 ^ s + t)) ≡ point (offsetIn run (suc i)) (basisIn run (suc i)) j) same
     (layer-images run i j t (layerOffset-element run v i) (layerBasis-elements run v i) (subst (λ (s : ℕ). t < 2 ^ s) (sym same) l))
@@ -116,19 +120,19 @@ layer-cosets =
     record {
       first = first-coset;
       dimensions = λ run i v h.
-          length-layerBasis run v i ∙ laws.dimension-of-layer (run .k) (run .rate) (run .step) i (counted (run .k) (run .rate) (run .step) i h);
+          length-layerBasis run v i ∙ laws.dimension-of-layer (run .k) (run .rate) (run .step) i h;
       independent = λ run i v. layerBasis-independent run v i;
       points = layer-points;
     }
 
 -- ---- the honest layers
 
-folds : (run : Run) (i : ℕ) (entries : List ℕ) → i < roundsOf (run .k) (run .rate) (run .step)
+folds : (run : Run) (i : ℕ) (entries : List ℕ) → i < roundsIn run
     → foldOf run i entries ≡ folded (run .step) (offsetIn run i) (basisIn run i) entries (getD (run .challenges) i 0)
 unfolding foldOf
 folds run i entries h =
     ap (λ (s : ℕ). folded s (offsetIn run i) (basisIn run i) entries (challengeIn run i))
-    (laws.step-of-round (run .k) (run .rate) (run .step) i (counted (run .k) (run .rate) (run .step) (suc i) h))
+    (laws.step-of-round (run .k) (run .rate) (run .step) i h)
 
 honest-first : (run : Run) → honestLayer run 0 ≡ run .word
 unfolding honestLayer
@@ -138,15 +142,26 @@ honest-next : (run : Run) (i : ℕ) → honestLayer run (suc i) ≡ foldOf run i
 unfolding honestLayer
 honest-next run i = refl
 
-honest-last : (run : Run)
-    → honestLast run
-    ≡ take (lastCount (run .k) (run .rate) (stepsIn run))
-    (interpolated (offsetIn run (roundsIn run)) (basisIn run (roundsIn run)) (honestLayer run (roundsIn run)))
-unfolding honestLast lastInterpolant
+honest-interpolant : (run : Run)
+    → lastInterpolant run ≡ interpolated (offsetIn run (roundsIn run)) (basisIn run (roundsIn run)) (honestLayer run (roundsIn run))
+unfolding lastInterpolant
+honest-interpolant run = refl
+
+honest-last : (run : Run) → honestLast run ≡ take (lastCount (run .k) (run .rate) (stepsIn run)) (lastInterpolant run)
+unfolding honestLast
 honest-last run = refl
 
 pub honest-run : HonestLayers
-honest-run = record { folds = folds; word = honest-first; next = honest-next; last = honest-last }
+honest-run =
+    record {
+      folds = folds;
+      word = honest-first;
+      next = honest-next;
+      interpolant = honest-interpolant;
+      last = honest-last;
+      counts = λ run v p. (length-honestStore run v (p .word-count), length-honestLast run v p);
+      elements = λ run v p. (honestStore-elements run v p, honestLast-elements run v p);
+    }
 
 -- ---- the layer lookup
 
@@ -210,13 +225,16 @@ part-entries k rate step store i t v l h e u =
     (subst (λ (n : ℕ). t < 2 ^ n) (sym (laws.dimension-of-layer k rate step i (counted k rate step i (omega arith)))) u)
     ∙ getD-drop (layerStart k steps i) store t 0
 
-of-honest : (run : Run) (i : ℕ) → ValidCoset run → length (run .word) ≡ 2 ^ run .k → 1 ≤ i → i < roundsOf (run .k) (run .rate) (run .step)
+in-rounds : (run : Run) (i : ℕ) → i ≤ roundsIn run → i ≤ roundsOf (run .k) (run .rate) (run .step)
+in-rounds run i h = subst (λ (n : ℕ). i ≤ n) (laws.length-steps (run .k) (run .rate) (run .step)) h
+
+of-honest : (run : Run) (i : ℕ) → ValidCoset run → length (run .word) ≡ 2 ^ run .k → 1 ≤ i → i < roundsIn run
     → layerPart (run .k) (run .rate) (run .step) (honestStore run) i ≡ honestLayer run i
 unfolding layerIn
 of-honest run zero v lw l h = absurd (omega arith)
 of-honest run (suc i) v lw l h =
-    looked-up (run .k) (run .rate) (run .step) (honestStore run) (suc i) (v .parameters) l h (length-honestStore run v lw)
-    ∙ honest-layers run v lw (suc i) (counted (run .k) (run .rate) (run .step) (suc (suc i)) h)
+    looked-up (run .k) (run .rate) (run .step) (honestStore run) (suc i) (v .parameters) l (in-rounds run (suc (suc i)) h) (length-honestStore run v lw)
+    ∙ honest-layers run v lw (suc i) h
 
 pub lookups : Lookups
 lookups =
@@ -229,13 +247,28 @@ lookups =
       of-honest = of-honest;
     }
 
+-- ---- the layers as they were sent
+
+sent-word : (run : Run) → layerIn run 0 ≡ run .word
+unfolding layerIn
+sent-word run = refl
+
+sent-stored : (run : Run) (i : ℕ) → ValidParameters (run .k) (run .rate) (run .step) → 1 ≤ i → i < roundsIn run
+    → length (run .store) ≡ storeLength (run .k) (stepsIn run) → layerIn run i ≡ layerPart (run .k) (run .rate) (run .step) (run .store) i
+unfolding layerIn
+sent-stored run zero v l h e = absurd (omega arith)
+sent-stored run (suc i) v l h e = sym (looked-up (run .k) (run .rate) (run .step) (run .store) (suc i) v l (in-rounds run (suc (suc i)) h) e)
+
+pub sent-layers : SentLayers
+sent-layers = record { word = sent-word; stored = sent-stored }
+
 -- ---- the checks before the round checks
 
 pub passing : Passing
 passing =
     record {
-      run = λ run h. (λ e. checks.run-valid run e, λ t. checks.run-passes run h (t .0) (t .1) (t .2));
-      lists = λ run queries. (λ e. verdicts.lists-valid run queries e, λ t. verdicts.lists-pass run queries (t .0) (t .1));
+      common = λ run h. (λ e. checks.run-valid run e, λ t. checks.run-passes run h (t .0) (t .1) (t .2));
+      all = λ run queries. (λ e. verdicts.lists-valid run queries e, λ t. verdicts.lists-pass run queries (t .0) (t .1));
     }
 
 refused-prove : (run : Run) (cause : Cause) → runOutcome run ≡ Refused cause → proveOutcome run ≡ Refused cause
@@ -299,71 +332,92 @@ early-not-11 n (inl l) e = omega arith
 early-not-11 n (inr u) e = omega arith
 
 -- the checks before them never answer 11
-lists-not-11 : (run : Run) (queries : List ℕ) → numberOfOutcome (listsOutcome run queries) ≢ 11
+lists-not-11 : (run : Run) (queries : List ℕ) → numberOfOutcome (checksOutcome run queries) ≢ 11
 lists-not-11 run queries =
     number-then (λ n. n ≢ 11) (runOutcome run) (queriesOutcome (run .k) queries) (early-not-11 (numberOfOutcome (runOutcome run)) (checks.run-early run))
-    (below (numberOfOutcome (queriesOutcome (run .k) queries)) (checks.queries-number (run .k) queries))
+    (checks.queries-number (λ n. n ≢ 11) (below 0 (omega arith)) (below 9 (omega arith)) (below 10 (omega arith)) (run .k) queries)
   where
     below : (n : ℕ) → n < 11 → n ≢ 11
     below n l e = omega arith
 
 round-refused : (run : Run) (queries : List ℕ) (query round : ℕ) → verdictOf run queries .answer ≡ answers.Refused (RoundCheckFails query round)
-    → (listsOutcome run queries ≡ Done) × FailsFirst run queries query round
+    → (checksOutcome run queries ≡ Done) × FailsFirst run queries query round
 round-refused run queries query round e =
     ⊎-elim
-    (λ (h : listsOutcome run queries ≡ Refused (RoundCheckFails query round)). absurd (lists-not-11 run queries (ap numberOfOutcome h)))
-    (λ (h : (listsOutcome run queries ≡ Done) × (roundsOutcome run queries 0 ≡ Refused (RoundCheckFails query round))).
+    (λ (h : checksOutcome run queries ≡ Refused (RoundCheckFails query round)). absurd (lists-not-11 run queries (ap numberOfOutcome h)))
+    (λ (h : (checksOutcome run queries ≡ Done) × (roundsOutcome run queries 0 ≡ Refused (RoundCheckFails query round))).
     (h .0, fails-of-refused run queries query round (h .1)))
     (verdicts.refused-which run queries (RoundCheckFails query round) e)
 
 -- a query's index in layer i + 1
-next-index : (run : Run) (j i : ℕ) → suc i ≤ roundsOf (run .k) (run .rate) (run .step) → indexIn (stepsIn run) j (suc i) ≡ j / 2 ^ (run .step * suc i)
-next-index run j i h = laws.index-of-layer (run .k) (run .rate) (run .step) j (suc i) (counted (run .k) (run .rate) (run .step) (suc i) h)
+next-index : (run : Run) (j i : ℕ) → suc i ≤ roundsIn run → indexIn (stepsIn run) j (suc i) ≡ j / 2 ^ (run .step * suc i)
+next-index run j i h = laws.index-of-layer (run .k) (run .rate) (run .step) j (suc i) h
 
-computed : (run : Run) (j i : ℕ) → ValidCoset run → j < 2 ^ run .k → i < roundsOf (run .k) (run .rate) (run .step)
+computed : (run : Run) (j i : ℕ) → ValidCoset run → j < 2 ^ run .k → i < roundsIn run
     → valueComputed run j i ≡ getD (foldOf run i (layerIn run i)) (j / 2 ^ (run .step * suc i)) 0
 computed run j i v l h =
     computed-entry run v j i (j / 2 ^ (run .step * suc i))
     (subst (λ (n : ℕ). n < 2 ^ dimension (run .k) (stepsIn run) (suc i)) (next-index run j i h)
-    (laws.index-within (run .k) (stepsIn run) (layer-steps-fit run v) j (suc i) (counted (run .k) (run .rate) (run .step) (suc i) h) l))
+    (laws.index-within (run .k) (stepsIn run) (layer-steps-fit run v) j (suc i) h l))
     (next-index run j i h)
-
-as-rounds : (run : Run) → roundsOf (run .k) (run .rate) (run .step) ≡ roundsIn run
-as-rounds run = sym (laws.length-steps (run .k) (run .rate) (run .step))
 
 pub round-checks : RoundChecks
 round-checks =
     record {
       computed = computed;
       found = λ run j i h.
-          found-entry run j i (j / 2 ^ (run .step * suc i)) (subst (λ (n : ℕ). suc i < n) (as-rounds run) h) (next-index run j i (omega arith));
-      found-last = λ run j i h. found-last run j i (j / 2 ^ (run .step * suc i)) (h ∙ as-rounds run) (next-index run j i (le-of-eq h));
+          found-entry run j i (j / 2 ^ (run .step * suc i)) h (next-index run j i (omega arith));
+      found-last = λ run j i h. found-last run j i (j / 2 ^ (run .step * suc i)) h (next-index run j i (le-of-eq h));
       accepted = λ run queries. (λ e. verdicts.accepted-lists run queries e, λ t. verdicts.accepted-by run queries (t .0) (t .1));
       refused = λ run queries query round. (λ e. round-refused run queries query round e, λ t. verdicts.refused-by run queries query round (t .0) (t .1));
     }
 
 -- ---- reads
 
-reads-accepted : (run : Run) (queries : List ℕ) → Accepted run queries
-    → verdictOf run queries .reads ≡ length queries * roundsOf (run .k) (run .rate) (run .step) * 2 ^ run .step
-reads-accepted run queries e =
+told-accepted : (run : Run) (queries : List ℕ) → Accepted run queries
+    → Tells (verdictOf run queries) 0 Absent Absent (length queries * roundsIn run * 2 ^ run .step)
+told-accepted run queries e =
     let told = verdicts.accepted-lists run queries e in
-    verdicts.reads-accepted run queries (told .0) (told .1)
+    (ap numberOfAnswer e, ap placeOfAnswer e, ap roundOfAnswer e, verdicts.reads-accepted run queries (told .0) (told .1))
 
-reads-refused : (run : Run) (queries : List ℕ) (query round : ℕ) → verdictOf run queries .answer ≡ answers.Refused (RoundCheckFails query round)
-    → verdictOf run queries .reads
-    ≡ query * roundsOf (run .k) (run .rate) (run .step) * 2 ^ run .step + min (round + 2) (roundsOf (run .k) (run .rate) (run .step)) * 2 ^ run .step
-reads-refused run queries query round e =
+told-refused : (run : Run) (queries : List ℕ) (query round : ℕ) → verdictOf run queries .answer ≡ answers.Refused (RoundCheckFails query round)
+    → Tells (verdictOf run queries) 11 (At query) (At round) (query * roundsIn run * 2 ^ run .step + min (round + 2) (roundsIn run) * 2 ^ run .step)
+told-refused run queries query round e =
     let told = round-refused run queries query round e in
-    verdicts.reads-refused run queries query round (told .0) (told .1)
+    (ap numberOfAnswer e, ap placeOfAnswer e, ap roundOfAnswer e, verdicts.reads-refused run queries query round (told .0) (told .1))
 
 no-reads : (run : Run) (queries : List ℕ) (cause : Cause) → verdictOf run queries .answer ≡ answers.Refused cause → numberOf cause ≢ 11
     → verdictOf run queries .reads ≡ 0
 no-reads run queries cause e n =
     ⊎-elim
-    (λ (h : listsOutcome run queries ≡ Refused cause). verdicts.refused-early run queries cause h .1)
-    (λ (h : (listsOutcome run queries ≡ Done) × (roundsOutcome run queries 0 ≡ Refused cause)). absurd (n (refused-by-round run queries cause (h .1))))
+    (λ (h : checksOutcome run queries ≡ Refused cause). verdicts.refused-early run queries cause h .1)
+    (λ (h : (checksOutcome run queries ≡ Done) × (roundsOutcome run queries 0 ≡ Refused cause)). absurd (n (refused-by-round run queries cause (h .1))))
     (verdicts.refused-which run queries cause e)
 
 pub reads : Reads
-reads = record { accepted = reads-accepted; refused = reads-refused; others = no-reads }
+reads = record { accepted = told-accepted; refused = told-refused; others = no-reads }
+
+-- ---- numbers
+
+judge-number : (run : Run) (queries : List ℕ) → All IsElement (run .basis) → JudgeNumber (numberOfAnswer (verdictOf run queries .answer))
+judge-number run queries h =
+    subst JudgeNumber (sym (same-number (andThen (checksOutcome run queries) (roundsOutcome run queries 0))))
+    (number-then JudgeNumber (checksOutcome run queries) (roundsOutcome run queries 0)
+    (number-then JudgeNumber (runOutcome run) (queriesOutcome (run .k) queries)
+    (checks.run-number JudgeNumber (inl refl) (λ n l u. inr (inl (l, omega arith))) (inr (inr refl)) run h)
+    (checks.queries-number JudgeNumber (inl refl) (inr (inl (omega arith, omega arith))) (inr (inl (omega arith, omega arith))) (run .k) queries))
+    (by (roundsOutcome run queries 0) refl))
+  where
+    by : (o : Outcome) → roundsOutcome run queries 0 ≡ o → JudgeNumber (numberOfOutcome o)
+    by Done e = inl refl
+    by (Refused cause) e = inr (inl (omega (arith, refused-by-round run queries cause e), omega (arith, refused-by-round run queries cause e)))
+
+prover-number : (run : Run) → All IsElement (run .basis) → ProverNumber (numberOfOutcome (proveOutcome run))
+prover-number run h =
+    number-then ProverNumber (runOutcome run) (degreeOutcome run)
+    (checks.run-number ProverNumber (inl refl) (λ n l u. inr (inl (l, omega arith))) (inr (inr (omega arith, omega arith))) run h)
+    (number-unless ProverNumber (leb (degreeBound (lastInterpolant run)) (lastCount (run .k) (run .rate) (stepsIn run)))
+    (DegreeTooLarge (degreeBound (lastInterpolant run) - 1)) Done (inr (inr (omega arith, omega arith))) (inl refl))
+
+pub only-numbers : OnlyNumbers
+only-numbers = record { judge = judge-number; prover = prover-number }

@@ -15,10 +15,9 @@ use Rattle.refusal.specs.Numbers.{numberOf, placeOf, roundOf}
 use Rattle.refusal.proofs.Checks.{then-passed, then-refused, then-done}
 use Rattle.fri.specs.declared.Answer.{Answer}
 use Rattle.fri.specs.declared.Answer.the-variants as answers
-use Rattle.fri.specs.Layout.{roundsOf}
-use Rattle.fri.specs.Run.{Run}
+use Rattle.fri.specs.Run.{Run, roundsIn}
 use Rattle.fri.specs.Checks.{runOutcome, queriesOutcome}
-use Rattle.fri.specs.Judge.{listsOutcome, answerOf, readsAfter, verdictOf, numberOfAnswer, placeOfAnswer, roundOfAnswer}
+use Rattle.fri.specs.Judge.{checksOutcome, answerOf, readsAfter, verdictOf, numberOfAnswer, placeOfAnswer, roundOfAnswer}
 use Rattle.fri.specs.Rounds.{roundsOutcome}
 use Rattle.fri.specs.Reads.{entriesRead}
 use Rattle.fri.specs.Demand.{Accepted, ValidQueries}
@@ -46,76 +45,76 @@ which (Refused other) after cause e = inl e
 
 module _ (run : Run) (queries : List ℕ) where
   abbrev outcome : Outcome
-  outcome = andThen (listsOutcome run queries) (roundsOutcome run queries 0)
+  outcome = andThen (checksOutcome run queries) (roundsOutcome run queries 0)
 
   abbrev AllPass : Type 0
   AllPass = (t : ℕ) → t < length queries → PassesEveryRound run (getD queries t 0)
 
   -- ---- accepted
 
-  pub accepted-lists : Accepted run queries → (listsOutcome run queries ≡ Done) × AllPass
+  pub accepted-lists : Accepted run queries → (checksOutcome run queries ≡ Done) × AllPass
   accepted-lists e =
-      let both = then-done (listsOutcome run queries) (roundsOutcome run queries 0) (done-of outcome e) in
+      let both = then-done (checksOutcome run queries) (roundsOutcome run queries 0) (done-of outcome e) in
       (both .0, pass-of-done run queries (both .1))
 
-  pub accepted-by : listsOutcome run queries ≡ Done → AllPass → Accepted run queries
-  accepted-by l h = ap answerOf (sym (then-passed (listsOutcome run queries) (roundsOutcome run queries 0) l) ∙ all-pass run queries 0 h)
+  pub accepted-by : checksOutcome run queries ≡ Done → AllPass → Accepted run queries
+  accepted-by l h = ap answerOf (sym (then-passed (checksOutcome run queries) (roundsOutcome run queries 0) l) ∙ all-pass run queries 0 h)
 
-  pub reads-accepted : listsOutcome run queries ≡ Done → AllPass
-      → verdictOf run queries .reads ≡ length queries * roundsOf (run .k) (run .rate) (run .step) * 2 ^ run .step
+  pub reads-accepted : checksOutcome run queries ≡ Done → AllPass
+      → verdictOf run queries .reads ≡ length queries * roundsIn run * 2 ^ run .step
   reads-accepted l h =
       ap (λ (o : Outcome). readsAfter o (entriesRead run queries)) l
       ∙ read-all run queries h
       ∙ ap (λ (n : ℕ). length queries * n) (entries-of-rounds run)
-      ∙ sym (mul-assoc (length queries) (roundsOf (run .k) (run .rate) (run .step)) (2 ^ run .step))
+      ∙ sym (mul-assoc (length queries) (roundsIn run) (2 ^ run .step))
 
-  pub accepted-verdict : listsOutcome run queries ≡ Done → AllPass
-      → verdictOf run queries ≡ record { answer = answers.Accepted; reads = length queries * roundsOf (run .k) (run .rate) (run .step) * 2 ^ run .step }
+  pub accepted-verdict : checksOutcome run queries ≡ Done → AllPass
+      → verdictOf run queries ≡ record { answer = answers.Accepted; reads = length queries * roundsIn run * 2 ^ run .step }
   accepted-verdict l h = ap₂ (λ (a : Answer) (n : ℕ). record { answer = a; reads = n }) (accepted-by l h) (reads-accepted l h)
 
   -- ---- refused by a round check
 
-  pub refused-which : (cause : Cause) → verdictOf run queries .answer ≡ answers.Refused cause → Either (listsOutcome run queries) (roundsOutcome run queries 0) cause
-  refused-which cause e = which (listsOutcome run queries) (roundsOutcome run queries 0) cause (refused-of outcome cause e)
+  pub refused-which : (cause : Cause) → verdictOf run queries .answer ≡ answers.Refused cause → Either (checksOutcome run queries) (roundsOutcome run queries 0) cause
+  refused-which cause e = which (checksOutcome run queries) (roundsOutcome run queries 0) cause (refused-of outcome cause e)
 
-  pub refused-by : (query round : ℕ) → listsOutcome run queries ≡ Done → FailsFirst run queries query round
+  pub refused-by : (query round : ℕ) → checksOutcome run queries ≡ Done → FailsFirst run queries query round
       → verdictOf run queries .answer ≡ answers.Refused (RoundCheckFails query round)
   refused-by query round l f =
-      ap answerOf (sym (then-passed (listsOutcome run queries) (roundsOutcome run queries 0) l) ∙ first-failing run queries 0 query round f)
+      ap answerOf (sym (then-passed (checksOutcome run queries) (roundsOutcome run queries 0) l) ∙ first-failing run queries 0 query round f)
       ∙ ap (λ (n : ℕ). answers.Refused (RoundCheckFails n round)) (zero-add query)
 
-  pub reads-refused : (query round : ℕ) → listsOutcome run queries ≡ Done → FailsFirst run queries query round
+  pub reads-refused : (query round : ℕ) → checksOutcome run queries ≡ Done → FailsFirst run queries query round
       → verdictOf run queries .reads
-      ≡ query * roundsOf (run .k) (run .rate) (run .step) * 2 ^ run .step + min (round + 2) (roundsOf (run .k) (run .rate) (run .step)) * 2 ^ run .step
+      ≡ query * roundsIn run * 2 ^ run .step + min (round + 2) (roundsIn run) * 2 ^ run .step
   reads-refused query round l f =
       ap (λ (o : Outcome). readsAfter o (entriesRead run queries)) l
       ∙ read-until run queries query round f
       ∙ ap₂ _+_
-      (ap (λ (n : ℕ). query * n) (entries-of-rounds run) ∙ sym (mul-assoc query (roundsOf (run .k) (run .rate) (run .step)) (2 ^ run .step)))
+      (ap (λ (n : ℕ). query * n) (entries-of-rounds run) ∙ sym (mul-assoc query (roundsIn run) (2 ^ run .step)))
       (entries-until run round)
 
   -- ---- refused before the round checks
 
-  pub refused-early : (cause : Cause) → listsOutcome run queries ≡ Refused cause
+  pub refused-early : (cause : Cause) → checksOutcome run queries ≡ Refused cause
       → (verdictOf run queries .answer ≡ answers.Refused cause) × (verdictOf run queries .reads ≡ 0)
   refused-early cause e = (
-    ap answerOf (sym (then-refused (listsOutcome run queries) (roundsOutcome run queries 0) cause e)),
+    ap answerOf (sym (then-refused (checksOutcome run queries) (roundsOutcome run queries 0) cause e)),
     ap (λ (o : Outcome). readsAfter o (entriesRead run queries)) e,
   )
 
-  pub told-early : (cause : Cause) → listsOutcome run queries ≡ Refused cause → Tells (verdictOf run queries) (numberOf cause) (placeOf cause) (roundOf cause) 0
+  pub told-early : (cause : Cause) → checksOutcome run queries ≡ Refused cause → Tells (verdictOf run queries) (numberOf cause) (placeOf cause) (roundOf cause) 0
   told-early cause e =
       let both = refused-early cause e in
       (ap numberOfAnswer (both .0), ap placeOfAnswer (both .0), ap roundOfAnswer (both .0), both .1)
 
   -- a run's refusal is the judge's
-  pub run-refused : (cause : Cause) → runOutcome run ≡ Refused cause → listsOutcome run queries ≡ Refused cause
+  pub run-refused : (cause : Cause) → runOutcome run ≡ Refused cause → checksOutcome run queries ≡ Refused cause
   run-refused cause e = sym (then-refused (runOutcome run) (queriesOutcome (run .k) queries) cause e)
 
-  pub lists-pass : runOutcome run ≡ Done → ValidQueries (run .k) queries → listsOutcome run queries ≡ Done
+  pub lists-pass : runOutcome run ≡ Done → ValidQueries (run .k) queries → checksOutcome run queries ≡ Done
   lists-pass e v = sym (then-passed (runOutcome run) (queriesOutcome (run .k) queries) e) ∙ queries-pass (run .k) queries v
 
-  pub lists-valid : listsOutcome run queries ≡ Done → (runOutcome run ≡ Done) × ValidQueries (run .k) queries
+  pub lists-valid : checksOutcome run queries ≡ Done → (runOutcome run ≡ Done) × ValidQueries (run .k) queries
   lists-valid e =
       let both = then-done (runOutcome run) (queriesOutcome (run .k) queries) e in
       (both .0, queries-valid (run .k) queries (both .1))

@@ -1,5 +1,5 @@
 -- Demand 3 over the definitions: every honest run of a word of low degree is accepted; and what holds of the layers where the accepted judgings of
--- them together visit every first-layer coset. proofs/Completeness.antt and proofs/Soundness.antt have a value of each.
+-- them together visit every first-layer coset. proofs/Completeness.antt has a value of the first half, proofs/Soundness.antt of the second.
 use mathlib.Core.Path.{_≡_}
 use mathlib.Core.Logic.{_≢_, _⊎_}
 use mathlib.Core.List.{List, [], _∷_}
@@ -13,9 +13,10 @@ use Rattle.coset.specs.Span.{Independent}
 use Rattle.reed_solomon.specs.Codes.{encoded, WordDegreeBelow}
 use Rattle.fold.specs.Exceptional.{Exceptional}
 use Rattle.fri.specs.declared.Answer.the-variants as answers
-use Rattle.fri.specs.Layout.{roundsOf, lastCount, storeLength}
+use Rattle.fri.specs.Layout.{lastCount, storeLength}
 use Rattle.fri.specs.Run.{Run, stepsIn, roundsIn, stepIn, challengeIn, layerIn}
 use Rattle.fri.specs.Layers.{basisIn, offsetIn, foldOf, honestStore, honestLast, honest}
+use Rattle.fri.specs.Checks.{runOutcome}
 use Rattle.fri.specs.Judge.{numberOfAnswer, verdictOf}
 use Rattle.fri.specs.Prover.{proveOutcome, storeAfter, lastAfter}
 
@@ -42,7 +43,7 @@ pub record ProverInput (run : Run) : Type 0 where
   pub word-elements : All IsElement (run .word)
   pub word-count : length (run .word) ≡ 2 ^ run .k
   pub challenges-elements : All IsElement (run .challenges)
-  pub challenges-count : length (run .challenges) ≡ roundsOf (run .k) (run .rate) (run .step)
+  pub challenges-count : length (run .challenges) ≡ roundsIn run
 
 -- the word's degree is below 2^(k - R)
 abbrev pub LowDegree : Run → Type 0
@@ -63,30 +64,20 @@ Any P (x ∷ xs) = P x ⊎ Any P xs
 abbrev pub Accepted : Run → List ℕ → Type 0
 Accepted run queries = verdictOf run queries .answer ≡ answers.Accepted
 
--- document 01's own term: a query list visits the first-layer cosets that hold the points of its indices
+-- document 01's own term: a query list visits the first-layer cosets that hold the points of its indices; coset j / 2^η holds point j, by
+-- `NextCosets`, and the step of round 0 is η
 abbrev pub Visits : Run → List ℕ → ℕ → Type 0
 Visits run queries coset = Any (λ j. j / 2 ^ stepIn run 0 ≡ coset) queries
 
 -- the accepted ones of the query lists together visit every first-layer coset
 abbrev pub Covered : Run → List (List ℕ) → Type 0
-Covered run lists = (coset : ℕ) → coset < 2 ^ (run .k - stepIn run 0) → Any (λ queries. Accepted run queries × Visits run queries coset) lists
+Covered run queryLists = (coset : ℕ) → coset < 2 ^ (run .k - stepIn run 0) → Any (λ queries. Accepted run queries × Visits run queries coset) queryLists
 
--- demand 3, first half
-pub record Completeness : Type 0 where
-  -- every honest run of a word of low degree is accepted with every valid query list, and queries · r · 2^η entries are read
-  pub accepted : (run : Run) (queries : List ℕ) → ValidCoset run → ProverInput run → LowDegree run → ValidQueries (run .k) queries
-      → verdictOf (honest run) queries
-      ≡ record { answer = answers.Accepted; reads = length queries * roundsOf (run .k) (run .rate) (run .step) * 2 ^ run .step }
-  -- the prover makes it, where the two lent lists have the lengths due; it never answers 12 on such a word
-  pub proves : (run : Run) → ValidCoset run → ProverInput run → LowDegree run
-      → length (run .store) ≡ storeLength (run .k) (stepsIn run) → length (run .last) ≡ lastCount (run .k) (run .rate) (stepsIn run)
-      → (proveOutcome run ≡ Done) × (storeAfter run ≡ honestStore run) × (lastAfter run ≡ honestLast run)
-  pub never12 : (run : Run) → ValidCoset run → ProverInput run → LowDegree run → numberOfOutcome (proveOutcome run) ≢ 12
-  -- neither prover nor judge answers 16, whatever they are given
-  pub never16 : (run : Run) → All IsElement (run .basis)
-      → (numberOfOutcome (proveOutcome run) ≢ 16) × ((queries : List ℕ) → numberOfAnswer (verdictOf run queries .answer) ≢ 16)
-  -- some query lists cover an honest run, so that the second half is about something
-  pub covered : (run : Run) → ValidCoset run → ProverInput run → LowDegree run → (lists : List (List ℕ)) × Covered (honest run) lists
+-- demand 3, first half: every honest run of a word of low degree is accepted with every valid query list, and queries · r · 2^η entries are read
+abbrev pub Completeness : Type 0
+Completeness =
+    (run : Run) (queries : List ℕ) → ValidCoset run → ProverInput run → LowDegree run → ValidQueries (run .k) queries
+    → verdictOf (honest run) queries ≡ record { answer = answers.Accepted; reads = length queries * roundsIn run * 2 ^ run .step }
 
 -- all numbers of a run are 64-bit numbers; nothing is said of lengths
 pub record Elements (run : Run) : Type 0 where
@@ -96,6 +87,21 @@ pub record Elements (run : Run) : Type 0 where
   pub word : All IsElement (run .word)
   pub store : All IsElement (run .store)
   pub last : All IsElement (run .last)
+
+-- what goes with it
+pub record HonestProofs : Type 0 where
+  -- the prover makes the honest run, where the two lent lists have the lengths due
+  pub proves : (run : Run) → ValidCoset run → ProverInput run → LowDegree run
+      → length (run .store) ≡ storeLength (run .k) (stepsIn run) → length (run .last) ≡ lastCount (run .k) (run .rate) (stepsIn run)
+      → (proveOutcome run ≡ Done) × (storeAfter run ≡ honestStore run) × (lastAfter run ≡ honestLast run)
+  -- it never answers 12 on such a word
+  pub never12 : (run : Run) → ValidCoset run → ProverInput run → LowDegree run → numberOfOutcome (proveOutcome run) ≢ 12
+  -- neither prover nor judge answers 16, whatever the basis of 64-bit numbers
+  pub never16 : (run : Run) → All IsElement (run .basis)
+      → (numberOfOutcome (proveOutcome run) ≢ 16) × ((queries : List ℕ) → numberOfAnswer (verdictOf run queries .answer) ≢ 16)
+  -- the second half is about something: an honest run has 64-bit numbers, and some query lists cover it
+  pub covered : (run : Run) → ValidCoset run → ProverInput run → LowDegree run
+      → Elements (honest run) × ((queryLists : List (List ℕ)) × Covered (honest run) queryLists)
 
 -- x lies in the exceptional set of layer i as it was sent
 abbrev pub ExceptionalIn : Run → ℕ → ℕ → Type 0
@@ -111,14 +117,13 @@ pub record Sound (run : Run) : Type 0 where
   -- the word has low degree, or some challenge lies in its layer's exceptional set
   pub degree : LowDegree run ⊎ ((i : ℕ) × (i < roundsIn run) × ExceptionalIn run i (challengeIn run i))
 
--- demand 3, second half: one claim over any list of judgings of one and the same run, from anybody; that parameters, basis and lengths are valid
--- follows from acceptance
+-- demand 3, second half: one claim over any list of judgings of one and the same run, from anybody. A judging writes nothing, so that each finds the
+-- run as the one before did; that there is a round and that parameters, basis and lengths are valid follows from acceptance
 abbrev pub Soundness : Type 0
-Soundness = (run : Run) (lists : List (List ℕ)) → Elements run → Covered run lists → Sound run
+Soundness = (run : Run) (queryLists : List (List ℕ)) → Elements run → Covered run queryLists → Sound run
 
--- beside it: the exceptional set of each layer of a run has at most 2^η - 1 elements, where word and store have the lengths due
+-- beside it: where the checks before the queries pass, the exceptional set of each layer of a run has at most 2^η - 1 elements
 abbrev pub FewExceptional : Type 0
 FewExceptional =
-    (run : Run) → ValidCoset run → All IsElement (run .word) → All IsElement (run .store)
-    → length (run .word) ≡ 2 ^ run .k → length (run .store) ≡ storeLength (run .k) (stepsIn run)
+    (run : Run) → Elements run → runOutcome run ≡ Done
     → (i : ℕ) → i < roundsIn run → (xs : List ℕ) → All (ExceptionalIn run i) xs → Distinct xs → length xs ≤ 2 ^ run .step - 1

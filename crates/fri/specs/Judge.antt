@@ -16,8 +16,8 @@ use Rattle.fri.specs.Rounds.{roundsOutcome}
 use Rattle.fri.specs.Reads.{entriesRead}
 
 -- all checks before the round checks: 4, 5, 6, 7, 13, 8, 16, 9, 10
-abbrev pub listsOutcome : Run → List ℕ → Outcome
-listsOutcome run queries = andThen (runOutcome run) (queriesOutcome (run .k) queries)
+abbrev pub checksOutcome : Run → List ℕ → Outcome
+checksOutcome run queries = andThen (runOutcome run) (queriesOutcome (run .k) queries)
 
 -- accepted, or the cause
 abbrev pub answerOf : Outcome → Answer
@@ -33,8 +33,8 @@ readsAfter (Refused cause) reads = 0
 abbrev pub verdictOf : Run → List ℕ → Verdict
 verdictOf run queries =
     record {
-      answer = answerOf (andThen (listsOutcome run queries) (roundsOutcome run queries 0));
-      reads = readsAfter (listsOutcome run queries) (entriesRead run queries);
+      answer = answerOf (andThen (checksOutcome run queries) (roundsOutcome run queries 0));
+      reads = readsAfter (checksOutcome run queries) (entriesRead run queries);
     }
 
 -- the number of an answer: 0 where accepted, else that of the cause

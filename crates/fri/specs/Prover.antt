@@ -1,4 +1,4 @@
--- What the prover answers, and what the two lent lists hold afterwards: the run's store and last coefficients are what they held.
+-- What the prover answers, and what the two lent lists hold afterwards; the run's store and last coefficients are what they held before.
 use mathlib.Core.List.{List}
 use Prim.Native.Nat.{ℕ, _-_}
 use lib.Dec.{leb}
@@ -12,7 +12,7 @@ use Rattle.fri.specs.Run.{Run, stepsIn}
 use Rattle.fri.specs.Layers.{honestStore, honestLast, lastInterpolant}
 use Rattle.fri.specs.Checks.{runOutcome}
 
--- layer r must have degree below d; its degree is told otherwise (12)
+-- layer r must have degree below d, else its degree is told (12)
 abbrev pub degreeOutcome : Run → Outcome
 degreeOutcome run =
     refusedUnless (leb (degreeBound (lastInterpolant run)) (lastCount (run .k) (run .rate) (stepsIn run))) (DegreeTooLarge (degreeBound (lastInterpolant run) - 1)) Done

@@ -18,7 +18,7 @@ abbrev pub stepsRead : List ℕ → Position → List ℕ
 stepsRead steps (At i) = take (i + 2) steps
 stepsRead steps Absent = steps
 
--- the entries read for one query: one coset for each round that it comes to
+-- the entries read for one query: those of these cosets
 abbrev pub queryReads : Run → Position → ℕ
 queryReads run failing = entryCount (stepsRead (stepsIn run) failing)
 

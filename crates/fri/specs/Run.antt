@@ -1,4 +1,5 @@
--- A run of the protocol over lists: what is judged, as anybody sent it, but for the queries; and what a prover is given, with the two lists lent to it.
+-- A run of the protocol over lists, without its queries. For a judge it is what anybody sent; for a prover it is what it is given, and store and last
+-- coefficients are what the two lent lists held before. Only `stepsIn` knows that all steps are alike.
 use mathlib.Core.List.{List}
 use Prim.Native.Nat.{ℕ, zero, suc}
 use lib.ListN.{length, getD}

@@ -26,10 +26,10 @@ use Rattle.fri.specs.Run.{Run, stepsIn, roundsIn, layerIn}
 use Rattle.fri.specs.Layers.{basisIn, offsetIn, foldOf, honestLayer, honestStore, lastInterpolant, honestLast}
 use Rattle.fri.specs.Checks.{runOutcome, firstOutside}
 use Rattle.fri.specs.Lookup.{layerPart}
-use Rattle.fri.specs.Judge.{listsOutcome, verdictOf, numberOfAnswer, placeOfAnswer, roundOfAnswer}
+use Rattle.fri.specs.Judge.{checksOutcome, verdictOf, numberOfAnswer, placeOfAnswer, roundOfAnswer}
 use Rattle.fri.specs.Rounds.{valueComputed, valueFound}
 use Rattle.fri.specs.Prover.{proveOutcome, storeAfter, lastAfter}
-use Rattle.fri.specs.Demand.{ValidParameters, ValidCoset, ValidQueries, Accepted}
+use Rattle.fri.specs.Demand.{ValidParameters, ValidCoset, ProverInput, ValidQueries, Accepted}
 
 -- the layout of document 01's parameters: r steps of η
 pub record Layouts : Type 0 where
@@ -38,7 +38,7 @@ pub record Layouts : Type 0 where
   -- layer i has dimension k - iη
   pub dimensions : (k rate step i : ℕ) → i ≤ roundsOf k rate step → dimension k (stepsOf k rate step) i ≡ k - i * step
   -- d is 2^(k - R - rη)
-  pub last : (k rate step : ℕ) → lastCount k rate (stepsOf k rate step) ≡ 2 ^ (k - rate - roundsOf k rate step * step)
+  pub last-count : (k rate step : ℕ) → lastCount k rate (stepsOf k rate step) ≡ 2 ^ (k - rate - roundsOf k rate step * step)
   -- for valid parameters there is a round, layer r has at most 256 points and d is 1, 2 or 4
   pub some-round : (k rate step : ℕ) → ValidParameters k rate step → 1 ≤ roundsOf k rate step
   pub few-points : (k rate step : ℕ) → ValidParameters k rate step → 2 ^ dimension k (stepsOf k rate step) (roundsOf k rate step) ≤ 256
@@ -58,24 +58,27 @@ pub record Layouts : Type 0 where
 pub record LayerCosets : Type 0 where
   -- layer 0 has the coset that was sent
   pub first : (run : Run) → (offsetIn run 0 ≡ run .offset) × (basisIn run 0 ≡ run .basis)
-  pub dimensions : (run : Run) (i : ℕ) → ValidCoset run → i ≤ roundsOf (run .k) (run .rate) (run .step) → length (basisIn run i) ≡ run .k - i * run .step
+  pub dimensions : (run : Run) (i : ℕ) → ValidCoset run → i ≤ roundsIn run → length (basisIn run i) ≡ run .k - i * run .step
   pub independent : (run : Run) (i : ℕ) → ValidCoset run → Independent (basisIn run i)
   -- point j of layer i + 1 is the image of the points of layer i from j · 2^η on, 2^η of them
-  pub points : (run : Run) (i j t : ℕ) → ValidCoset run → i < roundsOf (run .k) (run .rate) (run .step) → t < 2 ^ run .step
+  pub points : (run : Run) (i j t : ℕ) → ValidCoset run → i < roundsIn run → t < 2 ^ run .step
       → image (run .step) (basisIn run i) (point (offsetIn run i) (basisIn run i) (j * 2 ^ run .step + t)) ≡ point (offsetIn run (suc i)) (basisIn run (suc i)) j
 
--- the honest layers and last coefficients
+-- the honest layers and last coefficients, whatever the word's degree
 pub record HonestLayers : Type 0 where
   -- round i folds with step η, over layer i's coset, at challenge i
-  pub folds : (run : Run) (i : ℕ) (entries : List ℕ) → i < roundsOf (run .k) (run .rate) (run .step)
+  pub folds : (run : Run) (i : ℕ) (entries : List ℕ) → i < roundsIn run
       → foldOf run i entries ≡ folded (run .step) (offsetIn run i) (basisIn run i) entries (getD (run .challenges) i 0)
   pub word : (run : Run) → honestLayer run 0 ≡ run .word
   pub next : (run : Run) (i : ℕ) → honestLayer run (suc i) ≡ foldOf run i (honestLayer run i)
   -- the first d coefficients of layer r's interpolant
-  pub last : (run : Run)
-      → honestLast run
-      ≡ take (lastCount (run .k) (run .rate) (stepsIn run))
-      (interpolated (offsetIn run (roundsIn run)) (basisIn run (roundsIn run)) (honestLayer run (roundsIn run)))
+  pub interpolant : (run : Run)
+      → lastInterpolant run ≡ interpolated (offsetIn run (roundsIn run)) (basisIn run (roundsIn run)) (honestLayer run (roundsIn run))
+  pub last : (run : Run) → honestLast run ≡ take (lastCount (run .k) (run .rate) (stepsIn run)) (lastInterpolant run)
+  -- store and last coefficients have the lengths due
+  pub counts : (run : Run) → ValidCoset run → ProverInput run
+      → (length (honestStore run) ≡ storeLength (run .k) (stepsIn run)) × (length (honestLast run) ≡ lastCount (run .k) (run .rate) (stepsIn run))
+  pub elements : (run : Run) → ValidCoset run → ProverInput run → All IsElement (honestStore run) × All IsElement (honestLast run)
 
 -- the layer lookup
 pub record Lookups : Type 0 where
@@ -92,22 +95,28 @@ pub record Lookups : Type 0 where
   pub other-layer : (k rate step : ℕ) (store : List ℕ) (i : ℕ) → (i < 1) ⊎ (roundsOf k rate step ≤ i) → layerPart k rate step store i ≡ []
   pub other-length : (k rate step : ℕ) (store : List ℕ) (i : ℕ) → length store ≢ storeLength k (stepsOf k rate step) → layerPart k rate step store i ≡ []
   -- each layer of the honest store is the honest layer
-  pub of-honest : (run : Run) (i : ℕ) → ValidCoset run → length (run .word) ≡ 2 ^ run .k → 1 ≤ i → i < roundsOf (run .k) (run .rate) (run .step)
+  pub of-honest : (run : Run) (i : ℕ) → ValidCoset run → length (run .word) ≡ 2 ^ run .k → 1 ≤ i → i < roundsIn run
       → layerPart (run .k) (run .rate) (run .step) (honestStore run) i ≡ honestLayer run i
+
+-- the layers as they were sent, which the judge reads: the word, and what the lookup hands back of the store
+pub record SentLayers : Type 0 where
+  pub word : (run : Run) → layerIn run 0 ≡ run .word
+  pub stored : (run : Run) (i : ℕ) → ValidParameters (run .k) (run .rate) (run .step) → 1 ≤ i → i < roundsIn run
+      → length (run .store) ≡ storeLength (run .k) (stepsIn run) → layerIn run i ≡ layerPart (run .k) (run .rate) (run .step) (run .store) i
 
 -- the lists have the lengths due
 pub record Fit (run : Run) : Type 0 where
   pub basis : length (run .basis) ≡ run .k
-  pub challenges : length (run .challenges) ≡ roundsOf (run .k) (run .rate) (run .step)
+  pub challenges : length (run .challenges) ≡ roundsIn run
   pub word : length (run .word) ≡ 2 ^ run .k
   pub store : length (run .store) ≡ storeLength (run .k) (stepsIn run)
   pub last : length (run .last) ≡ lastCount (run .k) (run .rate) (stepsIn run)
 
 -- the checks that prover and judge have in common, and those of the queries, pass exactly where parameters, lists, basis and queries are valid
 pub record Passing : Type 0 where
-  pub run : (run : Run) → All IsElement (run .basis)
+  pub common : (run : Run) → All IsElement (run .basis)
       → (runOutcome run ≡ Done) ↔ (ValidParameters (run .k) (run .rate) (run .step) × Fit run × Independent (run .basis))
-  pub lists : (run : Run) (queries : List ℕ) → (listsOutcome run queries ≡ Done) ↔ ((runOutcome run ≡ Done) × ValidQueries (run .k) queries)
+  pub all : (run : Run) (queries : List ℕ) → (checksOutcome run queries ≡ Done) ↔ ((runOutcome run ≡ Done) × ValidQueries (run .k) queries)
 
 -- a verdict's number, place, round and reads
 abbrev pub Tells : Verdict → ℕ → Position → Position → ℕ → Type 0
@@ -121,7 +130,7 @@ BothRefuse run number place =
     × (numberOfOutcome (proveOutcome run) ≡ number) × (placeOfOutcome (proveOutcome run) ≡ place) × (roundOfOutcome (proveOutcome run) ≡ Absent)
     × (storeAfter run ≡ run .store) × (lastAfter run ≡ run .last)
 
--- the refusals before the round checks, by the first check that fails; 16 has no place here, by `Completeness`
+-- the refusals before the round checks, by the first check that fails; 16 is never given, by `HonestProofs.never16`
 pub record Refusals : Type 0 where
   pub dimension : (run : Run) → (run .k < 2) ⊎ (20 < run .k) → BothRefuse run 4 Absent
   pub rate : (run : Run) → 2 ≤ run .k → run .k ≤ 20 → (run .rate < 1) ⊎ (6 < run .rate) → BothRefuse run 5 Absent
@@ -130,14 +139,14 @@ pub record Refusals : Type 0 where
       → BothRefuse run 7 Absent
   pub list1 : (run : Run) → ValidParameters (run .k) (run .rate) (run .step) → length (run .basis) ≢ run .k → BothRefuse run 13 (At 1)
   pub list2 : (run : Run) → ValidParameters (run .k) (run .rate) (run .step) → length (run .basis) ≡ run .k
-      → length (run .challenges) ≢ roundsOf (run .k) (run .rate) (run .step) → BothRefuse run 13 (At 2)
+      → length (run .challenges) ≢ roundsIn run → BothRefuse run 13 (At 2)
   pub list3 : (run : Run) → ValidParameters (run .k) (run .rate) (run .step) → length (run .basis) ≡ run .k
-      → length (run .challenges) ≡ roundsOf (run .k) (run .rate) (run .step) → length (run .word) ≢ 2 ^ run .k → BothRefuse run 13 (At 3)
+      → length (run .challenges) ≡ roundsIn run → length (run .word) ≢ 2 ^ run .k → BothRefuse run 13 (At 3)
   pub list4 : (run : Run) → ValidParameters (run .k) (run .rate) (run .step) → length (run .basis) ≡ run .k
-      → length (run .challenges) ≡ roundsOf (run .k) (run .rate) (run .step) → length (run .word) ≡ 2 ^ run .k
+      → length (run .challenges) ≡ roundsIn run → length (run .word) ≡ 2 ^ run .k
       → length (run .store) ≢ storeLength (run .k) (stepsIn run) → BothRefuse run 13 (At 4)
   pub list5 : (run : Run) → ValidParameters (run .k) (run .rate) (run .step) → length (run .basis) ≡ run .k
-      → length (run .challenges) ≡ roundsOf (run .k) (run .rate) (run .step) → length (run .word) ≡ 2 ^ run .k
+      → length (run .challenges) ≡ roundsIn run → length (run .word) ≡ 2 ^ run .k
       → length (run .store) ≡ storeLength (run .k) (stepsIn run) → length (run .last) ≢ lastCount (run .k) (run .rate) (stepsIn run) → BothRefuse run 13 (At 5)
   pub dependent : (run : Run) (place : ℕ) → ValidParameters (run .k) (run .rate) (run .step) → Fit run → firstDependent (run .basis) ≡ At place
       → BothRefuse run 8 (At place)
@@ -166,34 +175,33 @@ pub record FailsFirst (run : Run) (queries : List ℕ) (query round : ℕ) : Typ
 pub record RoundChecks : Type 0 where
   -- the value computed is the entry of layer i's fold at index j / 2^(η(i + 1)); the value found is the entry of layer i + 1 there or, in the last
   -- round, the last polynomial at that point of layer r
-  pub computed : (run : Run) (j i : ℕ) → ValidCoset run → j < 2 ^ run .k → i < roundsOf (run .k) (run .rate) (run .step)
+  pub computed : (run : Run) (j i : ℕ) → ValidCoset run → j < 2 ^ run .k → i < roundsIn run
       → valueComputed run j i ≡ getD (foldOf run i (layerIn run i)) (j / 2 ^ (run .step * suc i)) 0
-  pub found : (run : Run) (j i : ℕ) → suc i < roundsOf (run .k) (run .rate) (run .step)
+  pub found : (run : Run) (j i : ℕ) → suc i < roundsIn run
       → valueFound run j i ≡ getD (layerIn run (suc i)) (j / 2 ^ (run .step * suc i)) 0
-  pub found-last : (run : Run) (j i : ℕ) → suc i ≡ roundsOf (run .k) (run .rate) (run .step)
+  pub found-last : (run : Run) (j i : ℕ) → suc i ≡ roundsIn run
       → valueFound run j i ≡ evaluate gf64 (run .last) (point (offsetIn run (suc i)) (basisIn run (suc i)) (j / 2 ^ (run .step * suc i)))
   -- accepted exactly where the checks before them pass and every query passes in every round
   pub accepted : (run : Run) (queries : List ℕ)
-      → Accepted run queries ↔ ((listsOutcome run queries ≡ Done) × ((t : ℕ) → t < length queries → PassesEveryRound run (getD queries t 0)))
+      → Accepted run queries ↔ ((checksOutcome run queries ≡ Done) × ((t : ℕ) → t < length queries → PassesEveryRound run (getD queries t 0)))
   -- refused by 11 exactly at the first check that fails, lowest query first, then lowest round
   pub refused : (run : Run) (queries : List ℕ) (query round : ℕ)
       → (verdictOf run queries .answer ≡ answers.Refused (RoundCheckFails query round))
-      ↔ ((listsOutcome run queries ≡ Done) × FailsFirst run queries query round)
+      ↔ ((checksOutcome run queries ≡ Done) × FailsFirst run queries query round)
 
--- document 01's two formulas for the entries read
+-- the verdict after the round checks, with document 01's two formulas for the entries read
 pub record Reads : Type 0 where
   pub accepted : (run : Run) (queries : List ℕ) → Accepted run queries
-      → verdictOf run queries .reads ≡ length queries * roundsOf (run .k) (run .rate) (run .step) * 2 ^ run .step
+      → Tells (verdictOf run queries) 0 Absent Absent (length queries * roundsIn run * 2 ^ run .step)
   pub refused : (run : Run) (queries : List ℕ) (query round : ℕ)
       → verdictOf run queries .answer ≡ answers.Refused (RoundCheckFails query round)
-      → verdictOf run queries .reads
-      ≡ query * roundsOf (run .k) (run .rate) (run .step) * 2 ^ run .step + min (round + 2) (roundsOf (run .k) (run .rate) (run .step)) * 2 ^ run .step
+      → Tells (verdictOf run queries) 11 (At query) (At round) (query * roundsIn run * 2 ^ run .step + min (round + 2) (roundsIn run) * 2 ^ run .step)
   -- other refusals read nothing
   pub others : (run : Run) (queries : List ℕ) (cause : Cause) → verdictOf run queries .answer ≡ answers.Refused cause → numberOf cause ≢ 11
       → verdictOf run queries .reads ≡ 0
 
 -- the prover
-pub record Proved : Type 0 where
+pub record ProverAnswers : Type 0 where
   -- done exactly where the checks before it pass and layer r has degree below d; both lists then hold the honest ones
   pub done : (run : Run) → (proveOutcome run ≡ Done) ↔ ((runOutcome run ≡ Done) × (degreeBound (lastInterpolant run) ≤ lastCount (run .k) (run .rate) (stepsIn run)))
   pub holds : (run : Run) → proveOutcome run ≡ Done → (storeAfter run ≡ honestStore run) × (lastAfter run ≡ honestLast run)
@@ -203,3 +211,17 @@ pub record Proved : Type 0 where
       ↔ ((runOutcome run ≡ Done) × (degreeBound (lastInterpolant run) ≡ suc degree) × (lastCount (run .k) (run .rate) (stepsIn run) ≤ degree))
   pub too-high-holds : (run : Run) (degree : ℕ) → proveOutcome run ≡ Refused (DegreeTooLarge degree)
       → (storeAfter run ≡ honestStore run) × (lastAfter run ≡ run .last)
+
+abbrev pub JudgeNumber : ℕ → Type 0
+JudgeNumber n = (n ≡ 0) ⊎ ((4 ≤ n) × (n ≤ 11)) ⊎ (n ≡ 13)
+
+abbrev pub ProverNumber : ℕ → Type 0
+ProverNumber n = (n ≡ 0) ⊎ ((4 ≤ n) × (n ≤ 8)) ⊎ ((12 ≤ n) × (n ≤ 13))
+
+-- no number is given otherwise, whatever the basis of 64-bit numbers
+pub record OnlyNumbers : Type 0 where
+  -- the judge: 0, 4 to 11 and 13
+  pub judge : (run : Run) (queries : List ℕ) → All IsElement (run .basis)
+      → JudgeNumber (numberOfAnswer (verdictOf run queries .answer))
+  -- the prover: 0, 4 to 8, 12 and 13
+  pub prover : (run : Run) → All IsElement (run .basis) → ProverNumber (numberOfOutcome (proveOutcome run))

@@ -2,7 +2,7 @@
 // what a judging answers.
 use refusal::Cause;
 
-// What a judging says of a claim.
+// What a judging answers.
 pub enum Answer {
     Accepted,
     Refused(Cause),

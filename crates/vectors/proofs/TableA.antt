@@ -101,6 +101,10 @@ k-interpolant : lastInterpolant (twoRounds (0 ∷ 0 ∷ 0 ∷ 0 ∷ []) (0 ∷ [
 unfolding product inverse power powerIn timesWhere carryless carrylessIn remainder remainderIn timesT evaluate interpolant plus scale timesLinear dividedDifferences vanishingPolynomial point points tabulated inSpan firstDependentAfter firstDependent nextOffset nextBasis image subspacePolynomial interpolated folded foldEntry cosetPoints cosetEntries layerBasis layerOffset foldOf honestLayer lastInterpolant
 k-interpolant = refl
 
+j-store : honestStore (small 4 (0 ∷ 0 ∷ 0 ∷ 1 ∷ []) (7 ∷ [])) ≡ []
+unfolding honestJoined honestStore
+j-store = refl
+
 k-store : honestStore (twoRounds (0 ∷ 0 ∷ 0 ∷ 0 ∷ []) (0 ∷ [])) ≡ 2 ∷ 4 ∷ 0x16 ∷ 0x10 ∷ []
 unfolding product inverse power powerIn timesWhere carryless carrylessIn remainder remainderIn timesT evaluate interpolant plus scale timesLinear dividedDifferences vanishingPolynomial point points tabulated inSpan firstDependentAfter firstDependent nextOffset nextBasis image subspacePolynomial interpolated folded foldEntry cosetPoints cosetEntries layerBasis layerOffset foldOf honestLayer honestJoined honestStore
 k-store = refl
@@ -149,6 +153,7 @@ table-a =
       i = i;
       j-number = ap numberOfOutcome (answer-by (small 4 (0 ∷ 0 ∷ 0 ∷ 1 ∷ []) (7 ∷ [])) (0 ∷ 1 ∷ []) j-at-4-checked j-at-4-interpolant);
       j-degree = ap placeOfOutcome (answer-by (small 4 (0 ∷ 0 ∷ 0 ∷ 1 ∷ []) (7 ∷ [])) (0 ∷ 1 ∷ []) j-at-4-checked j-at-4-interpolant);
+      j-store = store-by (small 4 (0 ∷ 0 ∷ 0 ∷ 1 ∷ []) (7 ∷ [])) [] j-at-4-checked j-store;
       j-left = last-by (small 4 (0 ∷ 0 ∷ 0 ∷ 1 ∷ []) (7 ∷ [])) (0 ∷ 1 ∷ []) j-at-4-checked j-at-4-interpolant;
       j-at-2 = answer-by (small 2 (0 ∷ 0 ∷ 0 ∷ 1 ∷ []) (7 ∷ [])) (0 ∷ 0 ∷ []) j-at-2-checked j-at-2-interpolant;
       j-last = last-by (small 2 (0 ∷ 0 ∷ 0 ∷ 1 ∷ []) (7 ∷ [])) (0 ∷ 0 ∷ []) j-at-2-checked j-at-2-interpolant;

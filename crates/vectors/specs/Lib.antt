@@ -1,4 +1,5 @@
 pub mod TableA
+pub mod Needed
 pub mod Samples
 pub mod Rows
 pub mod Agreement

@@ -1,4 +1,4 @@
--- Small samples with the values that the reference computes from document 01, and the tests that the definitions give the same.
+-- The forms of the samples, whose values the reference computes from document 01, and the tests that the definitions give the same.
 use mathlib.Core.Bool.{Bool, true, false, _&&_}
 use mathlib.Core.List.{List, [], _∷_}
 use Prim.Native.Nat.{ℕ, suc}

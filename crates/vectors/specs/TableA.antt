@@ -66,9 +66,10 @@ pub record TableA : Type 0 where
   pub h : Tells (verdictOf (small 4 (7 ∷ 4 ∷ 1 ∷ 3 ∷ []) (0xb ∷ [])) (0 ∷ 3 ∷ [])) 11 (At 1) (At 0) 4
   -- I: only query 0: accepted, 2 reads
   pub i : Tells (verdictOf (small 4 (7 ∷ 4 ∷ 1 ∷ 3 ∷ []) (0xb ∷ [])) (0 ∷ [])) 0 Absent Absent 2
-  -- J: challenge 4 gives 12, degree 1, and leaves the list; challenge 2 gives coefficient 0; the exceptional set is 2 alone
+  -- J: challenge 4 gives 12, degree 1, and leaves the coefficient list; challenge 2 gives coefficient 0; the exceptional set is 2 alone
   pub j-number : numberOfOutcome (proveOutcome (small 4 (0 ∷ 0 ∷ 0 ∷ 1 ∷ []) (7 ∷ []))) ≡ 12
   pub j-degree : placeOfOutcome (proveOutcome (small 4 (0 ∷ 0 ∷ 0 ∷ 1 ∷ []) (7 ∷ []))) ≡ At 1
+  pub j-store : storeAfter (small 4 (0 ∷ 0 ∷ 0 ∷ 1 ∷ []) (7 ∷ [])) ≡ []
   pub j-left : lastAfter (small 4 (0 ∷ 0 ∷ 0 ∷ 1 ∷ []) (7 ∷ [])) ≡ 7 ∷ []
   pub j-at-2 : proveOutcome (small 2 (0 ∷ 0 ∷ 0 ∷ 1 ∷ []) (7 ∷ [])) ≡ Done
   pub j-last : lastAfter (small 2 (0 ∷ 0 ∷ 0 ∷ 1 ∷ []) (7 ∷ [])) ≡ 0 ∷ []
