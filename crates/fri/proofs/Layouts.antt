@@ -77,9 +77,6 @@ pub step-fits : (k rate step : ℕ) → 1 ≤ step → rate ≤ k → (i : ℕ) 
 step-fits k rate step least r i h =
     omega (arith, step-of-round k rate step i h, dimension-of-layer k rate step i (omega arith), rounds-fit k rate step (suc i) least h, suc-mul i step)
 
-pub steps-fit : (k rate step : ℕ) → 1 ≤ step → rate ≤ k → StepsFit k (stepsOf k rate step)
-steps-fit k rate step least r i h = omega (arith, step-fits k rate step least r i h)
-
 -- there is a round
 pub some-round : (k rate step : ℕ) → 1 ≤ step → rate + step ≤ k → 0 < length (stepsOf k rate step)
 some-round k rate step least h =

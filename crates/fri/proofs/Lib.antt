@@ -7,4 +7,7 @@ pub mod Values
 pub mod Provers
 pub mod Soundness
 pub mod Completeness
-pub mod Theorems
+pub mod Layers
+pub mod Lookups
+pub mod Refusals
+pub mod RoundChecks

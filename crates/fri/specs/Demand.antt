@@ -88,21 +88,6 @@ pub record Elements (run : Run) : Type 0 where
   pub store : All IsElement (run .store)
   pub last : All IsElement (run .last)
 
--- what goes with it
-pub record HonestProofs : Type 0 where
-  -- the prover makes the honest run, where the two lent lists have the lengths due
-  pub proves : (run : Run) → ValidCoset run → ProverInput run → LowDegree run
-      → length (run .store) ≡ storeLength (run .k) (stepsIn run) → length (run .last) ≡ lastCount (run .k) (run .rate) (stepsIn run)
-      → (proveOutcome run ≡ Done) × (storeAfter run ≡ honestStore run) × (lastAfter run ≡ honestLast run)
-  -- it never answers 12 on such a word
-  pub never12 : (run : Run) → ValidCoset run → ProverInput run → LowDegree run → numberOfOutcome (proveOutcome run) ≢ 12
-  -- neither prover nor judge answers 16, whatever the basis of 64-bit numbers
-  pub never16 : (run : Run) → All IsElement (run .basis)
-      → (numberOfOutcome (proveOutcome run) ≢ 16) × ((queries : List ℕ) → numberOfAnswer (verdictOf run queries .answer) ≢ 16)
-  -- the second half is about something: an honest run has 64-bit numbers, and some query lists cover it
-  pub covered : (run : Run) → ValidCoset run → ProverInput run → LowDegree run
-      → Elements (honest run) × ((queryLists : List (List ℕ)) × Covered (honest run) queryLists)
-
 -- x lies in the exceptional set of layer i as it was sent
 abbrev pub ExceptionalIn : Run → ℕ → ℕ → Type 0
 ExceptionalIn run i x = Exceptional (run .rate) (stepIn run i) (offsetIn run i) (basisIn run i) (layerIn run i) x
@@ -127,3 +112,18 @@ abbrev pub FewExceptional : Type 0
 FewExceptional =
     (run : Run) → Elements run → runOutcome run ≡ Done
     → (i : ℕ) → i < roundsIn run → (xs : List ℕ) → All (ExceptionalIn run i) xs → Distinct xs → length xs ≤ 2 ^ run .step - 1
+
+-- what goes with the two halves
+pub record HonestProofs : Type 0 where
+  -- the prover makes the honest run, where the two lent lists have the lengths due
+  pub proves : (run : Run) → ValidCoset run → ProverInput run → LowDegree run
+      → length (run .store) ≡ storeLength (run .k) (stepsIn run) → length (run .last) ≡ lastCount (run .k) (run .rate) (stepsIn run)
+      → (proveOutcome run ≡ Done) × (storeAfter run ≡ honestStore run) × (lastAfter run ≡ honestLast run)
+  -- it never answers 12 on such a word
+  pub never12 : (run : Run) → ValidCoset run → ProverInput run → LowDegree run → numberOfOutcome (proveOutcome run) ≢ 12
+  -- neither prover nor judge answers 16, whatever the basis of 64-bit numbers
+  pub never16 : (run : Run) → All IsElement (run .basis)
+      → (numberOfOutcome (proveOutcome run) ≢ 16) × ((queries : List ℕ) → numberOfAnswer (verdictOf run queries .answer) ≢ 16)
+  -- the second half is about something: an honest run has 64-bit numbers, and some query lists cover it
+  pub covered : (run : Run) → ValidCoset run → ProverInput run → LowDegree run
+      → Elements (honest run) × ((queryLists : List (List ℕ)) × Covered (honest run) queryLists)

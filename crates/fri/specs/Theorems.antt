@@ -1,4 +1,5 @@
--- What is proved of the definitions besides demand 3 and Table A, as statements: proofs/Theorems.antt has a value of each.
+-- What is proved of the definitions besides demand 3 and Table A, as statements; Layers, Lookups, Refusals,
+-- RoundChecks and Provers of proofs/ have the values.
 use mathlib.Core.Path.{_≡_}
 use mathlib.Core.Logic.{_≢_, _⊎_, _↔_}
 use mathlib.Core.List.{List, []}
