@@ -1,0 +1,143 @@
+//! Runs that are proved.
+
+use super::parameters;
+use super::runs::{
+    bad_parameters, bound, changed, drawn, of_table_a, record_of, with_sum, wrong_lengths,
+};
+use super::table::{list, member, position, record, Group};
+use crate::parameters::Parameters;
+use crate::protocol::{prove, Proved, Run};
+use crate::random::Random;
+
+pub(super) fn groups() -> Vec<Group> {
+    let group = |name, samples: &[Run]| Group::of(name, "ProvedSample", samples, row);
+    vec![
+        group("provedWell", &well()),
+        group("provedAtHighDegree", &at_high_degree()),
+        group("provedRefused", &refused()),
+    ]
+}
+
+fn row(run: &Run) -> String {
+    let Proved {
+        answer,
+        store,
+        last,
+    } = prove(run);
+    record(&[
+        member("run", record_of(run)),
+        member("number", answer.number),
+        member("place", position(answer.place)),
+        member("store", list(&store)),
+        member("last", list(&last)),
+    ])
+}
+
+/// A run for a prover, whose lent lists hold numbers in a row. A prover has
+/// layer r to interpolate as well, so that all elements are cheap.
+fn lent(random: &mut Random, parameters: Parameters, coefficients: u64) -> Run {
+    let honest = drawn(random, parameters, parameters.k, coefficients);
+    changed(&honest, |run| {
+        run.store = (101..).take(run.store.len()).collect();
+        run.last = (201..).take(run.last.len()).collect();
+    })
+}
+
+/// One whose word has a degree below the bound.
+fn right(random: &mut Random, k: u64) -> Run {
+    let parameters = parameters(k, 1, 1);
+    lent(random, parameters, bound(parameters))
+}
+
+/// Case F, and words of low degrees.
+fn well() -> Vec<Run> {
+    let random = &mut Random::named("proved, words of low degrees");
+    let case_f = of_table_a(4, [7, 4, 1, 2], 201);
+    vec![case_f, right(random, 3), right(random, 4)]
+}
+
+/// Layer r has two points. Its degree is 1, and so too high.
+fn at_high_degree() -> Vec<Run> {
+    let random = &mut Random::named("proved, words of high degrees");
+    vec![
+        lent(random, parameters(2, 1, 1), 4),
+        lent(random, parameters(3, 1, 1), 5),
+    ]
+}
+
+/// Bad parameters, wrong lengths and a dependent basis.
+fn refused() -> Vec<Run> {
+    let right = |name| right(&mut Random::named(name), 3);
+    [
+        bad_parameters(&right("proved, bad parameters")),
+        wrong_lengths(&right("proved, wrong lengths")),
+        vec![with_sum(&right("proved, dependent bases"), 1)],
+    ]
+    .concat()
+}
+
+#[cfg(test)]
+mod tests {
+    use super::super::bases::differences;
+    use super::*;
+    use crate::answer::{self, done, refused_at};
+    use razgwilh::Answer;
+
+    // Rows.
+
+    #[test]
+    fn the_row_of_case_f() {
+        let due = "record { run = record { k = 2; rate = 1; step = 1; offset = 0; \
+                   basis = 1 ∷ 2 ∷ []; challenges = 4 ∷ []; word = 7 ∷ 4 ∷ 1 ∷ 2 ∷ []; \
+                   store = []; last = 201 ∷ [] }; \
+                   number = 0; place = Absent; store = []; last = 11 ∷ [] }";
+        assert_eq!(groups()[0].rows[0], due);
+    }
+
+    /// What is lent is left as it was.
+    #[test]
+    fn ends_of_drawn_rows_by_hand() {
+        let [_, at_high_degree, refused] = &groups()[..] else {
+            panic!("three groups");
+        };
+        let due = "last = 201 ∷ [] }; \
+                   number = 12; place = At 1; store = []; last = 201 ∷ [] }";
+        assert!(at_high_degree.rows[0].ends_with(due));
+        let due = "store = 101 ∷ 102 ∷ 103 ∷ 104 ∷ []; last = 201 ∷ [] }; \
+                   number = 4; place = Absent; \
+                   store = 101 ∷ 102 ∷ 103 ∷ 104 ∷ []; last = 201 ∷ [] }";
+        assert!(refused.rows[0].ends_with(due));
+    }
+
+    // Causes.
+
+    fn answers(runs: &[Run]) -> Vec<Answer> {
+        runs.iter().map(|run| prove(run).answer).collect()
+    }
+
+    #[test]
+    fn every_cause_by_hand() {
+        assert_eq!(answers(&well()), [done(); 3]);
+        assert_eq!(answers(&at_high_degree()), [refused_at(12, 1); 2]);
+        let bad_parameters = [4, 4, 5, 6, 7].map(answer::refused);
+        let wrong_lengths = [1, 2, 3, 4, 5].map(|list| refused_at(13, list));
+        let due = [&bad_parameters[..], &wrong_lengths, &[refused_at(8, 1)]];
+        assert_eq!(answers(&refused()), due.concat());
+    }
+
+    // Divisions.
+
+    /// But for case F, in the interpolation of its last layer. Those refused are
+    /// not folded.
+    #[test]
+    fn a_prover_divides_by_one() {
+        for (place, run) in [well(), at_high_degree()].concat().iter().enumerate() {
+            // Layer r has two points.
+            assert_eq!((run.parameters.rate, run.parameters.step), (1, 1));
+            let differences = differences(&run.basis, run.parameters.rounds());
+            let (of_layer_r, folded) = differences.split_last().unwrap();
+            assert!(folded.iter().all(|&difference| difference == 1));
+            assert_eq!(*of_layer_r == 1, place != 0);
+        }
+    }
+}
