@@ -42,11 +42,11 @@ use Rattle.fold.proofs.Lines.{halved-entries}
 
 -- ---- case D
 
-d-offset : nextOffset 1 0x8 (1 ∷ 2 ∷ []) ≡ 0x48
+pub d-offset : nextOffset 1 0x8 (1 ∷ 2 ∷ []) ≡ 0x48
 unfolding nextOffset image subspacePolynomial points tabulated point vanishingPolynomial timesLinear plus scale evaluate product carryless carrylessIn remainder remainderIn timesT
 d-offset = refl
 
-d-basis : nextBasis 1 (1 ∷ 2 ∷ []) ≡ 6 ∷ []
+pub d-basis : nextBasis 1 (1 ∷ 2 ∷ []) ≡ 6 ∷ []
 unfolding nextBasis image subspacePolynomial points tabulated point vanishingPolynomial timesLinear plus scale evaluate product carryless carrylessIn remainder remainderIn timesT
 d-basis = refl
 

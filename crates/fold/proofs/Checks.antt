@@ -10,7 +10,7 @@ use Rattle.refusal.specs.declared.Outcome.{Outcome}
 use Rattle.refusal.specs.declared.Outcome.the-variants.{Done, Refused}
 use Rattle.refusal.specs.declared.Cause.{Cause}
 use Rattle.refusal.specs.Checks.{refusedUnless, andThen, afterwards}
-use Rattle.refusal.proofs.Checks.{equal-of-test, le-of-test, passed-by, refused-by, unless-done, then-done, each-true, done-holds, refused-holds}
+use Rattle.refusal.proofs.Checks.{equal-of-test, le-of-test, passed-by, refused-by, unless-done, then-done, within-of, done-holds, refused-holds}
 use Rattle.field.specs.declared.Element.{Element}
 use Rattle.coset.specs.Answers.{outcomeOfBasis}
 use Rattle.coset.specs.Span.{firstDependent, Independent}
@@ -61,13 +61,13 @@ in-range k step e =
     let first = unless-done (leb 2 k && leb k 20) DimensionOutOfRange (stepChecked k step) e in
     let second = unless-done (leb 1 step && leb step 3) StepOutOfRange (smallEnough k step) (first .1) in
     let third = unless-done (leb step k) DimensionTooSmall Done (second .1) in
-    let ks = each-true (leb 2 k) (leb k 20) (first .0) in
-    let steps = each-true (leb 1 step) (leb step 3) (second .0) in
+    let k-within = within-of 2 20 k (first .0) in
+    let step-within = within-of 1 3 step (second .0) in
     record {
-      at-least-2 = le-of-test 2 k (ks .0);
-      at-most-20 = le-of-test k 20 (ks .1);
-      step-at-least-1 = le-of-test 1 step (steps .0);
-      step-at-most-3 = le-of-test step 3 (steps .1);
+      at-least-2 = k-within .0;
+      at-most-20 = k-within .1;
+      step-at-least-1 = step-within .0;
+      step-at-most-3 = step-within .1;
       step-fits = le-of-test step k (third .0);
     }
 

@@ -8,7 +8,7 @@ use Rattle.refusal.specs.declared.Cause.the-variants.{DimensionOutOfRange, Step
 use Rattle.refusal.specs.declared.Outcome.{Outcome}
 use Rattle.refusal.specs.declared.Outcome.the-variants.{Done, Refused}
 use Rattle.refusal.specs.declared.Position.{Position}
-use Rattle.refusal.specs.declared.Position.the-variants.{At, Absent}
+use Rattle.refusal.specs.declared.Position.the-variants.{Absent}
 use Rattle.refusal.specs.Checks.{refusedUnless, andThen, afterwards}
 use Rattle.refusal.specs.Numbers.{numberOf, placeOf, roundOf}
 use Rattle.coset.specs.Span.{firstDependent}

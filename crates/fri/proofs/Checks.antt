@@ -323,6 +323,10 @@ run-number P p0 low p13 run h = run-number-by P p0 low p13 run (bases-number P p
 abbrev pub Early : ℕ → Type 0
 Early n = (n < 9) ⊎ (12 < n)
 
+pub early-not : (m n : ℕ) → 9 ≤ m → m ≤ 12 → Early n → n ≢ m
+early-not m n l u (inl h) e = omega arith
+early-not m n l u (inr h) e = omega arith
+
 later-bases-early : (run : Run) (round left : ℕ) → Early (numberOfOutcome (laterBasesOutcome run round left))
 unfolding laterBasesOutcome
 later-bases-early run round zero = inl (omega arith)

@@ -6,7 +6,6 @@ use mathlib.Core.List.{List, [], _∷_, map}
 use Prim.Native.Nat.{ℕ, zero, suc, _+_, _*_, _-_, _^_, _≤_, _<_}
 use native.Mathlib.Nat.{eq-or-lt-of-le, le-of-eq, le-trans, sub-add-cancel}
 use native.Mathlib.Omega.{arith}
-use lib.Dec.{leb}
 use lib.Pow.{pow-pos, pow-mono, shl-lt, shl-shr}
 use lib.ListN.{length, getD}
 use lib.Seq.{length-take-le}
@@ -19,12 +18,10 @@ use Rattle.poly.proofs.Evaluation.{evaluate-taken}
 use Rattle.poly.proofs.Degree.{below-bound}
 use Rattle.poly.proofs.Entries.{all-append, all-take}
 use Rattle.poly.proofs.Interpolation.{interpolant-elements}
-use Rattle.refusal.specs.declared.Cause.the-variants.{DegreeTooLarge}
 use Rattle.refusal.specs.declared.Outcome.{Outcome}
-use Rattle.refusal.specs.declared.Outcome.the-variants.{Done, Refused}
-use Rattle.refusal.specs.Checks.{andThen}
-use Rattle.refusal.specs.Numbers.{numberOf, numberOfOutcome}
-use Rattle.refusal.proofs.Checks.{number-unless, number-then}
+use Rattle.refusal.specs.declared.Outcome.the-variants.{Done}
+use Rattle.refusal.specs.Numbers.{numberOfOutcome}
+use Rattle.refusal.proofs.Checks.{number-then}
 use Rattle.coset.specs.Coset.{point, points, tabulated}
 use Rattle.coset.proofs.Points.{points-elements}
 use Rattle.reed_solomon.specs.Codes.{interpolated}
@@ -35,19 +32,19 @@ use Rattle.fri.specs.declared.Verdict.{Verdict}
 use Rattle.fri.specs.Layout.{dimension, lastCount, storeLength, indexIn}
 use Rattle.fri.specs.Run.{Run, stepsIn, roundsIn, stepIn}
 use Rattle.fri.specs.Layers.{basisIn, offsetIn, foldOf, honestLayer, honestJoined, honestStore, lastInterpolant, honestLast, honest}
-use Rattle.fri.specs.Checks.{runOutcome, queriesOutcome}
-use Rattle.fri.specs.Judge.{checksOutcome, answerOf, verdictOf, numberOfAnswer}
-use Rattle.fri.specs.Rounds.{valueComputed, valueFound, roundsOutcome}
+use Rattle.fri.specs.Checks.{runOutcome}
+use Rattle.fri.specs.Judge.{verdictOf, numberOfAnswer}
+use Rattle.fri.specs.Rounds.{valueComputed, valueFound}
 use Rattle.fri.specs.Prover.{degreeOutcome, proveOutcome, storeAfter, lastAfter}
 use Rattle.fri.specs.Demand.{ValidCoset, ProverInput, LowDegree, ValidQueries, Any, Accepted, Visits, Covered, Elements, Completeness, HonestProofs}
-use Rattle.fri.specs.Theorems.{PassesEveryRound, Fit}
+use Rattle.fri.specs.Theorems.{PassesEveryRound, Fit, JudgeNumber, ProverNumber}
 use Rattle.fri.proofs.Layouts.{index-within}
 use Rattle.fri.proofs.Cosets.{first-fits, layer-steps-fit, length-layerBasis, honest-is-word, honest-degree, length-honestStore, honest-layers}
 use Rattle.fri.proofs.Values.{computed-entry, found-entry, found-last}
-use Rattle.fri.proofs.Rounds.{refused-by-round}
-use Rattle.fri.proofs.Checks.{run-passes, run-number, run-early, queries-number}
-use Rattle.fri.proofs.Verdicts.{accepted-verdict, lists-pass}
-use Rattle.fri.proofs.Provers.{early-not-12, degree-passes, degree-done, done-holds-both}
+use Rattle.fri.proofs.Checks.{run-passes, run-early, early-not}
+use Rattle.fri.proofs.Refusals.{judge-number, prover-number}
+use Rattle.fri.proofs.Verdicts.{accepted-verdict, checks-pass}
+use Rattle.fri.proofs.Provers.{degree-passes, degree-done, done-holds-both}
 
 honest-valid : (run : Run) → ValidCoset run → ValidCoset (honest run)
 honest-valid run v =
@@ -149,47 +146,32 @@ module _ (run : Run) (v : ValidCoset run) (p : ProverInput run) where
       ≡ record { answer = answers.Accepted; reads = length queries * roundsIn run * 2 ^ run .step }
   honest-accepted low queries q =
       accepted-verdict (honest run) queries
-      (lists-pass (honest run) queries (run-passes (honest run) (v .basis-elements) (v .parameters) honest-fit (v .independent)) q)
+      (checks-pass (honest run) queries (run-passes (honest run) (v .basis-elements) (v .parameters) honest-fit (v .independent)) q)
       (honest-passes low queries (q .within))
 
 -- ---- numbers that are never given
 
 never12 : (run : Run) → ValidCoset run → ProverInput run → LowDegree run → numberOfOutcome (proveOutcome run) ≢ 12
 never12 run v p low =
-    number-then (λ n. n ≢ 12) (runOutcome run) (degreeOutcome run) (early-not-12 (numberOfOutcome (runOutcome run)) (run-early run))
+    number-then (λ n. n ≢ 12) (runOutcome run) (degreeOutcome run) (early-not 12 (numberOfOutcome (runOutcome run)) (omega arith) (omega arith) (run-early run))
     (subst (λ (o : Outcome). numberOfOutcome o ≢ 12) (sym (degree-passes run (low-last run v p low))) (λ (e : _≡_ {A = ℕ} 0 12). omega arith))
 
-low-not-16 : (n : ℕ) → n < 16 → n ≢ 16
-low-not-16 n l e = omega arith
+judge-not-16 : (n : ℕ) → JudgeNumber n → n ≢ 16
+judge-not-16 n (inl z) e = omega arith
+judge-not-16 n (inr (inl h)) e = omega (arith, h .1)
+judge-not-16 n (inr (inr t)) e = omega arith
 
-run-never16 : (run : Run) → All IsElement (run .basis) → numberOfOutcome (runOutcome run) ≢ 16
-run-never16 run h =
-    run-number (λ n. n ≢ 16) (low-not-16 0 (omega arith)) (λ n l u. low-not-16 n (omega arith)) (low-not-16 13 (omega arith)) run h
+prover-not-16 : (n : ℕ) → ProverNumber n → n ≢ 16
+prover-not-16 n (inl z) e = omega arith
+prover-not-16 n (inr (inl h)) e = omega (arith, h .1)
+prover-not-16 n (inr (inr h)) e = omega (arith, h .1)
 
-prover-never16 : (run : Run) → All IsElement (run .basis) → numberOfOutcome (proveOutcome run) ≢ 16
-prover-never16 run h =
-    number-then (λ n. n ≢ 16) (runOutcome run) (degreeOutcome run) (run-never16 run h)
-    (number-unless (λ n. n ≢ 16) (leb (degreeBound (lastInterpolant run)) (lastCount (run .k) (run .rate) (stepsIn run))) (DegreeTooLarge (degreeBound (lastInterpolant run) - 1)) Done
-    (low-not-16 12 (omega arith)) (low-not-16 0 (omega arith)))
-
-pub same-number : (o : Outcome) → numberOfAnswer (answerOf o) ≡ numberOfOutcome o
-same-number Done = refl
-same-number (Refused cause) = refl
-
-rounds-never16 : (run : Run) (queries : List ℕ) → numberOfOutcome (roundsOutcome run queries 0) ≢ 16
-rounds-never16 run queries = by (roundsOutcome run queries 0) refl
-  where
-    by : (o : Outcome) → roundsOutcome run queries 0 ≡ o → numberOfOutcome o ≢ 16
-    by Done e = low-not-16 0 (omega arith)
-    by (Refused cause) e = low-not-16 (numberOf cause) (omega (arith, refused-by-round run queries cause e))
-
-judge-never16 : (run : Run) → All IsElement (run .basis) → (queries : List ℕ) → numberOfAnswer (verdictOf run queries .answer) ≢ 16
-judge-never16 run h queries e =
-    number-then (λ n. n ≢ 16) (checksOutcome run queries) (roundsOutcome run queries 0)
-    (number-then (λ n. n ≢ 16) (runOutcome run) (queriesOutcome (run .k) queries) (run-never16 run h)
-    (queries-number (λ n. n ≢ 16) (low-not-16 0 (omega arith)) (low-not-16 9 (omega arith)) (low-not-16 10 (omega arith)) (run .k) queries))
-    (rounds-never16 run queries)
-    (sym (same-number (andThen (checksOutcome run queries) (roundsOutcome run queries 0))) ∙ e)
+never16 : (run : Run) → All IsElement (run .basis)
+    → (numberOfOutcome (proveOutcome run) ≢ 16) × ((queries : List ℕ) → numberOfAnswer (verdictOf run queries .answer) ≢ 16)
+never16 run h = (
+  prover-not-16 (numberOfOutcome (proveOutcome run)) (prover-number run h),
+  λ queries. judge-not-16 (numberOfAnswer (verdictOf run queries .answer)) (judge-number run queries h),
+)
 
 -- ---- the prover makes the honest run
 
@@ -277,6 +259,6 @@ honest-proofs =
     record {
       proves = proves;
       never12 = never12;
-      never16 = λ run h. (prover-never16 run h, judge-never16 run h);
+      never16 = never16;
       covered = λ run v p low. (honest-elements run v p, covered run v p low);
     }

@@ -5,9 +5,9 @@ pub mod Checks
 pub mod Verdicts
 pub mod Values
 pub mod Provers
+pub mod Refusals
 pub mod Soundness
 pub mod Completeness
 pub mod Layers
 pub mod Lookups
-pub mod Refusals
 pub mod RoundChecks

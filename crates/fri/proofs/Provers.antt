@@ -1,18 +1,19 @@
 -- What the prover answers and leaves. Assumes nothing.
 use mathlib.Core.Path.{_≡_, refl, sym, ap, _∙_}
-use mathlib.Core.Logic.{_≢_, inl, inr, ⊎-elim}
+use mathlib.Core.Logic.{⊎-elim}
 use mathlib.Core.Bool.{Bool, true, false}
 use Prim.Native.Nat.{ℕ, suc, _-_, _≤_, _<_}
 use native.Mathlib.Omega.{arith}
 use lib.Dec.{leb}
 use borrow.Author.Tests.{le-leb, lt-leb, leb-false}
 use Rattle.poly.specs.Degree.{degreeBound}
+use Rattle.refusal.specs.declared.Cause.{Cause}
 use Rattle.refusal.specs.declared.Cause.the-variants.{DegreeTooLarge}
 use Rattle.refusal.specs.declared.Outcome.{Outcome}
 use Rattle.refusal.specs.declared.Outcome.the-variants.{Done, Refused}
 use Rattle.refusal.specs.Checks.{refusedUnless, afterwards}
 use Rattle.refusal.specs.Numbers.{numberOfOutcome}
-use Rattle.refusal.proofs.Checks.{le-of-test, refused-not-done, passed-by, refused-by, unless-done, then-passed, then-done}
+use Rattle.refusal.proofs.Checks.{le-of-test, refused-not-done, passed-by, refused-by, unless-done, then-passed, then-refused, then-done, number-unless}
 use Rattle.fri.specs.Layout.{lastCount}
 use Rattle.fri.specs.Run.{Run, stepsIn}
 use Rattle.fri.specs.Layers.{honestStore, lastInterpolant, honestLast}
@@ -20,12 +21,7 @@ use Rattle.fri.specs.Checks.{runOutcome}
 use Rattle.fri.specs.Prover.{degreeOutcome, proveOutcome, storeAfter, lastAfter}
 use Rattle.fri.specs.Theorems.{ProverAnswers}
 use Rattle.fri.proofs.Checks as checks
-use Rattle.fri.proofs.Checks.{Early}
 use Rattle.fri.proofs.Verdicts.{which}
-
-pub early-not-12 : (n : ℕ) → Early n → n ≢ 12
-early-not-12 n (inl l) e = omega arith
-early-not-12 n (inr u) e = omega arith
 
 module _ (run : Run) where
   abbrev bound : ℕ
@@ -58,7 +54,7 @@ module _ (run : Run) where
   high-degree : (degree : ℕ) → proveOutcome run ≡ Refused (DegreeTooLarge degree) → (runOutcome run ≡ Done) × (bound ≡ suc degree) × (d ≤ degree)
   high-degree degree e =
       ⊎-elim
-      (λ (h : runOutcome run ≡ Refused (DegreeTooLarge degree)). absurd (early-not-12 (numberOfOutcome (runOutcome run)) (checks.run-early run) (ap numberOfOutcome h)))
+      (λ (h : runOutcome run ≡ Refused (DegreeTooLarge degree)). absurd (checks.early-not 12 (numberOfOutcome (runOutcome run)) (omega arith) (omega arith) (checks.run-early run) (ap numberOfOutcome h)))
       (λ (h : (runOutcome run ≡ Done) × (degreeOutcome run ≡ Refused (DegreeTooLarge degree))).
       let told = degree-refused degree (leb bound d) refl (h .1) in
       (h .0, told .0, told .1))
@@ -82,6 +78,19 @@ module _ (run : Run) where
     ap (λ (o : Outcome). afterwards o (honestStore run) (run .store)) (done-degree e .0),
     ap (λ (o : Outcome). afterwards o (honestLast run) (run .last)) e,
   )
+
+  -- a refusal before the degree leaves both lists
+  pub refused-prove : (cause : Cause) → runOutcome run ≡ Refused cause → proveOutcome run ≡ Refused cause
+  refused-prove cause e = sym (then-refused (runOutcome run) (degreeOutcome run) cause e)
+
+  pub refused-holds-both : (cause : Cause) → runOutcome run ≡ Refused cause → (storeAfter run ≡ run .store) × (lastAfter run ≡ run .last)
+  refused-holds-both cause e = (
+    ap (λ (o : Outcome). afterwards o (honestStore run) (run .store)) e,
+    ap (λ (o : Outcome). afterwards o (honestLast run) (run .last)) (refused-prove cause e),
+  )
+
+  pub degree-number : (P : ℕ → Type 0) → P 0 → P 12 → P (numberOfOutcome (degreeOutcome run))
+  degree-number P p0 p12 = number-unless P (leb bound d) (DegreeTooLarge (bound - 1)) Done p12 p0
 
 pub prover-answers : ProverAnswers
 prover-answers =

@@ -4,30 +4,27 @@ use mathlib.Core.Logic.{inl, inr}
 use mathlib.Core.List.{List}
 use Prim.Native.Nat.{ℕ, _-_}
 use native.Mathlib.Omega.{arith}
-use lib.Dec.{leb}
 use Rattle.gf64.specs.Field.{IsElement}
 use Rattle.poly.specs.Polynomial.{All}
-use Rattle.poly.specs.Degree.{degreeBound}
 use Rattle.refusal.specs.declared.Cause.{Cause}
-use Rattle.refusal.specs.declared.Cause.the-variants.{DimensionOutOfRange, RateOutOfRange, StepOutOfRange, DimensionTooSmall, WrongLength, BasisDependent, QueryCountOutOfRange, QueryOutOfRange, DegreeTooLarge}
+use Rattle.refusal.specs.declared.Cause.the-variants.{DimensionOutOfRange, RateOutOfRange, StepOutOfRange, DimensionTooSmall, WrongLength, BasisDependent, QueryCountOutOfRange, QueryOutOfRange}
 use Rattle.refusal.specs.declared.Outcome.{Outcome}
 use Rattle.refusal.specs.declared.Outcome.the-variants.{Done, Refused}
 use Rattle.refusal.specs.declared.Position.the-variants.{At, Absent}
-use Rattle.refusal.specs.Checks.{andThen, afterwards}
+use Rattle.refusal.specs.Checks.{andThen}
 use Rattle.refusal.specs.Numbers.{numberOf, placeOf, roundOf, numberOfOutcome, placeOfOutcome, roundOfOutcome}
-use Rattle.refusal.proofs.Checks.{number-unless, then-passed, then-refused, number-then}
+use Rattle.refusal.proofs.Checks.{then-passed, then-refused, number-then}
 use Rattle.coset.specs.Span.{firstDependent}
-use Rattle.fri.specs.Layout.{dimension, lastCount}
-use Rattle.fri.specs.Run.{Run, stepsIn}
-use Rattle.fri.specs.Layers.{honestStore, lastInterpolant, honestLast}
+use Rattle.fri.specs.Layout.{dimension}
+use Rattle.fri.specs.Run.{Run}
 use Rattle.fri.specs.Checks.{parametersOutcome, lengthsOutcome, basesOutcome, runOutcome, queriesOutcome}
 use Rattle.fri.specs.Judge.{checksOutcome, verdictOf, numberOfAnswer}
 use Rattle.fri.specs.Rounds.{roundsOutcome}
 use Rattle.fri.specs.Prover.{degreeOutcome, proveOutcome}
 use Rattle.fri.specs.Demand.{ValidParameters}
 use Rattle.fri.specs.Theorems.{Fit, Passing, Tells, BothRefuse, Refusals, JudgeNumber, ProverNumber, OnlyNumbers}
-use Rattle.fri.proofs.Completeness.{same-number}
 use Rattle.fri.proofs.Rounds.{refused-by-round}
+use Rattle.fri.proofs.Provers.{refused-prove, refused-holds-both, degree-number}
 use Rattle.fri.proofs.Checks as checks
 use Rattle.fri.proofs.Verdicts as verdicts
 
@@ -35,11 +32,8 @@ pub passing : Passing
 passing =
     record {
       common = λ run h. (λ e. checks.run-valid run e, λ t. checks.run-passes run h (t .0) (t .1) (t .2));
-      all = λ run queries. (λ e. verdicts.lists-valid run queries e, λ t. verdicts.lists-pass run queries (t .0) (t .1));
+      all = λ run queries. (λ e. verdicts.checks-valid run queries e, λ t. verdicts.checks-pass run queries (t .0) (t .1));
     }
-
-refused-prove : (run : Run) (cause : Cause) → runOutcome run ≡ Refused cause → proveOutcome run ≡ Refused cause
-refused-prove run cause e = sym (then-refused (runOutcome run) (degreeOutcome run) cause e)
 
 both-refuse : (run : Run) (cause : Cause) → roundOf cause ≡ Absent → runOutcome run ≡ Refused cause → BothRefuse run (numberOf cause) (placeOf cause)
 both-refuse run cause n e = (
@@ -49,8 +43,8 @@ both-refuse run cause n e = (
   ap numberOfOutcome (refused-prove run cause e),
   ap placeOfOutcome (refused-prove run cause e),
   ap roundOfOutcome (refused-prove run cause e) ∙ n,
-  ap (λ (o : Outcome). afterwards o (honestStore run) (run .store)) e,
-  ap (λ (o : Outcome). afterwards o (honestLast run) (run .last)) (refused-prove run cause e),
+  refused-holds-both run cause e .0,
+  refused-holds-both run cause e .1,
 )
 
 by-parameters : (run : Run) (cause : Cause) → parametersOutcome (run .k) (run .rate) (run .step) ≡ Refused cause → runOutcome run ≡ Refused cause
@@ -94,9 +88,9 @@ refusals =
 
 -- ---- numbers
 
-judge-number : (run : Run) (queries : List ℕ) → All IsElement (run .basis) → JudgeNumber (numberOfAnswer (verdictOf run queries .answer))
+pub judge-number : (run : Run) (queries : List ℕ) → All IsElement (run .basis) → JudgeNumber (numberOfAnswer (verdictOf run queries .answer))
 judge-number run queries h =
-    subst JudgeNumber (sym (same-number (andThen (checksOutcome run queries) (roundsOutcome run queries 0))))
+    subst JudgeNumber (sym (verdicts.same-number (andThen (checksOutcome run queries) (roundsOutcome run queries 0))))
     (number-then JudgeNumber (checksOutcome run queries) (roundsOutcome run queries 0)
     (number-then JudgeNumber (runOutcome run) (queriesOutcome (run .k) queries)
     (checks.run-number JudgeNumber (inl refl) (λ n l u. inr (inl (l, omega arith))) (inr (inr refl)) run h)
@@ -107,12 +101,11 @@ judge-number run queries h =
     by Done e = inl refl
     by (Refused cause) e = inr (inl (omega (arith, refused-by-round run queries cause e), omega (arith, refused-by-round run queries cause e)))
 
-prover-number : (run : Run) → All IsElement (run .basis) → ProverNumber (numberOfOutcome (proveOutcome run))
+pub prover-number : (run : Run) → All IsElement (run .basis) → ProverNumber (numberOfOutcome (proveOutcome run))
 prover-number run h =
     number-then ProverNumber (runOutcome run) (degreeOutcome run)
     (checks.run-number ProverNumber (inl refl) (λ n l u. inr (inl (l, omega arith))) (inr (inr (omega arith, omega arith))) run h)
-    (number-unless ProverNumber (leb (degreeBound (lastInterpolant run)) (lastCount (run .k) (run .rate) (stepsIn run)))
-    (DegreeTooLarge (degreeBound (lastInterpolant run) - 1)) Done (inr (inr (omega arith, omega arith))) (inl refl))
+    (degree-number run ProverNumber (inl refl) (inr (inr (omega arith, omega arith))))
 
 pub only-numbers : OnlyNumbers
 only-numbers = record { judge = judge-number; prover = prover-number }

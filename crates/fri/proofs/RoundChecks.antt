@@ -1,9 +1,9 @@
 -- The round checks, and the verdict after them with the entries read. Assumes nothing.
 use mathlib.Core.Path.{_≡_, ap, subst}
-use mathlib.Core.Logic.{_≢_, _⊎_, inl, inr, ⊎-elim}
+use mathlib.Core.Logic.{_≢_, _⊎_, ⊎-elim}
 use mathlib.Core.List.{List}
 use Prim.Native.Nat.{ℕ, suc, _+_, _*_, _-_, _/_, _^_, _≤_, _<_, min}
-use native.Mathlib.Nat.{le-of-eq}
+use native.Mathlib.Nat.{le-of-eq, ne-of-lt}
 use native.Mathlib.Omega.{arith}
 use lib.ListN.{length, getD}
 use Rattle.refusal.specs.declared.Cause.{Cause}
@@ -26,27 +26,20 @@ use Rattle.fri.proofs.Cosets.{layer-steps-fit}
 use Rattle.fri.proofs.Values.{computed-entry, found-entry, found-last}
 use Rattle.fri.proofs.Rounds.{fails-of-refused, refused-by-round}
 use Rattle.fri.proofs.Checks as checks
-use Rattle.fri.proofs.Checks.{Early}
 use Rattle.fri.proofs.Verdicts as verdicts
 
-early-not-11 : (n : ℕ) → Early n → n ≢ 11
-early-not-11 n (inl l) e = omega arith
-early-not-11 n (inr u) e = omega arith
-
 -- the checks before them never answer 11
-lists-not-11 : (run : Run) (queries : List ℕ) → numberOfOutcome (checksOutcome run queries) ≢ 11
-lists-not-11 run queries =
-    number-then (λ n. n ≢ 11) (runOutcome run) (queriesOutcome (run .k) queries) (early-not-11 (numberOfOutcome (runOutcome run)) (checks.run-early run))
-    (checks.queries-number (λ n. n ≢ 11) (below 0 (omega arith)) (below 9 (omega arith)) (below 10 (omega arith)) (run .k) queries)
-  where
-    below : (n : ℕ) → n < 11 → n ≢ 11
-    below n l e = omega arith
+checks-not-11 : (run : Run) (queries : List ℕ) → numberOfOutcome (checksOutcome run queries) ≢ 11
+checks-not-11 run queries =
+    number-then (λ n. n ≢ 11) (runOutcome run) (queriesOutcome (run .k) queries)
+    (checks.early-not 11 (numberOfOutcome (runOutcome run)) (omega arith) (omega arith) (checks.run-early run))
+    (checks.queries-number (λ n. n ≢ 11) (ne-of-lt (omega arith)) (ne-of-lt (omega arith)) (ne-of-lt (omega arith)) (run .k) queries)
 
 round-refused : (run : Run) (queries : List ℕ) (query round : ℕ) → verdictOf run queries .answer ≡ answers.Refused (RoundCheckFails query round)
     → (checksOutcome run queries ≡ Done) × FailsFirst run queries query round
 round-refused run queries query round e =
     ⊎-elim
-    (λ (h : checksOutcome run queries ≡ Refused (RoundCheckFails query round)). absurd (lists-not-11 run queries (ap numberOfOutcome h)))
+    (λ (h : checksOutcome run queries ≡ Refused (RoundCheckFails query round)). absurd (checks-not-11 run queries (ap numberOfOutcome h)))
     (λ (h : (checksOutcome run queries ≡ Done) × (roundsOutcome run queries 0 ≡ Refused (RoundCheckFails query round))).
     (h .0, fails-of-refused run queries query round (h .1)))
     (verdicts.refused-which run queries (RoundCheckFails query round) e)
@@ -70,7 +63,7 @@ round-checks =
       found = λ run j i h.
           found-entry run j i (j / 2 ^ (run .step * suc i)) h (next-index run j i (omega arith));
       found-last = λ run j i h. found-last run j i (j / 2 ^ (run .step * suc i)) h (next-index run j i (le-of-eq h));
-      accepted = λ run queries. (λ e. verdicts.accepted-lists run queries e, λ t. verdicts.accepted-by run queries (t .0) (t .1));
+      accepted = λ run queries. (λ e. verdicts.accepted-checks run queries e, λ t. verdicts.accepted-by run queries (t .0) (t .1));
       refused = λ run queries query round. (λ e. round-refused run queries query round e, λ t. verdicts.refused-by run queries query round (t .0) (t .1));
     }
 
@@ -79,7 +72,7 @@ round-checks =
 told-accepted : (run : Run) (queries : List ℕ) → Accepted run queries
     → Tells (verdictOf run queries) 0 Absent Absent (length queries * roundsIn run * 2 ^ run .step)
 told-accepted run queries e =
-    let told = verdicts.accepted-lists run queries e in
+    let told = verdicts.accepted-checks run queries e in
     (ap numberOfAnswer e, ap placeOfAnswer e, ap roundOfAnswer e, verdicts.reads-accepted run queries (told .0) (told .1))
 
 told-refused : (run : Run) (queries : List ℕ) (query round : ℕ) → verdictOf run queries .answer ≡ answers.Refused (RoundCheckFails query round)

@@ -16,6 +16,7 @@ use Rattle.refusal.specs.declared.Outcome.the-variants.{Done}
 use Rattle.coset.specs.Coset.{point}
 use Rattle.reed_solomon.specs.Codes.{encoded, interpolated, WordDegreeBelow}
 use Rattle.reed_solomon.proofs.Theorems.{encoding}
+use Rattle.fold.specs.Exceptional.{Exceptional}
 use Rattle.fold.proofs.Exceptional.{exceptional-bound}
 use Rattle.fri.specs.Layout.{dimension, lastCount, indexIn}
 use Rattle.fri.specs.Run.{Run, stepsIn, roundsIn, challengeIn, layerIn, stepIn}
@@ -27,7 +28,7 @@ use Rattle.fri.proofs.Layouts.{step-of-round}
 use Rattle.fri.proofs.Cosets.{challenge-element, layer-step-fits, some-rounds, length-layerBasis, layerBasis-elements, layerOffset-element, layerBasis-independent, fits-basis, length-foldOf, length-layer, layer-is-word}
 use Rattle.fri.proofs.Values.{computed-entry, found-entry, found-last}
 use Rattle.fri.proofs.Checks.{run-valid}
-use Rattle.fri.proofs.Verdicts.{accepted-lists, lists-valid}
+use Rattle.fri.proofs.Verdicts.{accepted-checks, checks-valid}
 
 -- ---- from the cover to queries
 
@@ -42,8 +43,8 @@ covering : (run : Run) (coset : ℕ) (lists : List (List ℕ)) → Any (λ queri
     → (runOutcome run ≡ Done) × ((j : ℕ) × PassesEveryRound run j × (j / 2 ^ stepIn run 0 ≡ coset))
 covering run coset [] s = absurd s
 covering run coset (queries ∷ lists) (inl h) =
-    let told = accepted-lists run queries (h .0) in
-    (lists-valid run queries (told .0) .0, visited run coset queries (told .1) (h .1))
+    let told = accepted-checks run queries (h .0) in
+    (checks-valid run queries (told .0) .0, visited run coset queries (told .1) (h .1))
 covering run coset (queries ∷ lists) (inr s) = covering run coset lists s
 
 -- a run of 64-bit numbers that passes the checks has a valid coset
@@ -152,11 +153,13 @@ module _ (run : Run) (lists : List (List ℕ)) (e : Elements run) (cover : Cover
       by : (Low ⊎ (Low → ⊥)) → Low ⊎ ExceptionalIn run i (challengeIn run i)
       by (inl h) = inl h
       by (inr n) =
-          inr (
+          let exceptional : Exceptional (run .rate) step (offsetIn run i) (basisIn run i) (layerIn run i) (challengeIn run i) = (
             challenge-element run (e .challenges) i,
             (λ z. n (subst (λ (d : ℕ). WordDegreeBelow (2 ^ (d - run .rate)) (offsetIn run i) (basisIn run i) (layerIn run i)) (length-layerBasis run v i) z)),
             subst (λ (d : ℕ). WordDegreeBelow (2 ^ d) (offsetIn run (suc i)) (basisIn run (suc i)) (foldOf run i (layerIn run i))) as-length low,
           )
+          in
+          inr exceptional
 
   descend : (i : ℕ) → i < roundsIn run → FoldLow i → Found
   unfolding dimension layerIn layerBasis layerOffset

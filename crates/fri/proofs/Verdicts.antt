@@ -11,7 +11,7 @@ use Rattle.refusal.specs.declared.Cause.the-variants.{RoundCheckFails}
 use Rattle.refusal.specs.declared.Outcome.{Outcome}
 use Rattle.refusal.specs.declared.Outcome.the-variants.{Done, Refused}
 use Rattle.refusal.specs.Checks.{andThen}
-use Rattle.refusal.specs.Numbers.{numberOf, placeOf, roundOf}
+use Rattle.refusal.specs.Numbers.{numberOf, placeOf, roundOf, numberOfOutcome}
 use Rattle.refusal.proofs.Checks.{then-passed, then-refused, then-done}
 use Rattle.fri.specs.declared.Answer.{Answer}
 use Rattle.fri.specs.declared.Answer.the-variants as answers
@@ -35,6 +35,10 @@ refused-of : (o : Outcome) (cause : Cause) → answerOf o ≡ answers.Refused ca
 refused-of Done cause e = absurd (let impossible : _≡_ {A = ℕ} 0 1 = cc in omega arith)
 refused-of (Refused other) cause e = let same : other ≡ cause = cc in ap Refused same
 
+pub same-number : (o : Outcome) → numberOfAnswer (answerOf o) ≡ numberOfOutcome o
+same-number Done = refl
+same-number (Refused cause) = refl
+
 -- a refusal of two groups of checks is one of the first, or of the second after the first has passed
 abbrev pub Either : Outcome → Outcome → Cause → Type 0
 Either first after cause = (first ≡ Refused cause) ⊎ ((first ≡ Done) × (after ≡ Refused cause))
@@ -52,8 +56,8 @@ module _ (run : Run) (queries : List ℕ) where
 
   -- ---- accepted
 
-  pub accepted-lists : Accepted run queries → (checksOutcome run queries ≡ Done) × AllPass
-  accepted-lists e =
+  pub accepted-checks : Accepted run queries → (checksOutcome run queries ≡ Done) × AllPass
+  accepted-checks e =
       let both = then-done (checksOutcome run queries) (roundsOutcome run queries 0) (done-of outcome e) in
       (both .0, pass-of-done run queries (both .1))
 
@@ -111,10 +115,10 @@ module _ (run : Run) (queries : List ℕ) where
   pub run-refused : (cause : Cause) → runOutcome run ≡ Refused cause → checksOutcome run queries ≡ Refused cause
   run-refused cause e = sym (then-refused (runOutcome run) (queriesOutcome (run .k) queries) cause e)
 
-  pub lists-pass : runOutcome run ≡ Done → ValidQueries (run .k) queries → checksOutcome run queries ≡ Done
-  lists-pass e v = sym (then-passed (runOutcome run) (queriesOutcome (run .k) queries) e) ∙ queries-pass (run .k) queries v
+  pub checks-pass : runOutcome run ≡ Done → ValidQueries (run .k) queries → checksOutcome run queries ≡ Done
+  checks-pass e v = sym (then-passed (runOutcome run) (queriesOutcome (run .k) queries) e) ∙ queries-pass (run .k) queries v
 
-  pub lists-valid : checksOutcome run queries ≡ Done → (runOutcome run ≡ Done) × ValidQueries (run .k) queries
-  lists-valid e =
+  pub checks-valid : checksOutcome run queries ≡ Done → (runOutcome run ≡ Done) × ValidQueries (run .k) queries
+  checks-valid e =
       let both = then-done (runOutcome run) (queriesOutcome (run .k) queries) e in
       (both .0, queries-valid (run .k) queries (both .1))

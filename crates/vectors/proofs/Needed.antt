@@ -1,5 +1,5 @@
 -- The queries 0 and 2 of case J visit both cosets, and are accepted by computation. Assumes nothing.
-use mathlib.Core.Path.{_≡_, refl}
+use mathlib.Core.Path.{refl}
 use mathlib.Core.Logic.{inl, inr}
 use mathlib.Core.List.{[], _∷_}
 use Prim.Native.Nat.{zero, suc}

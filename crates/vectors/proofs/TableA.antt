@@ -22,7 +22,7 @@ use Rattle.coset.specs.Subspace.{nextOffset, nextBasis, image, subspacePolynomi
 use Rattle.reed_solomon.specs.Codes.{interpolated}
 use Rattle.reed_solomon.proofs.Cases.{code-cases}
 use Rattle.fold.specs.Fold.{folded, foldEntry, cosetPoints, cosetEntries}
-use Rattle.fold.proofs.Cases.{fold-cases}
+use Rattle.fold.proofs.Cases.{fold-cases, d-offset, d-basis}
 use Rattle.fri.specs.Layout.{dimension, lastCount, layerStart, storeLength, storedLayer, indexIn}
 use Rattle.fri.specs.Run.{Run, stepsIn, layerIn}
 use Rattle.fri.specs.Layers.{layerBasis, layerOffset, foldOf, honestLayer, honestJoined, honestStore, lastInterpolant, honestLast}
@@ -56,16 +56,6 @@ module _ (run : Run) (p : List ℕ) (checked : runOutcome run ≡ Done) (last : 
 
 store-by : (run : Run) (store : List ℕ) → runOutcome run ≡ Done → honestStore run ≡ store → storeAfter run ≡ store
 store-by run store checked e = ap (λ (o : Outcome). afterwards o (honestStore run) (run .store)) checked ∙ e
-
--- ---- case D
-
-d-offset : nextOffset 1 0x8 (1 ∷ 2 ∷ []) ≡ 0x48
-unfolding nextOffset image subspacePolynomial points tabulated point vanishingPolynomial timesLinear plus scale evaluate product carryless carrylessIn remainder remainderIn timesT
-d-offset = refl
-
-d-basis : nextBasis 1 (1 ∷ 2 ∷ []) ≡ 6 ∷ []
-unfolding nextBasis image subspacePolynomial points tabulated point vanishingPolynomial timesLinear plus scale evaluate product carryless carrylessIn remainder remainderIn timesT
-d-basis = refl
 
 -- ---- cases F, J and K: the checks and layer r's interpolant
 
