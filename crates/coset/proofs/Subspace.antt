@@ -8,13 +8,13 @@ use native.Mathlib.Nat.{div-lt-iff-lt-mul, le-of-eq}
 use native.Mathlib.Omega.{arith}
 use lib.Pow.{pow-pos, pow-add, high}
 use lib.Dec.{T, eqb, eqb→eq}
-use lib.ListN.{length, getD, take, drop, length-map, length-drop, length-append, drop-of-length-le}
+use lib.ListN.{length, getD, take, drop, replicate, length-map, length-drop, length-append, drop-of-length-le}
 use lib.Seq.{length-take-le, getD-at, take-at}
 use borrow.Author.Tests.{eq-eqb}
 use Rattle.gf64.specs.Field.{IsElement, sum}
 use Rattle.poly.specs.Carrier.{gf64}
 use Rattle.poly.specs.Polynomial.{All, padded}
-use Rattle.poly.proofs.Filling.{padded-taken}
+use Rattle.poly.proofs.Filling.{padded-taken, padded-front}
 use Rattle.poly.proofs.Parts.{mid-suffix}
 use Rattle.poly.specs.Rows.{monic}
 use Rattle.poly.proofs.AtField.{gf64-laws}
@@ -173,6 +173,18 @@ next-taken step basis elements zeros filled eb h e f =
     ∙ take-at (map (composedMaps (take step elements)) (take (length basis - step) (drop step basis))) (drop (length (take (length basis - step) (drop step basis))) zeros) (length basis - step)
     (ap length (next-filled step basis elements eb h e) ∙ length-nextBasis step basis)
     ∙ next-filled step basis elements eb h e
+
+-- and zeros follow
+pub next-padded : (n step : ℕ) (basis elements filled : List ℕ) → All IsElement basis → step ≤ length basis → elements ≡ padded gf64 3 (stepElements step basis)
+    → filled ≡ map (composedMaps (take step elements)) (take (length basis - step) (drop step basis)) ++ drop (length (take (length basis - step) (drop step basis))) (replicate n 0)
+    → filled ≡ padded gf64 n (nextBasis step basis)
+next-padded n step basis elements filled eb h e f =
+    f
+    ∙ ap (λ (m : ℕ). images ++ drop m (replicate n 0)) (sym (length-map (take (length basis - step) (drop step basis)) (composedMaps (take step elements))))
+    ∙ padded-front n images ∙ ap (padded gf64 n) (next-filled step basis elements eb h e)
+  where
+    images : List ℕ
+    images = map (composedMaps (take step elements)) (take (length basis - step) (drop step basis))
 
 -- a list of their number is the next basis
 pub next-whole : (step : ℕ) (basis elements held filled : List ℕ) → All IsElement basis → step ≤ length basis → elements ≡ padded gf64 3 (stepElements step basis)

@@ -14,6 +14,7 @@ ghost use Rattle.poly.specs.Polynomial.{padded};
 ghost use Rattle.coset.specs.Coset.{point};
 ghost use Rattle.coset.specs.Span.{firstDependent};
 ghost use Rattle.coset.specs.Answers.{outcomeOfBasis};
+ghost use Rattle.coset.specs.Subspace.{nextBasis};
 ghost use Rattle.coset.specs.Steps.{composedMaps, stepElements, imagesBefore};
 ghost use Rattle.coset.specs.Elimination.{cleared};
 ghost use Rattle.coset.specs.Sequence.{prefixSums};
@@ -186,6 +187,17 @@ pub fn fill_images(elements: &[u64], xs: &[u64], images: &mut [u64])
         images[i] = composed_maps(elements, Element(x)).0;
         i += 1;
     }
+}
+
+// The basis of the next coset, and zeros.
+pub fn next_basis(basis: &[u64], step: usize) -> [u64; 20]
+    requires { ⌜ (step ≤ 3) × (step ≤ length (now basis)) × (length (now basis) ≤ 20) ⌝ }
+    ensures { λ r. ⌜ r ≡ padded gf64 20 (nextBasis step (now (basis .entry))) ⌝ }
+{
+    let elements = step_elements(basis, step);
+    let mut next = [0u64; 20];
+    fill_images(&elements[..step], &basis[step..], &mut next);
+    next
 }
 
 // The image of x before each of the maps of at most three elements, and zeros.

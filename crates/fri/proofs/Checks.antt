@@ -173,38 +173,38 @@ module _ (run : Run) where
 -- ---- bases
 
 -- number 16 does not come after an independent basis
-later-bases-pass : (run : Run) → ((i : ℕ) → Independent (basisIn run i)) → (round left : ℕ) → laterBasesOutcome run round left ≡ Done
+later-bases-pass : (run : Run) → ((i : ℕ) → Independent (basisIn run i)) → (round left : ℕ) → laterBasesOutcome (stepsIn run) (run .basis) round left ≡ Done
 unfolding laterBasesOutcome
 later-bases-pass run d round zero = refl
 later-bases-pass run d round (suc left) =
-    sym (then-passed (outcomeOfLaterBasis round (firstDependent (basisIn run (suc round)))) (laterBasesOutcome run (suc round) left)
+    sym (then-passed (outcomeOfLaterBasis round (firstDependent (basisIn run (suc round)))) (laterBasesOutcome (stepsIn run) (run .basis) (suc round) left)
     (ap (outcomeOfLaterBasis round) (d (suc round))))
     ∙ later-bases-pass run d (suc round) left
 
-pub bases-pass : (run : Run) → All IsElement (run .basis) → Independent (run .basis) → basesOutcome run ≡ Done
+pub bases-pass : (run : Run) → All IsElement (run .basis) → Independent (run .basis) → basesOutcome (stepsIn run) (run .basis) ≡ Done
 bases-pass run h d =
-    sym (then-passed (outcomeOfBasis (firstDependent (run .basis))) (laterBasesOutcome run 0 (roundsIn run)) (ap outcomeOfBasis d))
+    sym (then-passed (outcomeOfBasis (firstDependent (run .basis))) (laterBasesOutcome (stepsIn run) (run .basis) 0 (roundsIn run)) (ap outcomeOfBasis d))
     ∙ later-bases-pass run (later-independent (stepsIn run) (run .basis) h d) 0 (roundsIn run)
 
-pub bases-independent : (run : Run) → basesOutcome run ≡ Done → Independent (run .basis)
+pub bases-independent : (run : Run) → basesOutcome (stepsIn run) (run .basis) ≡ Done → Independent (run .basis)
 bases-independent run e =
-    independent-of (firstDependent (run .basis)) (then-done (outcomeOfBasis (firstDependent (run .basis))) (laterBasesOutcome run 0 (roundsIn run)) e .0)
+    independent-of (firstDependent (run .basis)) (then-done (outcomeOfBasis (firstDependent (run .basis))) (laterBasesOutcome (stepsIn run) (run .basis) 0 (roundsIn run)) e .0)
 
-pub bases-refused : (run : Run) (place : ℕ) → firstDependent (run .basis) ≡ At place → basesOutcome run ≡ Refused (BasisDependent place)
+pub bases-refused : (run : Run) (place : ℕ) → firstDependent (run .basis) ≡ At place → basesOutcome (stepsIn run) (run .basis) ≡ Refused (BasisDependent place)
 bases-refused run place e =
-    sym (then-refused (outcomeOfBasis (firstDependent (run .basis))) (laterBasesOutcome run 0 (roundsIn run)) (BasisDependent place) (ap outcomeOfBasis e))
+    sym (then-refused (outcomeOfBasis (firstDependent (run .basis))) (laterBasesOutcome (stepsIn run) (run .basis) 0 (roundsIn run)) (BasisDependent place) (ap outcomeOfBasis e))
 
 -- ---- a run
 
 pub run-passes : (run : Run) → All IsElement (run .basis) → ValidParameters (run .k) (run .rate) (run .step) → Fit run → Independent (run .basis) → runOutcome run ≡ Done
 run-passes run h v f d =
-    sym (then-passed (parametersOutcome (run .k) (run .rate) (run .step)) (andThen (lengthsOutcome run) (basesOutcome run)) (parameters-pass (run .k) (run .rate) (run .step) v))
-    ∙ sym (then-passed (lengthsOutcome run) (basesOutcome run) (lengths-pass run f)) ∙ bases-pass run h d
+    sym (then-passed (parametersOutcome (run .k) (run .rate) (run .step)) (andThen (lengthsOutcome run) (basesOutcome (stepsIn run) (run .basis))) (parameters-pass (run .k) (run .rate) (run .step) v))
+    ∙ sym (then-passed (lengthsOutcome run) (basesOutcome (stepsIn run) (run .basis)) (lengths-pass run f)) ∙ bases-pass run h d
 
 pub run-valid : (run : Run) → runOutcome run ≡ Done → ValidParameters (run .k) (run .rate) (run .step) × Fit run × Independent (run .basis)
 run-valid run e =
-    let first = then-done (parametersOutcome (run .k) (run .rate) (run .step)) (andThen (lengthsOutcome run) (basesOutcome run)) e in
-    let second = then-done (lengthsOutcome run) (basesOutcome run) (first .1) in
+    let first = then-done (parametersOutcome (run .k) (run .rate) (run .step)) (andThen (lengthsOutcome run) (basesOutcome (stepsIn run) (run .basis))) e in
+    let second = then-done (lengthsOutcome run) (basesOutcome (stepsIn run) (run .basis)) (first .1) in
     (parameters-valid (run .k) (run .rate) (run .step) (first .0), lengths-fit run (second .0), bases-independent run (second .1))
 
 -- ---- queries
@@ -286,19 +286,19 @@ outside-refused k queries query l m e =
 -- ---- which numbers there are
 
 -- an independent basis gives 0, a dependent one 8, so that 16 does not come
-bases-number : (P : ℕ → Type 0) → P 0 → P 8 → (run : Run) → All IsElement (run .basis) → P (numberOfOutcome (basesOutcome run))
+bases-number : (P : ℕ → Type 0) → P 0 → P 8 → (run : Run) → All IsElement (run .basis) → P (numberOfOutcome (basesOutcome (stepsIn run) (run .basis)))
 bases-number P p0 p8 run h = by (firstDependent (run .basis)) refl
   where
-    by : (p : Position) → firstDependent (run .basis) ≡ p → P (numberOfOutcome (basesOutcome run))
+    by : (p : Position) → firstDependent (run .basis) ≡ p → P (numberOfOutcome (basesOutcome (stepsIn run) (run .basis)))
     by (At place) e = subst (λ (o : Outcome). P (numberOfOutcome o)) (sym (bases-refused run place e)) p8
     by Absent e = subst (λ (o : Outcome). P (numberOfOutcome o)) (sym (bases-pass run h e)) p0
 
 -- what holds of 0, of 4 to 8, of 13 and of the bases' number holds of a run's
-run-number-by : (P : ℕ → Type 0) → P 0 → ((n : ℕ) → 4 ≤ n → n ≤ 8 → P n) → P 13 → (run : Run) → P (numberOfOutcome (basesOutcome run))
+run-number-by : (P : ℕ → Type 0) → P 0 → ((n : ℕ) → 4 ≤ n → n ≤ 8 → P n) → P 13 → (run : Run) → P (numberOfOutcome (basesOutcome (stepsIn run) (run .basis)))
     → P (numberOfOutcome (runOutcome run))
 run-number-by P p0 low p13 run bases =
-    number-then P (parametersOutcome (run .k) (run .rate) (run .step)) (andThen (lengthsOutcome run) (basesOutcome run)) parameters-number
-    (number-then P (lengthsOutcome run) (basesOutcome run) lengths-number bases)
+    number-then P (parametersOutcome (run .k) (run .rate) (run .step)) (andThen (lengthsOutcome run) (basesOutcome (stepsIn run) (run .basis))) parameters-number
+    (number-then P (lengthsOutcome run) (basesOutcome (stepsIn run) (run .basis)) lengths-number bases)
   where
     parameters-number : P (numberOfOutcome (parametersOutcome (run .k) (run .rate) (run .step)))
     parameters-number =
@@ -327,20 +327,20 @@ pub early-not : (m n : ℕ) → 9 ≤ m → m ≤ 12 → Early n → n ≢ m
 early-not m n l u (inl h) e = omega arith
 early-not m n l u (inr h) e = omega arith
 
-later-bases-early : (run : Run) (round left : ℕ) → Early (numberOfOutcome (laterBasesOutcome run round left))
+later-bases-early : (run : Run) (round left : ℕ) → Early (numberOfOutcome (laterBasesOutcome (stepsIn run) (run .basis) round left))
 unfolding laterBasesOutcome
 later-bases-early run round zero = inl (omega arith)
 later-bases-early run round (suc left) =
-    number-then Early (outcomeOfLaterBasis round (firstDependent (basisIn run (suc round)))) (laterBasesOutcome run (suc round) left)
+    number-then Early (outcomeOfLaterBasis round (firstDependent (basisIn run (suc round)))) (laterBasesOutcome (stepsIn run) (run .basis) (suc round) left)
     (by (firstDependent (basisIn run (suc round)))) (later-bases-early run (suc round) left)
   where
     by : (p : Position) → Early (numberOfOutcome (outcomeOfLaterBasis round p))
     by (At place) = inr (omega arith)
     by Absent = inl (omega arith)
 
-bases-early : (run : Run) → Early (numberOfOutcome (basesOutcome run))
+bases-early : (run : Run) → Early (numberOfOutcome (basesOutcome (stepsIn run) (run .basis)))
 bases-early run =
-    number-then Early (outcomeOfBasis (firstDependent (run .basis))) (laterBasesOutcome run 0 (roundsIn run)) (by (firstDependent (run .basis)))
+    number-then Early (outcomeOfBasis (firstDependent (run .basis))) (laterBasesOutcome (stepsIn run) (run .basis) 0 (roundsIn run)) (by (firstDependent (run .basis)))
     (later-bases-early run 0 (roundsIn run))
   where
     by : (p : Position) → Early (numberOfOutcome (outcomeOfBasis p))

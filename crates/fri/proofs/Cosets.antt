@@ -52,6 +52,12 @@ later-independent steps basis h d zero = d
 later-independent steps basis h d (suc i) =
     next-independent (stepAt steps i) (layerBasis steps basis i) (layerBasis-all steps basis h i) (later-independent steps basis h d i)
 
+pub length-basis : (k : ℕ) (steps basis : List ℕ) → length basis ≡ k → (i : ℕ) → length (layerBasis steps basis i) ≡ dimension k steps i
+unfolding layerBasis dimension
+length-basis k steps basis e zero = e
+length-basis k steps basis e (suc i) =
+    length-nextBasis (stepAt steps i) (layerBasis steps basis i) ∙ ap (λ (n : ℕ). n - stepAt steps i) (length-basis k steps basis e i)
+
 module _ (run : Run) (v : ValidCoset run) where
   pub layer-step-fits : (i : ℕ) → i < roundsIn run → run .rate + stepIn run i ≤ dimension (run .k) (stepsIn run) i
   layer-step-fits i h = step-fits (run .k) (run .rate) (run .step) (v .parameters .step-least) (omega (arith, v .parameters .k-enough)) i h
@@ -67,10 +73,7 @@ module _ (run : Run) (v : ValidCoset run) where
   first-fits = layer-steps-fit 0 some-rounds
 
   pub length-layerBasis : (i : ℕ) → length (basisIn run i) ≡ dimension (run .k) (stepsIn run) i
-  unfolding layerBasis dimension
-  length-layerBasis zero = v .basis-count
-  length-layerBasis (suc i) =
-      length-nextBasis (stepIn run i) (basisIn run i) ∙ ap (λ (n : ℕ). n - stepIn run i) (length-layerBasis i)
+  length-layerBasis = length-basis (run .k) (stepsIn run) (run .basis) (v .basis-count)
 
   pub layerBasis-elements : (i : ℕ) → All IsElement (basisIn run i)
   layerBasis-elements = layerBasis-all (stepsIn run) (run .basis) (v .basis-elements)

@@ -16,7 +16,7 @@ use Rattle.refusal.specs.Numbers.{numberOf, placeOf, roundOf, numberOfOutcome, 
 use Rattle.refusal.proofs.Checks.{then-passed, then-refused, number-then}
 use Rattle.coset.specs.Span.{firstDependent}
 use Rattle.fri.specs.Layout.{dimension}
-use Rattle.fri.specs.Run.{Run}
+use Rattle.fri.specs.Run.{Run, stepsIn}
 use Rattle.fri.specs.Checks.{parametersOutcome, lengthsOutcome, basesOutcome, runOutcome, queriesOutcome}
 use Rattle.fri.specs.Judge.{checksOutcome, verdictOf, numberOfAnswer}
 use Rattle.fri.specs.Rounds.{roundsOutcome}
@@ -48,19 +48,19 @@ both-refuse run cause n e = (
 )
 
 by-parameters : (run : Run) (cause : Cause) → parametersOutcome (run .k) (run .rate) (run .step) ≡ Refused cause → runOutcome run ≡ Refused cause
-by-parameters run cause e = sym (then-refused (parametersOutcome (run .k) (run .rate) (run .step)) (andThen (lengthsOutcome run) (basesOutcome run)) cause e)
+by-parameters run cause e = sym (then-refused (parametersOutcome (run .k) (run .rate) (run .step)) (andThen (lengthsOutcome run) (basesOutcome (stepsIn run) (run .basis))) cause e)
 
-after-parameters : (run : Run) → ValidParameters (run .k) (run .rate) (run .step) → runOutcome run ≡ andThen (lengthsOutcome run) (basesOutcome run)
+after-parameters : (run : Run) → ValidParameters (run .k) (run .rate) (run .step) → runOutcome run ≡ andThen (lengthsOutcome run) (basesOutcome (stepsIn run) (run .basis))
 after-parameters run v =
-    sym (then-passed (parametersOutcome (run .k) (run .rate) (run .step)) (andThen (lengthsOutcome run) (basesOutcome run)) (checks.parameters-pass (run .k) (run .rate) (run .step) v))
+    sym (then-passed (parametersOutcome (run .k) (run .rate) (run .step)) (andThen (lengthsOutcome run) (basesOutcome (stepsIn run) (run .basis))) (checks.parameters-pass (run .k) (run .rate) (run .step) v))
 
 by-lengths : (run : Run) (cause : Cause) → ValidParameters (run .k) (run .rate) (run .step) → lengthsOutcome run ≡ Refused cause → runOutcome run ≡ Refused cause
-by-lengths run cause v e = after-parameters run v ∙ sym (then-refused (lengthsOutcome run) (basesOutcome run) cause e)
+by-lengths run cause v e = after-parameters run v ∙ sym (then-refused (lengthsOutcome run) (basesOutcome (stepsIn run) (run .basis)) cause e)
 
 by-basis : (run : Run) (place : ℕ) → ValidParameters (run .k) (run .rate) (run .step) → Fit run → firstDependent (run .basis) ≡ At place
     → runOutcome run ≡ Refused (BasisDependent place)
 by-basis run place v f e =
-    after-parameters run v ∙ sym (then-passed (lengthsOutcome run) (basesOutcome run) (checks.lengths-pass run f)) ∙ checks.bases-refused run place e
+    after-parameters run v ∙ sym (then-passed (lengthsOutcome run) (basesOutcome (stepsIn run) (run .basis)) (checks.lengths-pass run f)) ∙ checks.bases-refused run place e
 
 by-queries : (run : Run) (queries : List ℕ) (cause : Cause) → runOutcome run ≡ Done → queriesOutcome (run .k) queries ≡ Refused cause
     → Tells (verdictOf run queries) (numberOf cause) (placeOf cause) (roundOf cause) 0

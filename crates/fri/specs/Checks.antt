@@ -14,7 +14,7 @@ use Rattle.coset.specs.Span.{firstDependent}
 use Rattle.coset.specs.Answers.{outcomeOfBasis, outcomeOfLaterBasis}
 use Rattle.fri.specs.Layout.{lastCount, storeLength}
 use Rattle.fri.specs.Run.{Run, stepsIn, roundsIn}
-use Rattle.fri.specs.Layers.{basisIn}
+use Rattle.fri.specs.Layers.{layerBasis}
 
 -- the ranges: k 2..20 (number 4), R 1..6 (5), η 1..3 (6), k at least R + η (7)
 abbrev pub parametersOutcome : ℕ → ℕ → ℕ → Outcome
@@ -36,18 +36,18 @@ lengthsOutcome run =
     Done))))
 
 -- the bases of the layers after layer `round`, `left` of them (16, with the round whose fold gives that layer)
-unfoldable pub laterBasesOutcome : Run → ℕ → ℕ → Outcome
-laterBasesOutcome run round zero = Done
-laterBasesOutcome run round (suc left) =
-    andThen (outcomeOfLaterBasis round (firstDependent (basisIn run (suc round)))) (laterBasesOutcome run (suc round) left)
+unfoldable pub laterBasesOutcome : List ℕ → List ℕ → ℕ → ℕ → Outcome
+laterBasesOutcome steps basis round zero = Done
+laterBasesOutcome steps basis round (suc left) =
+    andThen (outcomeOfLaterBasis round (firstDependent (layerBasis steps basis (suc round)))) (laterBasesOutcome steps basis (suc round) left)
 
 -- the basis (8), then those of layers 1 to r (16)
-abbrev pub basesOutcome : Run → Outcome
-basesOutcome run = andThen (outcomeOfBasis (firstDependent (run .basis))) (laterBasesOutcome run 0 (roundsIn run))
+abbrev pub basesOutcome : List ℕ → List ℕ → Outcome
+basesOutcome steps basis = andThen (outcomeOfBasis (firstDependent basis)) (laterBasesOutcome steps basis 0 (length steps))
 
 -- the checks that prover and judge have in common: 4, 5, 6, 7, 13, 8, 16
 abbrev pub runOutcome : Run → Outcome
-runOutcome run = andThen (parametersOutcome (run .k) (run .rate) (run .step)) (andThen (lengthsOutcome run) (basesOutcome run))
+runOutcome run = andThen (parametersOutcome (run .k) (run .rate) (run .step)) (andThen (lengthsOutcome run) (basesOutcome (stepsIn run) (run .basis)))
 
 -- the first query, its place counted from `place`, whose index is not below the size
 unfoldable pub firstOutside : ℕ → List ℕ → ℕ → Position

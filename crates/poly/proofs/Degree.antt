@@ -1,14 +1,16 @@
 -- The least bound of the degree against all bounds. Assumes nothing.
 use mathlib.Core.Path.{_≡_, refl, sym, subst}
-use mathlib.Core.Logic.{_↔_, _⊎_, inl, inr}
+use mathlib.Core.Logic.{_≢_, _↔_, _⊎_, inl, inr}
 use mathlib.Core.Bool.{Bool, true, false, cond}
 use mathlib.Core.List.{List, [], _∷_}
-use Prim.Native.Nat.{ℕ, zero, suc, _≤_}
+use Prim.Native.Nat.{ℕ, zero, suc, _≤_, _<_}
 use native.Mathlib.Omega.{arith}
+use lib.ListN.{length, getD, drop-of-length-le}
+use lib.Seq.{drop-cons}
 use lib.Dec.{T, leb, eqb, eqb→eq}
 use borrow.Author.Tests.{eq-eqb, leb-true, leb-false}
 use Rattle.poly.specs.Carrier.{gf64}
-use Rattle.poly.specs.Polynomial.{DegreeBelow}
+use Rattle.poly.specs.Polynomial.{Zeros, DegreeBelow}
 use Rattle.poly.specs.Degree.{degreeBound}
 use Rattle.poly.specs.Theorems.{Degrees}
 
@@ -57,3 +59,25 @@ by-test n p false e = inr (λ z. absurd (omega (arith, leb-false (degreeBound p)
 -- a degree is below n or it is not
 pub below-or-not : (n : ℕ) (p : List ℕ) → DegreeBelow gf64 n p ⊎ (DegreeBelow gf64 n p → ⊥)
 below-or-not n p = by-test n p (leb (degreeBound p) n) refl
+
+-- ---- one coefficient less
+
+pub bound-falls : (p : List ℕ) (n : ℕ) → n < length p → degreeBound p ≤ suc n → getD p n 0 ≡ 0 → degreeBound p ≤ n
+bound-falls p n h b z = below-bound n p .0 (subst (Zeros gf64) (sym (drop-cons p n 0 h)) (z, below-bound (suc n) p .1 b))
+
+zero-above : (p : List ℕ) (n : ℕ) → n < length p → degreeBound p ≤ n → getD p n 0 ≡ 0
+zero-above p n h b = subst (Zeros gf64) (drop-cons p n 0 h) (below-bound n p .1 b) .0
+
+pub bound-least : (p : List ℕ) (n : ℕ) → n < length p → degreeBound p ≤ suc n → getD p n 0 ≢ 0 → suc n ≡ degreeBound p
+bound-least p n h b z = by (below-or-not n p)
+  where
+    by : DegreeBelow gf64 n p ⊎ (DegreeBelow gf64 n p → ⊥) → suc n ≡ degreeBound p
+    by (inl d) = absurd (z (zero-above p n h (below-bound n p .0 d)))
+    by (inr d) = at-least (leb (degreeBound p) n) refl
+      where
+        at-least : (test : Bool) → leb (degreeBound p) n ≡ test → suc n ≡ degreeBound p
+        at-least true e = absurd (d (below-bound n p .1 (leb-true (degreeBound p) n e)))
+        at-least false e = omega (arith, leb-false (degreeBound p) n e)
+
+pub bound-within : (p : List ℕ) → degreeBound p ≤ length p
+bound-within p = below-bound (length p) p .0 (subst (Zeros gf64) (sym (drop-of-length-le p {i = length p} (omega arith))) (record {}))

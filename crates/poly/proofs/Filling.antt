@@ -1,12 +1,12 @@
 -- A list that is being filled from the front: j entries of the target, and after them those it held before. Assumes nothing.
 use mathlib.Core.Path.{_≡_, refl, sym, ap, ap₂, _∙_}
-use mathlib.Core.List.{List, [], _∷_, _++_, map}
+use mathlib.Core.List.{List, [], _∷_, _++_, map, append-nil}
 use mathlib.Core.Logic.{_⊎_, inl, inr, ⊎-elim}
 use Prim.Native.Nat.{ℕ, zero, suc, _+_, _-_, _≤_, _<_}
 use native.Mathlib.Nat.{le-trans}
 use native.Mathlib.Numerals.{add-one}
 use native.Mathlib.Omega.{arith}
-use lib.ListN.{length, getD, take, drop, set, replicate, length-replicate, length-append, length-drop, List·getD-eq-default, List·getD-append}
+use lib.ListN.{length, getD, take, drop, set, replicate, length-replicate, length-append, length-drop, drop-of-length-le, List·getD-eq-default, List·getD-append}
 use lib.Seq.{ext-getD, take-append-seam, take-at, take-append-le, length-take-le, getD-append-add, getD-drop}
 use Rattle.poly.specs.Carrier.{gf64}
 use Rattle.poly.specs.Polynomial.{padded}
@@ -129,6 +129,16 @@ take-filled n p j h l =
     take-at (take j (padded gf64 n p)) (drop j (replicate n 0)) j (length-take-le j (padded gf64 n p) (omega (arith, length-padded gf64 n p l)))
     ∙ take-append-le j p (replicate (n - length p) 0) h
 
+drop-zeros : (m n l : ℕ) → n - m ≡ l → drop m (replicate {A = ℕ} n 0) ≡ replicate l 0
+drop-zeros zero n l e = let same : n ≡ l = omega arith in ap (λ (x : ℕ). replicate x 0) same
+drop-zeros (suc m) zero l e = let none : 0 ≡ l = omega arith in ap (λ (x : ℕ). replicate x 0) none
+drop-zeros (suc m) (suc n) l e = drop-zeros m n l (omega arith)
+
+-- a list in the front of zeros
+pub padded-front : (n : ℕ) (front : List ℕ) → front ++ drop (length front) (replicate n 0) ≡ padded gf64 n front
+unfolding padded
+padded-front n front = ap {B = List ℕ} (λ l. front ++ l) (drop-zeros (length front) n (n - length front) refl)
+
 -- ---- the front of a list that may be longer
 
 length-front : (front held : List ℕ) → length front ≤ length held → length (front ++ drop (length front) held) ≡ length held
@@ -153,3 +163,6 @@ front-done front held i h l =
       where
         whole : length front + (n - length front) ≡ n
         whole = omega arith
+
+pub front-whole : (front held : List ℕ) → length held ≤ length front → front ++ drop (length front) held ≡ front
+front-whole front held h = ap {B = List ℕ} (λ l. front ++ l) (drop-of-length-le held h) ∙ append-nil front

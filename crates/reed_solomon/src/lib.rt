@@ -10,7 +10,8 @@ ghost use lib.ListN.{length, take};
 ghost use Rattle.poly.specs.Carrier.{gf64};
 ghost use Rattle.poly.specs.Newton.{newtonCoefficient, newtonCoefficients, joined, expanded};
 ghost use Rattle.coset.specs.Coset.{points};
-ghost use Rattle.reed_solomon.specs.Codes.{encoded};
+ghost use Rattle.coset.specs.Span.{Independent};
+ghost use Rattle.reed_solomon.specs.Codes.{encoded, interpolated};
 ghost use Rattle.reed_solomon.specs.Answers.{checked, encodeOutcome, interpolateOutcome, valuesAfter, coefficientsAfter};
 
 // The polynomial's values at all 2^k points, in point order; k is the length of the basis, and coefficients that are left off are zero.
@@ -46,8 +47,8 @@ pub fn interpolate(
     let outcome = checked(basis, word.len() == size, coefficients.len() == size);
     match outcome {
         Outcome::Done => {
-            fill_newton(offset, basis, word, coefficients);
-            expand(offset, basis, coefficients);
+            poly::copy(word, coefficients);
+            interpolate_in_place(offset, basis, coefficients);
             Outcome::Done
         }
         Outcome::Refused(cause) => Outcome::Refused(cause),
@@ -90,15 +91,24 @@ fn fill_values(offset: Element, basis: &[u64], coefficients: &[u64], values: &mu
     }
 }
 
-// Newton's coefficients, each from those before it.
-fn fill_newton(offset: Element, basis: &[u64], word: &[u64], coefficients: &mut [u64])
-    requires { ⌜ (length (now basis) ≤ 12) × (length (now word) ≡ 2 ^ length (now basis)) × (length (now coefficients) ≡ 2 ^ length (now basis)) ⌝ }
-    ensures { λ _. ⌜ now (coefficients .exit) ≡ newtonCoefficients gf64 (points (offset .0) (now (basis .entry))) (now (word .entry)) ⌝ }
+// Interpolation after the checks: the values at the points become the coefficients.
+pub fn interpolate_in_place(offset: Element, basis: &[u64], values: &mut [u64])
+    requires { ⌜ (length (now basis) ≤ 12) × Independent (now basis) × (length (now values) ≡ 2 ^ length (now basis)) ⌝ }
+    ensures { λ _. ⌜ now (values .exit) ≡ interpolated (offset .0) (now (basis .entry)) (now (values .entry)) ⌝ }
+{
+    fill_newton(offset, basis, values);
+    expand(offset, basis, values);
+}
+
+// Newton's coefficients in the place of the values, each from those before it.
+fn fill_newton(offset: Element, basis: &[u64], coefficients: &mut [u64])
+    requires { ⌜ (length (now basis) ≤ 12) × (length (now coefficients) ≡ 2 ^ length (now basis)) ⌝ }
+    ensures { λ _. ⌜ now (coefficients .exit) ≡ newtonCoefficients gf64 (points (offset .0) (now (basis .entry))) (now (coefficients .entry)) ⌝ }
 {
     let mut i: usize = 0;
     while i < coefficients.len() {
         let z = coset::point(offset, basis, i);
-        let y = word[i];
+        let y = coefficients[i];
         coefficients[i] = newton_coefficient(offset, basis, &coefficients[..i], z, Element(y)).0;
         i += 1;
     }

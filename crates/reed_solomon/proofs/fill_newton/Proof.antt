@@ -1,33 +1,34 @@
--- `reed_solomon::fill_newton` meets its contract. The loop's invariant: i coefficients are filled in, the others as they were. Assumes nothing.
-use mathlib.Core.Path.{_≡_, refl, sym, ap, _∙_}
-use mathlib.Core.List.{List}
-use Prim.Native.Nat.{ℕ, _-_, _≤_, _<_}
-use lib.ListN.{length, getD, set, length-set}
-use lib.Seq.{length-take-le}
-use Rattle.poly.specs.Carrier.{gf64}
-use Rattle.poly.specs.Newton.{newtonCoefficients}
-use Rattle.poly.proofs.Filling.{filled, filled-start, filled-next, filled-all}
-use Rattle.poly.proofs.Newton.{length-newtonCoefficients}
-use Rattle.coset.specs.Coset.{point, points}
-use Rattle.coset.proofs.Points.{length-points, getD-points}
+-- `reed_solomon::fill_newton` meets its contract. The loop's invariant: i coefficients are filled in, the others are values still. Assumes nothing.
 use Rattle.reed_solomon.proofs.NewtonSteps.{coefficient-next}
+use Rattle.coset.proofs.Points.{length-points, getD-points}
+use Rattle.coset.specs.Coset.{point, points}
+use Rattle.poly.proofs.Newton.{length-newtonCoefficients}
+use Rattle.poly.proofs.Filling.{filled, filled-start, filled-next, filled-rest, filled-all}
+use Rattle.poly.specs.Newton.{newtonCoefficients}
+use Rattle.poly.specs.Carrier.{gf64}
+use lib.Seq.{length-take-le}
+use lib.ListN.{length, getD, set, length-set}
+use native.Mathlib.Nat.{le-of-eq}
+use Prim.Native.Nat.{ℕ, _-_, _≤_, _<_}
+use mathlib.Core.List.{List}
+use mathlib.Core.Path.{_≡_, refl, sym, ap, _∙_}
 use borrow.Author.Needs.{needs}
 use native.Mathlib.Omega.{arith}
 use Rattle.reed_solomon.proofs.fill_newton.Statement.{statement}
 use Rattle.reed_solomon.proofs.fill_newton.Tie as tie
 
 abbrev Inv-loop : tie.InvT-loop
-Inv-loop offset basis word coefficients₀ i₀ coefficients i =
-    (i ≤ length coefficients₀) × (coefficients ≡ filled (newtonCoefficients gf64 (points (offset .0) basis) word) coefficients₀ i)
+Inv-loop offset basis coefficients₀ i₀ coefficients i =
+    (i ≤ length coefficients₀) × (coefficients ≡ filled (newtonCoefficients gf64 (points (offset .0) basis) coefficients₀) coefficients₀ i)
     × (length coefficients ≡ length coefficients₀)
 
 abbrev μ-loop : tie.MeasureT-loop
-μ-loop offset basis word coefficients₀ i₀ coefficients i = length coefficients₀ - i
+μ-loop offset basis coefficients₀ i₀ coefficients i = length coefficients₀ - i
 
 loop-holds : tie.Need-loop-holds Inv-loop μ-loop
 loop-holds c =
-    let a = c .before .before .before .args in
-    (search needs, filled-start (newtonCoefficients gf64 (points (a .offset .0) (a .basis .now)) (a .word .now)) (a .coefficients .now), refl)
+    let a = c .before .before .args in
+    (search needs, filled-start (newtonCoefficients gf64 (points (a .offset .0) (a .basis .now)) (a .coefficients .now)) (a .coefficients .now), refl)
 
 point-requires : tie.Need-point-requires Inv-loop μ-loop
 point-requires c κs = search needs
@@ -35,8 +36,8 @@ point-requires c κs = search needs
 mul-y : tie.Need-mul-y Inv-loop μ-loop
 mul-y c = search needs
 
-shared-slice-read-y : tie.Need-shared-slice-read-y Inv-loop μ-loop
-shared-slice-read-y c = search needs
+slice-read-y : tie.Need-slice-read-y Inv-loop μ-loop
+slice-read-y c = search needs
 
 slice-reshare-prefix-newton-coefficient :
     tie.Need-slice-reshare-prefix-newton-coefficient Inv-loop μ-loop
@@ -49,9 +50,9 @@ slice-aggregate-newton-coefficient c =
 
 newton-coefficient-requires : tie.Need-newton-coefficient-requires Inv-loop μ-loop
 newton-coefficient-requires c κs =
-    let start = c .before .before .before .before .before .before .before .before in
+    let start = c .before .before .before .before .before .before .before in
     let l = c .before .before .before .before .loop in
-    (start .pre .0, omega (arith, length-take-le (l .i) (l .coefficients) (omega arith), l .inv .2, start .pre .2))
+    (start .pre .0, omega (arith, length-take-le (l .i) (l .coefficients) (omega arith), l .inv .2, start .pre .1))
 
 mul-coefficients : tie.Need-mul-coefficients Inv-loop μ-loop
 mul-coefficients c = search needs
@@ -67,21 +68,23 @@ loop-less c = search needs
 
 loop-again : tie.Need-loop-again Inv-loop μ-loop
 loop-again c =
-    let start = c .before .before .before .before .before .before .before .before .before in
+    let start = c .before .before .before .before .before .before .before .before in
     let a = start .args in
     let l = c .before .before .before .before .before .loop in
+    let values = a .coefficients .now in
     let all = points (a .offset .0) (a .basis .now) in
-    let inside : l .i < length (a .coefficients .now) = omega (arith, l .inv .2) in
-    let as-many : length all ≡ length (a .word .now) = length-points (a .offset .0) (a .basis .now) ∙ sym (start .pre .1) in
-    let held : length (a .coefficients .now) ≡ length all = start .pre .2 ∙ sym (length-points (a .offset .0) (a .basis .now)) in (
+    let inside : l .i < length values = omega (arith, l .inv .2) in
+    let as-many : length all ≡ length values = length-points (a .offset .0) (a .basis .now) ∙ sym (start .pre .1) in
+    let counted = length-newtonCoefficients gf64 all values as-many ∙ as-many in (
       search needs,
       ap (λ (now : List ℕ). set now (l .i) (c .newton-coefficient .result .0)) (l .inv .1)
-          ∙ filled-next (newtonCoefficients gf64 all (a .word .now)) (a .coefficients .now) (l .i) (c .newton-coefficient .result .0) inside
-          (length-newtonCoefficients gf64 all (a .word .now) as-many ∙ sym held)
+          ∙ filled-next (newtonCoefficients gf64 all values) values (l .i) (c .newton-coefficient .result .0) inside counted
           (c .newton-coefficient .ensures
-          ∙ coefficient-next all (a .word .now) (a .coefficients .now) (l .coefficients) (l .i) (c .before .before .before .point .result .0) (getD (a .word .now) (l .i) 0)
-          as-many held inside
-          (c .before .before .before .point .ensures ∙ sym (getD-points (a .offset .0) (a .basis .now) (l .i) (omega (arith, start .pre .2)))) refl (l .inv .1)),
+          ∙ coefficient-next all values values (l .coefficients) (l .i) (c .before .before .before .point .result .0) (getD (l .coefficients) (l .i) 0)
+          as-many (sym as-many) inside
+          (c .before .before .before .point .ensures ∙ sym (getD-points (a .offset .0) (a .basis .now) (l .i) (omega (arith, start .pre .1))))
+          (ap (λ (now : List ℕ). getD now (l .i) 0) (l .inv .1) ∙ filled-rest (newtonCoefficients gf64 all values) values (l .i) (l .i) (le-of-eq refl) counted)
+          (l .inv .1)),
       length-set (l .coefficients) (l .i) (c .newton-coefficient .result .0) ∙ l .inv .2,
     )
 
@@ -90,14 +93,14 @@ same-length c = search needs
 
 returns : tie.Need-returns Inv-loop μ-loop
 returns c =
-    let start = c .before .before .before .before .before in
+    let start = c .before .before .before .before in
     let a = start .args in
     let l = c .before .loop in
     let all = points (a .offset .0) (a .basis .now) in
+    let as-many : length all ≡ length (a .coefficients .now) = length-points (a .offset .0) (a .basis .now) ∙ sym (start .pre .1) in
     l .inv .1
-    ∙ filled-all (newtonCoefficients gf64 all (a .word .now)) (a .coefficients .now) (l .i) (omega (arith, l .inv .2))
-    (length-newtonCoefficients gf64 all (a .word .now) (length-points (a .offset .0) (a .basis .now) ∙ sym (start .pre .1))
-    ∙ length-points (a .offset .0) (a .basis .now) ∙ sym (start .pre .2))
+    ∙ filled-all (newtonCoefficients gf64 all (a .coefficients .now)) (a .coefficients .now) (l .i) (omega (arith, l .inv .2))
+    (length-newtonCoefficients gf64 all (a .coefficients .now) as-many ∙ as-many)
 
 pub fill-newton-spec : {M : Type 1} → statement M
 fill-newton-spec =
@@ -108,7 +111,7 @@ fill-newton-spec =
     loop-holds
     point-requires
     mul-y
-    shared-slice-read-y
+    slice-read-y
     slice-reshare-prefix-newton-coefficient
     slice-aggregate-newton-coefficient
     newton-coefficient-requires

@@ -1,20 +1,15 @@
--- `reed_solomon::interpolate` meets its contract: where all checks pass Newton's form is found and expanded, else nothing is written.
--- Assumes nothing.
-use mathlib.Core.Path.{_≡_, sym, ap, _∙_}
-use Prim.Native.Nat.{_^_}
-use lib.ListN.{length}
-use lib.Dec.{eqb}
-use Rattle.poly.specs.Carrier.{gf64}
-use Rattle.poly.specs.Newton.{expanded}
-use Rattle.poly.proofs.Newton.{length-newtonCoefficients}
-use Rattle.coset.specs.Coset.{points}
-use Rattle.coset.proofs.Points.{length-points}
-use Rattle.refusal.specs.declared.Outcome.the-variants.{Done}
-use Rattle.reed_solomon.specs.Codes.{interpolated}
-use Rattle.reed_solomon.specs.Answers.{interpolateOutcome}
-use Rattle.reed_solomon.proofs.Checks.{passed, answered-by-size, done-both, refused-both}
+-- `reed_solomon::interpolate` meets its contract: where all checks pass the word is copied and interpolated in its place, else nothing is written.
 use Rattle.refusal.proofs.Checks.{equal-of-test}
-use Rattle.reed_solomon.proofs.Interpolating.{expanded-interpolated}
+use Rattle.reed_solomon.proofs.Checks.{passed, answered-by-size, done-both, refused-both}
+use Rattle.reed_solomon.specs.Answers.{interpolateOutcome}
+use Rattle.reed_solomon.specs.Codes.{interpolated}
+use Rattle.refusal.specs.declared.Outcome.the-variants.{Done}
+use Rattle.poly.proofs.Filling.{front-whole}
+use lib.Dec.{eqb}
+use lib.ListN.{length}
+use native.Mathlib.Nat.{le-of-eq}
+use Prim.Native.Nat.{_^_}
+use mathlib.Core.Path.{_≡_, sym, ap, _∙_}
 use borrow.Author.Needs.{needs}
 use native.Mathlib.Omega.{arith}
 use Rattle.reed_solomon.proofs.interpolate.Statement.{statement}
@@ -29,27 +24,25 @@ checked-requires c κs = search needs
 enum-told : tie.Need-enum-told
 enum-told c = search needs
 
-fill-newton-requires : tie.Need-fill-newton-requires
-fill-newton-requires c κs =
+copy-requires : tie.Need-copy-requires
+copy-requires c κs =
     let done : c .before .before .before .checked .result ≡ Done = search needs in
     let a = c .before .before .before .before .before .before .before .before .args in
     let size = 2 ^ length (a .basis .now) in
     let outcome : interpolateOutcome (a .basis .now) (a .word .now) (a .coefficients .now) ≡ Done = answered-by-size (a .basis .now) (eqb (length (a .word .now))) (eqb (length (a .coefficients .now))) (c .before .before .before .before .size-of .result) (c .before .before .before .checked .result) (c .before .before .before .before .size-of .ensures) (c .before .before .before .checked .ensures) ∙ done in
     let all = passed (a .basis .now) (eqb (length (a .word .now)) size) (eqb (length (a .coefficients .now)) size) outcome in
-    let whole : length (a .word .now) ≡ size = equal-of-test (length (a .word .now)) size (all .list3) in
-    (all .small, whole, equal-of-test (length (a .coefficients .now)) size (all .list6))
+    le-of-eq (equal-of-test (length (a .word .now)) size (all .list3) ∙ sym (equal-of-test (length (a .coefficients .now)) size (all .list6)))
 
-expand-requires : tie.Need-expand-requires
-expand-requires c κs =
+interpolate-in-place-requires : tie.Need-interpolate-in-place-requires
+interpolate-in-place-requires c κs =
     let done : c .before .before .before .before .before .before .before .checked .result ≡ Done = search needs in
     let a = c .before .before .before .before .before .before .before .before .before .before .before .before .args in
     let size = 2 ^ length (a .basis .now) in
     let outcome : interpolateOutcome (a .basis .now) (a .word .now) (a .coefficients .now) ≡ Done = answered-by-size (a .basis .now) (eqb (length (a .word .now))) (eqb (length (a .coefficients .now))) (c .before .before .before .before .before .before .before .before .size-of .result) (c .before .before .before .before .before .before .before .checked .result) (c .before .before .before .before .before .before .before .before .size-of .ensures) (c .before .before .before .before .before .before .before .checked .ensures) ∙ done in
     let all = passed (a .basis .now) (eqb (length (a .word .now)) size) (eqb (length (a .coefficients .now)) size) outcome in
     let whole : length (a .word .now) ≡ size = equal-of-test (length (a .word .now)) size (all .list3) in
-    ap length (c .before .before .before .fill-newton .ensures)
-    ∙ length-newtonCoefficients gf64 (points (a .offset .0) (a .basis .now)) (a .word .now) (length-points (a .offset .0) (a .basis .now) ∙ sym whole)
-    ∙ length-points (a .offset .0) (a .basis .now)
+    let fits : length (a .coefficients .now) ≡ size = equal-of-test (length (a .coefficients .now)) size (all .list6) in
+    (all .small, all .independent, ap length (c .before .before .before .copy .ensures ∙ front-whole (a .word .now) (a .coefficients .now) (le-of-eq (fits ∙ sym whole))) ∙ whole)
 
 enum-known-outcome : tie.Need-enum-known-outcome
 enum-known-outcome c = search needs
@@ -65,10 +58,10 @@ returns c =
     let outcome : interpolateOutcome (a .basis .now) (a .word .now) (a .coefficients .now) ≡ Done = answered-by-size (a .basis .now) (eqb (length (a .word .now))) (eqb (length (a .coefficients .now))) (c .before .before .before .before .before .before .before .before .before .before .before .size-of .result) (c .before .before .before .before .before .before .before .before .before .before .checked .result) (c .before .before .before .before .before .before .before .before .before .before .before .size-of .ensures) (c .before .before .before .before .before .before .before .before .before .before .checked .ensures) ∙ done in
     let all = passed (a .basis .now) (eqb (length (a .word .now)) size) (eqb (length (a .coefficients .now)) size) outcome in
     let whole : length (a .word .now) ≡ size = equal-of-test (length (a .word .now)) size (all .list3) in
-    done-both (interpolateOutcome (a .basis .now) (a .word .now) (a .coefficients .now)) (interpolated (a .offset .0) (a .basis .now) (a .word .now)) (a .coefficients .now) (c .before .before .expand .last .1 .1 .0) outcome
-    (c .before .before .expand .ensures ∙ ap (expanded gf64 (points (a .offset .0) (a .basis .now))) (c .before .before .before .before .before .before .fill-newton .ensures)
-    ∙ expanded-interpolated (a .offset .0) (a .basis .now) (a .word .now) (search needs) (λ i. omega (arith, c .before .before .before .before .before .before .before .before .before .before .before .before .before .before .shared-slice-known .given i)) (λ i. omega (arith, c .before .before .before .before .before .before .before .before .before .before .before .before .before .shared-slice-known2 .given i))
-    (all .independent) whole)
+    let fits : length (a .coefficients .now) ≡ size = equal-of-test (length (a .coefficients .now)) size (all .list6) in
+    done-both (interpolateOutcome (a .basis .now) (a .word .now) (a .coefficients .now)) (interpolated (a .offset .0) (a .basis .now) (a .word .now)) (a .coefficients .now) (c .before .before .interpolate-in-place .last .1 .1 .0) outcome
+    (c .before .before .interpolate-in-place .ensures
+    ∙ ap (interpolated (a .offset .0) (a .basis .now)) (c .before .before .before .before .before .before .copy .ensures ∙ front-whole (a .word .now) (a .coefficients .now) (le-of-eq (fits ∙ sym whole))))
 
 returns-2 : tie.Need-returns-2
 returns-2 c =
@@ -83,8 +76,8 @@ interpolate-spec =
     size-of-requires
     checked-requires
     enum-told
-    fill-newton-requires
-    expand-requires
+    copy-requires
+    interpolate-in-place-requires
     enum-known-outcome
     same-length
     returns

@@ -1,0 +1,55 @@
+-- The bases of the later layers, one after the other. Assumes nothing.
+use mathlib.Core.Path.{_≡_, refl, sym, ap, ap₂, _∙_}
+use mathlib.Core.List.{List}
+use Prim.Native.Nat.{ℕ, zero, suc, _≤_, _<_}
+use lib.ListN.{length}
+use Rattle.refusal.specs.declared.Cause.the-variants.{LaterBasisDependent}
+use Rattle.refusal.specs.declared.Outcome.the-variants.{Done, Refused}
+use Rattle.refusal.specs.declared.Position.the-variants.{At, Absent}
+use Rattle.refusal.proofs.Checks.{then-passed, then-refused}
+use Rattle.coset.specs.Span.{firstDependent}
+use Rattle.coset.specs.Subspace.{nextOffset, nextBasis}
+use Rattle.coset.specs.Answers.{outcomeOfLaterBasis}
+use Rattle.fri.specs.Layout.{stepAt}
+use Rattle.fri.specs.Layers.{layerBasis, layerOffset}
+use Rattle.fri.specs.Checks.{laterBasesOutcome}
+use Rattle.fri.proofs.Layouts.{step-of-round}
+use Rattle.layers.specs.declared.Parameters.{Parameters}
+use Rattle.layers.specs.Parameters.{stepsBy}
+
+module _ (steps basis : List ℕ) where
+  pub later-none : (round : ℕ) → Done ≡ laterBasesOutcome steps basis round 0
+  unfolding laterBasesOutcome
+  later-none round = refl
+
+  pub later-passed : (round left : ℕ) → firstDependent (layerBasis steps basis (suc round)) ≡ Absent
+      → laterBasesOutcome steps basis (suc round) left ≡ laterBasesOutcome steps basis round (suc left)
+  unfolding laterBasesOutcome
+  later-passed round left e =
+      then-passed (outcomeOfLaterBasis round (firstDependent (layerBasis steps basis (suc round)))) (laterBasesOutcome steps basis (suc round) left)
+      (ap (outcomeOfLaterBasis round) e)
+
+  pub later-refused : (round left place : ℕ) → firstDependent (layerBasis steps basis (suc round)) ≡ At place
+      → Refused (LaterBasisDependent round) ≡ laterBasesOutcome steps basis round (suc left)
+  unfolding laterBasesOutcome
+  later-refused round left place e =
+      then-refused (outcomeOfLaterBasis round (firstDependent (layerBasis steps basis (suc round)))) (laterBasesOutcome steps basis (suc round) left)
+      (LaterBasisDependent round) (ap (outcomeOfLaterBasis round) e)
+
+pub basis-first : (steps basis : List ℕ) → basis ≡ layerBasis steps basis 0
+unfolding layerBasis
+basis-first steps basis = refl
+
+pub offset-first : (steps : List ℕ) (offset : ℕ) (basis : List ℕ) → offset ≡ layerOffset steps offset basis 0
+unfolding layerOffset
+offset-first steps offset basis = refl
+
+-- from one layer's coset to the next, where all steps are alike
+module _ (p : Parameters) (offset : ℕ) (basis : List ℕ) (i : ℕ) (h : i < length (stepsBy p)) where
+  pub basis-next : nextBasis (p .step) (layerBasis (stepsBy p) basis i) ≡ layerBasis (stepsBy p) basis (suc i)
+  unfolding layerBasis
+  basis-next = ap (λ (s : ℕ). nextBasis s (layerBasis (stepsBy p) basis i)) (sym (step-of-round (p .k) (p .rate) (p .step) i h))
+
+  pub offset-next : nextOffset (p .step) (layerOffset (stepsBy p) offset basis i) (layerBasis (stepsBy p) basis i) ≡ layerOffset (stepsBy p) offset basis (suc i)
+  unfolding layerOffset
+  offset-next = ap (λ (s : ℕ). nextOffset s (layerOffset (stepsBy p) offset basis i) (layerBasis (stepsBy p) basis i)) (sym (step-of-round (p .k) (p .rate) (p .step) i h))

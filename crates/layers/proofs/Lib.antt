@@ -1,0 +1,4 @@
+pub mod Sizes
+pub mod LayerCosets
+mod Parts
+pub mod LaterBases

@@ -1,0 +1,3 @@
+pub mod Parameters
+pub mod Parts
+pub mod Cosets

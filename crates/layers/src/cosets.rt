@@ -1,0 +1,56 @@
+// The coset of a layer, by value, and that of the next layer.
+use field::Element;
+use refusal::Position;
+ghost use mathlib.Core.Path.{_≡_};
+ghost use Prim.Native.Nat.{_≤_};
+ghost use lib.ListN.{length};
+ghost use Rattle.coset.specs.Span.{firstDependent};
+ghost use Rattle.coset.specs.Subspace.{nextOffset, nextBasis};
+ghost use Rattle.layers.specs.Cosets.{cosetOf, basisOf};
+
+// Offset and basis; zeros follow the basis.
+pub struct LayerCoset {
+    pub offset: Element,
+    pub basis: [u64; 20],
+    pub dimension: usize,
+}
+
+impl LayerCoset {
+    // That of layer 0.
+    pub fn first(offset: Element, basis: &[u64]) -> LayerCoset
+        requires { ⌜ length (now basis) ≤ 20 ⌝ }
+        ensures { λ r. ⌜ r ≡ cosetOf (offset .0) (now (basis .entry)) ⌝ }
+    {
+        let mut elements = [0u64; 20];
+        poly::copy(basis, &mut elements);
+        LayerCoset {
+            offset,
+            basis: elements,
+            dimension: basis.len(),
+        }
+    }
+
+    // That of the next layer.
+    pub fn next(self, step: usize) -> LayerCoset
+        requires { ⌜ (step ≤ 3) × (step ≤ self .dimension) × (self .dimension ≤ 20) ⌝ }
+        ensures { λ r. ⌜ r ≡ cosetOf (nextOffset step (self .offset .0) (basisOf self)) (nextBasis step (basisOf self)) ⌝ }
+    {
+        let basis = self.basis;
+        let dimension = self.dimension;
+        let elements = coset::step_elements(&basis[..dimension], step);
+        LayerCoset {
+            offset: coset::composed_maps(&elements[..step], self.offset),
+            basis: coset::next_basis(&basis[..dimension], step),
+            dimension: dimension - step,
+        }
+    }
+
+    pub fn first_dependent(self) -> Position
+        requires { ⌜ self .dimension ≤ 20 ⌝ }
+        ensures { λ r. ⌜ r ≡ firstDependent (basisOf self) ⌝ }
+    {
+        let basis = self.basis;
+        let dimension = self.dimension;
+        coset::first_dependent(&basis[..dimension])
+    }
+}
