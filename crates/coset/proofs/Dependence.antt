@@ -1,7 +1,7 @@
--- The span as the coset with offset 0, and what `firstDependent` finds. Assumes nothing.
+-- The span as the coset with offset 0, points moved by an element, and what `firstDependent` finds. Assumes nothing.
 use mathlib.Core.Path.{_≡_, refl, sym, ap, ap₂, _∙_, subst}
 use mathlib.Core.Bool.{Bool, true, false, cond, _||_, or-true}
-use mathlib.Core.List.{List, [], _∷_, _++_, append-assoc, append-nil}
+use mathlib.Core.List.{List, [], _∷_, _++_, map, append-assoc, append-nil}
 use Prim.Native.Nat.{ℕ, zero, suc, _+_, _*_, _/_, _%_, _^_, _<_}
 use native.Mathlib.Nat.{zero-mul, one-mul, pow-suc, add-zero, zero-add, add-suc, suc-add, not-suc-le-zero}
 use native.Mathlib.Omega.{arith}
@@ -9,12 +9,12 @@ use lib.ListN.{length, getD, take}
 use lib.Dec.{T, eqb→eq}
 use lib.Bits.{bitXor, xor-comm, xor-zero-r}
 use Rattle.gf64.specs.Field.{sum}
-use Rattle.gf64.proofs.Xor.{xor-left-comm, xor-cancel, by-bit}
+use Rattle.gf64.proofs.Xor.{xor-assoc, xor-left-comm, xor-cancel, by-bit}
 use Rattle.refusal.specs.declared.Position.the-variants.{At, Absent}
-use Rattle.coset.specs.Coset.{point}
+use Rattle.coset.specs.Coset.{point, points}
 use Rattle.coset.specs.Span.{inSpan, firstDependentAfter, firstDependent, Independent}
 use Rattle.coset.proofs.Span.{at-not-absent}
-use Rattle.coset.proofs.Points.{point-even, point-odd}
+use Rattle.coset.proofs.Points.{point-even, point-odd, map-tabulated, tabulated-agree}
 
 -- ---- the span
 
@@ -23,6 +23,18 @@ unfolding point
 point-shifted offset [] j = sym (xor-zero-r offset)
 point-shifted offset (b ∷ basis) j =
     ap (bitXor (j % 2 * b)) (point-shifted offset basis (j / 2)) ∙ xor-left-comm (j % 2 * b) offset (point 0 basis (j / 2))
+
+-- an element in the offset, or beside it
+pub point-moved : (offset x : ℕ) (basis : List ℕ) (j : ℕ) → point (sum offset x) basis j ≡ sum x (point offset basis j)
+point-moved offset x basis j =
+    point-shifted (sum offset x) basis j ∙ ap (λ (s : ℕ). sum s (point 0 basis j)) (xor-comm offset x)
+    ∙ xor-assoc x offset (point 0 basis j) ∙ ap (sum x) (sym (point-shifted offset basis j))
+
+pub points-moved : (offset x : ℕ) (basis : List ℕ) → map (sum x) (points offset basis) ≡ points (sum offset x) basis
+unfolding points
+points-moved offset x basis =
+    map-tabulated (sum x) (point offset basis) 0 (2 ^ length basis)
+    ∙ tabulated-agree (λ j. sum x (point offset basis j)) (point (sum offset x) basis) 0 (2 ^ length basis) (λ j l u. sym (point-moved offset x basis j))
 
 -- point 0 is the offset
 pub point-first : (offset : ℕ) (basis : List ℕ) → point offset basis 0 ≡ offset

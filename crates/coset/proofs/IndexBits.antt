@@ -8,16 +8,9 @@ use native.Mathlib.Numerals.{add-one}
 use native.Mathlib.Omega.{arith}
 use lib.ListN.{length, getD, drop, drop-of-length-le}
 use lib.Seq.{drop-cons}
-use lib.Bits.{bitXor, xor-comm}
-use Rattle.gf64.proofs.Xor.{xor-assoc}
+use lib.Bits.{bitXor}
 use Rattle.coset.specs.Coset.{point}
-use Rattle.coset.proofs.Dependence.{point-shifted}
-
--- b in the offset, or beside it
-offset-sum : (p b : ℕ) (basis : List ℕ) (j : ℕ) → point (bitXor p b) basis j ≡ bitXor b (point p basis j)
-offset-sum p b basis j =
-    point-shifted (bitXor p b) basis j ∙ ap (λ (s : ℕ). bitXor s (point 0 basis j)) (xor-comm p b)
-    ∙ xor-assoc b p (point 0 basis j) ∙ ap (bitXor b) (sym (point-shifted p basis j))
+use Rattle.coset.proofs.Dependence.{point-moved}
 
 point-cons : (p b : ℕ) (basis : List ℕ) (j : ℕ) → bitXor (j % 2 * b) (point p basis (j / 2)) ≡ point p (b ∷ basis) j
 unfolding point
@@ -30,7 +23,7 @@ from-here p basis t j h =
 pub bit-set : (p : ℕ) (basis : List ℕ) (t j : ℕ) → t < length basis → j % 2 ≡ 1
     → point (bitXor p (getD basis t 0)) (drop (t + 1) basis) (j / 2) ≡ point p (drop t basis) j
 bit-set p basis t j h odd =
-    offset-sum p b rest (j / 2)
+    point-moved p b rest (j / 2)
     ∙ ap (λ (s : ℕ). bitXor s (point p rest (j / 2))) (sym (ap (λ (r : ℕ). r * b) odd ∙ one-mul b))
     ∙ point-cons p b rest j ∙ from-here p basis t j h
   where

@@ -31,7 +31,7 @@ use Rattle.refusal.specs.declared.Position.the-variants.{At, Absent}
 use Rattle.coset.specs.Coset.{point, tabulated, points}
 use Rattle.coset.specs.Span.{inSpan, firstDependentAfter, firstDependent, Independent}
 use Rattle.coset.specs.Subspace.{subspacePolynomial, image}
-use Rattle.coset.specs.Steps.{oneStep, composedMaps, stepElements, imagesBefore}
+use Rattle.coset.specs.Steps.{oneStep, composedMaps, stepElements}
 use Rattle.coset.proofs.Span.{Kernel, span-image, first-image, at-not-absent}
 use Rattle.coset.proofs.Clearing.{zero-test}
 use Rattle.coset.proofs.Points.{point-image, point-even, point-odd, point-halved, first-not-zero}
@@ -112,17 +112,6 @@ element-at (suc n) (b ∷ basis) zero h l = refl
 element-at (suc n) (b ∷ basis) (suc t) h l =
     ap (composedMaps (take t (stepElements n (map (oneStep b) basis)))) (sym (getD-map (oneStep b) basis t (omega arith)))
     ∙ element-at n (map (oneStep b) basis) t (omega arith) (omega (arith, length-map basis (oneStep b)))
-
-pub length-before : (elements : List ℕ) (x : ℕ) → length (imagesBefore elements x) ≡ length elements
-unfolding imagesBefore
-length-before [] x = refl
-length-before (e ∷ elements) x = ap suc (length-before elements (oneStep e x))
-
-pub before-at : (elements : List ℕ) (x t : ℕ) → t < length elements → getD (imagesBefore elements x) t 0 ≡ composedMaps (take t elements) x
-unfolding imagesBefore composedMaps
-before-at [] x t h = absurd (omega arith)
-before-at (e ∷ elements) x zero h = refl
-before-at (e ∷ elements) x (suc t) h = before-at elements (oneStep e x) t (omega arith)
 
 -- from one map to the next
 pub through-next : (elements : List ℕ) (t y : ℕ) → t < length elements

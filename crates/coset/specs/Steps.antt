@@ -17,8 +17,3 @@ unfoldable pub stepElements : ℕ → List ℕ → List ℕ
 stepElements zero basis = []
 stepElements (suc n) [] = []
 stepElements (suc n) (b ∷ basis) = b ∷ stepElements n (map (oneStep b) basis)
-
--- the image of x before each of the maps
-unfoldable pub imagesBefore : List ℕ → ℕ → List ℕ
-imagesBefore [] x = []
-imagesBefore (e ∷ elements) x = x ∷ imagesBefore elements (oneStep e x)

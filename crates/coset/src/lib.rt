@@ -15,7 +15,7 @@ ghost use Rattle.coset.specs.Coset.{point};
 ghost use Rattle.coset.specs.Span.{firstDependent};
 ghost use Rattle.coset.specs.Answers.{outcomeOfBasis};
 ghost use Rattle.coset.specs.Subspace.{nextBasis};
-ghost use Rattle.coset.specs.Steps.{composedMaps, stepElements, imagesBefore};
+ghost use Rattle.coset.specs.Steps.{composedMaps, stepElements};
 ghost use Rattle.coset.specs.Elimination.{cleared};
 ghost use Rattle.coset.specs.Sequence.{prefixSums};
 
@@ -198,18 +198,4 @@ pub fn next_basis(basis: &[u64], step: usize) -> [u64; 20]
     let mut next = [0u64; 20];
     fill_images(&elements[..step], &basis[step..], &mut next);
     next
-}
-
-// The image of x before each of the maps of at most three elements, and zeros.
-pub fn images_before(elements: &[u64], x: Element) -> [u64; 3]
-    requires { ⌜ length (now elements) ≤ 3 ⌝ }
-    ensures { λ r. ⌜ r ≡ padded gf64 3 (imagesBefore (now (elements .entry)) (x .0)) ⌝ }
-{
-    let mut images = [0u64; 3];
-    let mut t: usize = 0;
-    while t < elements.len() {
-        images[t] = composed_maps(&elements[..t], x).0;
-        t += 1;
-    }
-    images
 }

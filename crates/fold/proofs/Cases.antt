@@ -8,7 +8,7 @@ use native.Mathlib.Omega.{arith}
 use lib.Dec.{T, eqb, eqb→eq}
 use lib.ListN.{length, getD}
 use borrow.Author.Tests.{eq-eqb}
-use Rattle.gf64.specs.Field.{IsElement, product, inverse}
+use Rattle.gf64.specs.Field.{IsElement, sum, product, inverse}
 use Rattle.gf64.specs.Polynomial.{carryless, carrylessIn, remainder, remainderIn, timesT}
 use Rattle.gf64.proofs.Inverse.{inverse-unique, inverse-right}
 use Rattle.gf64.proofs.Ring.{product-one-r}
@@ -57,10 +57,10 @@ unfolding product carryless carrylessIn remainder remainderIn timesT
 inverse-of-one = inverse-unique 1 1 (omega arith) (omega arith) refl
 
 by-lines : (offset : ℕ) (basis word : List ℕ) (x : ℕ) → length word ≡ 2 ^ length (1 ∷ basis)
-    → folded 1 offset (1 ∷ basis) word x ≡ halvedEntries 1 x (2 ^ length basis) (points offset (1 ∷ basis)) word
+    → folded 1 offset (1 ∷ basis) word x ≡ halvedEntries 1 (2 ^ length basis) (points (sum offset x) (1 ∷ basis)) word
 by-lines offset basis word x fits =
     sym (halved-entries offset 1 basis word fits x)
-    ∙ ap (λ (i : ℕ). halvedEntries i x (2 ^ length basis) (points offset (1 ∷ basis)) word) (sym inverse-of-one)
+    ∙ ap (λ (i : ℕ). halvedEntries i (2 ^ length basis) (points (sum offset x) (1 ∷ basis)) word) (sym inverse-of-one)
 
 d-values : folded 1 0x8 (1 ∷ 2 ∷ []) (7 ∷ 4 ∷ 1 ∷ 2 ∷ []) 4 ≡ 0x13 ∷ 0x13 ∷ []
 unfolding halvedEntries lineAt points tabulated point product carryless carrylessIn remainder remainderIn timesT
@@ -200,7 +200,7 @@ unfolding nextBasis image subspacePolynomial points tabulated point vanishingPol
 k-basis = refl
 
 -- the differences of both pairs are 6, which the inverse of 6 takes to 1
-k-lines : (i : ℕ) → product 6 i ≡ 1 → halvedEntries i 3 2 (points 0 (6 ∷ 0x14 ∷ [])) (2 ∷ 4 ∷ 0x16 ∷ 0x10 ∷ []) ≡ 1 ∷ 1 ∷ []
+k-lines : (i : ℕ) → product 6 i ≡ 1 → halvedEntries i 2 (points 3 (6 ∷ 0x14 ∷ [])) (2 ∷ 4 ∷ 0x16 ∷ 0x10 ∷ []) ≡ 1 ∷ 1 ∷ []
 unfolding halvedEntries lineAt points tabulated point
 k-lines i e =
     ap (λ (s : ℕ). bitXor 2 (product 3 s) ∷ bitXor 0x16 (product 0x17 s) ∷ []) e ∙ computed

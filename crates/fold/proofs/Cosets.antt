@@ -1,8 +1,8 @@
 -- The coset value: equal where its three parts are; what halving it gives, and the values of the cosets one after the other. Assumes nothing.
-use mathlib.Core.Path.{_≡_, refl, sym, ap, ap₂, _∙_, subst}
+use mathlib.Core.Path.{_≡_, sym, ap, ap₂, _∙_, subst}
 use mathlib.Core.List.{List, [], _∷_, map}
 use Prim.Native.Nat.{ℕ, suc, _+_, _*_, _-_, _/_, _^_, _<_, _≤_}
-use native.Mathlib.Nat.{zero-add, pow-suc, le-trans, mul-le-mul}
+use native.Mathlib.Nat.{zero-add, pow-suc, mul-le-mul}
 use lib.Pow.{pow-mono}
 use native.Mathlib.Numerals.{add-one}
 use native.Mathlib.Omega.{arith}
@@ -39,16 +39,16 @@ halvedPoints-at count points i h =
     getD-tabulated (λ n. product (getD points (n * 2) 0) (getD points (suc (n * 2)) 0)) 0 count i h
     ∙ ap (λ (n : ℕ). product (getD points (n * 2) 0) (getD points (suc (n * 2)) 0)) (zero-add i)
 
-module _ (inverse x count : ℕ) (points entries : List ℕ) where
+module _ (inverse count : ℕ) (points entries : List ℕ) where
   line : ℕ → ℕ
-  line i = lineAt inverse x (getD points (i * 2) 0) (getD entries (i * 2) 0) (getD entries (suc (i * 2)) 0)
+  line i = lineAt inverse (getD points (i * 2) 0) (getD entries (i * 2) 0) (getD entries (suc (i * 2)) 0)
 
-  pub length-halvedEntries : length (halvedEntries inverse x count points entries) ≡ count
+  pub length-halvedEntries : length (halvedEntries inverse count points entries) ≡ count
   unfolding halvedEntries line
   length-halvedEntries = length-tabulated line 0 count
 
   pub halvedEntries-at : (i : ℕ) → i < count
-      → getD (halvedEntries inverse x count points entries) i 0 ≡ lineAt inverse x (getD points (i * 2) 0) (getD entries (i * 2) 0) (getD entries (suc (i * 2)) 0)
+      → getD (halvedEntries inverse count points entries) i 0 ≡ lineAt inverse (getD points (i * 2) 0) (getD entries (i * 2) 0) (getD entries (suc (i * 2)) 0)
   unfolding halvedEntries line
   halvedEntries-at i h = getD-tabulated line 0 count i h ∙ ap line (zero-add i)
 
@@ -61,21 +61,20 @@ halvedPoints-padded m count points =
     (λ i. product (getD points (i * 2) 0) (getD points (suc (i * 2)) 0)) 0 count
     (λ i l u. ap₂ product (getD-padded m points (i * 2)) (getD-padded m points (suc (i * 2))))
 
-halvedEntries-padded : (m inverse x count : ℕ) (points entries : List ℕ)
-    → halvedEntries inverse x count (padded gf64 m points) (padded gf64 m entries) ≡ halvedEntries inverse x count points entries
+halvedEntries-padded : (m inverse count : ℕ) (points entries : List ℕ)
+    → halvedEntries inverse count (padded gf64 m points) (padded gf64 m entries) ≡ halvedEntries inverse count points entries
 unfolding halvedEntries line
-halvedEntries-padded m inverse x count points entries =
-    tabulated-agree (line inverse x count (padded gf64 m points) (padded gf64 m entries)) (line inverse x count points entries) 0 count
-    (λ i l u. ap (λ (p : ℕ). lineAt inverse x p (getD (padded gf64 m entries) (i * 2) 0) (getD (padded gf64 m entries) (suc (i * 2)) 0)) (getD-padded m points (i * 2))
-    ∙ ap₂ (lineAt inverse x (getD points (i * 2) 0)) (getD-padded m entries (i * 2)) (getD-padded m entries (suc (i * 2))))
+halvedEntries-padded m inverse count points entries =
+    tabulated-agree (line inverse count (padded gf64 m points) (padded gf64 m entries)) (line inverse count points entries) 0 count
+    (λ i l u. ap (λ (p : ℕ). lineAt inverse p (getD (padded gf64 m entries) (i * 2) 0) (getD (padded gf64 m entries) (suc (i * 2)) 0)) (getD-padded m points (i * 2))
+    ∙ ap₂ (lineAt inverse (getD points (i * 2) 0)) (getD-padded m entries (i * 2)) (getD-padded m entries (suc (i * 2))))
 
-pub value-padded : (inverses challenges : List ℕ) (m : ℕ) (points entries : List ℕ)
-    → valueAt inverses challenges (padded gf64 m points) (padded gf64 m entries) ≡ valueAt inverses challenges points entries
+pub value-padded : (inverses : List ℕ) (m : ℕ) (points entries : List ℕ)
+    → valueAt inverses (padded gf64 m points) (padded gf64 m entries) ≡ valueAt inverses points entries
 unfolding valueAt
-value-padded [] challenges m points entries = getD-padded m entries 0
-value-padded (i ∷ inverses) [] m points entries = refl
-value-padded (i ∷ inverses) (x ∷ challenges) m points entries =
-    ap₂ (valueAt inverses challenges) (halvedPoints-padded m (2 ^ length inverses) points) (halvedEntries-padded m i x (2 ^ length inverses) points entries)
+value-padded [] m points entries = getD-padded m entries 0
+value-padded (i ∷ inverses) m points entries =
+    ap₂ (valueAt inverses) (halvedPoints-padded m (2 ^ length inverses) points) (halvedEntries-padded m i (2 ^ length inverses) points entries)
 
 -- ---- from one halving to the next
 
@@ -85,67 +84,61 @@ halved-count n t count h e = omega (arith, ap (λ (m : ℕ). 2 ^ m) one-more, po
     one-more : n - t ≡ suc (n - suc t)
     one-more = omega arith
 
-module _ (inverses challenges : List ℕ) (same : length challenges ≡ length inverses) where
+module _ (inverses : List ℕ) where
   pub value-next : (t n : ℕ) (points entries : List ℕ) → t < length inverses → n ≡ 2 ^ (length inverses - suc t)
-      → valueAt (drop (t + 1) inverses) (drop (t + 1) challenges) (padded gf64 8 (halvedPoints n points))
-      (padded gf64 8 (halvedEntries (getD inverses t 0) (getD challenges t 0) n points entries))
-      ≡ valueAt (drop t inverses) (drop t challenges) points entries
+      → valueAt (drop (t + 1) inverses) (padded gf64 8 (halvedPoints n points)) (padded gf64 8 (halvedEntries (getD inverses t 0) n points entries))
+      ≡ valueAt (drop t inverses) points entries
   unfolding valueAt
   value-next t n points entries h e =
-      value-padded (drop (t + 1) inverses) (drop (t + 1) challenges) 8 (halvedPoints n points) (halvedEntries (getD inverses t 0) (getD challenges t 0) n points entries)
-      ∙ ap₂ (λ (is xs : List ℕ). valueAt is xs (halvedPoints n points) (halvedEntries (getD inverses t 0) (getD challenges t 0) n points entries))
-      (ap (λ (m : ℕ). drop m inverses) (add-one t)) (ap (λ (m : ℕ). drop m challenges) (add-one t))
-      ∙ ap (λ (m : ℕ). valueAt (drop (suc t) inverses) (drop (suc t) challenges) (halvedPoints m points) (halvedEntries (getD inverses t 0) (getD challenges t 0) m points entries))
+      value-padded (drop (t + 1) inverses) 8 (halvedPoints n points) (halvedEntries (getD inverses t 0) n points entries)
+      ∙ ap (λ (m : ℕ). valueAt (drop m inverses) (halvedPoints n points) (halvedEntries (getD inverses t 0) n points entries)) (add-one t)
+      ∙ ap (λ (m : ℕ). valueAt (drop (suc t) inverses) (halvedPoints m points) (halvedEntries (getD inverses t 0) m points entries))
       (e ∙ ap (λ (m : ℕ). 2 ^ m) (sym (length-drop (suc t) inverses)))
-      ∙ sym (ap₂ (λ (is xs : List ℕ). valueAt is xs points entries) (drop-cons inverses t 0 h) (drop-cons challenges t 0 (omega arith)))
+      ∙ sym (ap (λ (is : List ℕ). valueAt is points entries) (drop-cons inverses t 0 h))
 
   pub value-last : (t : ℕ) (points entries : List ℕ) → suc t ≡ length inverses
-      → lineAt (getD inverses t 0) (getD challenges t 0) (getD points 0 0) (getD entries 0 0) (getD entries 1 0)
-      ≡ valueAt (drop t inverses) (drop t challenges) points entries
+      → lineAt (getD inverses t 0) (getD points 0 0) (getD entries 0 0) (getD entries 1 0) ≡ valueAt (drop t inverses) points entries
   unfolding valueAt halvedEntries tabulated
   value-last t points entries e =
       sym
-      (ap₂ (λ (is xs : List ℕ). valueAt is xs points entries)
-      (drop-cons inverses t 0 (omega arith) ∙ ap {B = List ℕ} (λ l. getD inverses t 0 ∷ l) (drop-of-length-le inverses {i = suc t} (omega arith)))
-      (drop-cons challenges t 0 (omega arith) ∙ ap {B = List ℕ} (λ l. getD challenges t 0 ∷ l) (drop-of-length-le challenges {i = suc t} (omega arith))))
+      (ap (λ (is : List ℕ). valueAt is points entries)
+      (drop-cons inverses t 0 (omega arith) ∙ ap {B = List ℕ} (λ l. getD inverses t 0 ∷ l) (drop-of-length-le inverses {i = suc t} (omega arith))))
 
 -- ---- the cosets one after the other
 
-module _ (inverses challenges span : List ℕ) (offset : ℕ) (others word : List ℕ) where
-  pub length-cosetValues : length (cosetValues inverses challenges span offset others word) ≡ 2 ^ length others
+module _ (inverses span : List ℕ) (moved : ℕ) (upper word : List ℕ) where
+  pub length-cosetValues : length (cosetValues inverses span moved upper word) ≡ 2 ^ length upper
   unfolding cosetValues
-  length-cosetValues = length-tabulated (cosetValue inverses challenges span offset others word) 0 (2 ^ length others)
+  length-cosetValues = length-tabulated (cosetValue inverses span moved upper word) 0 (2 ^ length upper)
 
-  pub cosetValues-at : (j : ℕ) → j < 2 ^ length others
-      → getD (cosetValues inverses challenges span offset others word) j 0 ≡ cosetValue inverses challenges span offset others word j
+  pub cosetValues-at : (j : ℕ) → j < 2 ^ length upper
+      → getD (cosetValues inverses span moved upper word) j 0 ≡ cosetValue inverses span moved upper word j
   unfolding cosetValues
   cosetValues-at j h =
-      getD-tabulated (cosetValue inverses challenges span offset others word) 0 (2 ^ length others) j h
-      ∙ ap (cosetValue inverses challenges span offset others word) (zero-add j)
+      getD-tabulated (cosetValue inverses span moved upper word) 0 (2 ^ length upper) j h
+      ∙ ap (cosetValue inverses span moved upper word) (zero-add j)
 
-  pub cosetValue-is : (j first : ℕ) (part : List ℕ) → first ≡ point offset others j → part ≡ take (length span) (drop (j * length span) word)
-      → valueAt inverses challenges (padded gf64 8 (map (sum first) span)) (padded gf64 8 part) ≡ cosetValue inverses challenges span offset others word j
+  pub cosetValue-is : (j first : ℕ) (part : List ℕ) → first ≡ point moved upper j → part ≡ take (length span) (drop (j * length span) word)
+      → valueAt inverses (padded gf64 8 (map (sum first) span)) (padded gf64 8 part) ≡ cosetValue inverses span moved upper word j
   unfolding cosetValue
   cosetValue-is j first part e f =
-      value-padded inverses challenges 8 (map (sum first) span) part
-      ∙ ap₂ (λ (p : ℕ) (l : List ℕ). valueAt inverses challenges (map (sum p) span) l) e f
+      value-padded inverses 8 (map (sum first) span) part
+      ∙ ap₂ (λ (p : ℕ) (l : List ℕ). valueAt inverses (map (sum p) span) l) e f
 
 -- ---- where a coset's entries lie
 
 pub record Part (j m whole : ℕ) : Type 0 where
   pub within : j * m + m ≤ whole
   -- far below what a word holds
-  pub small : j * m + m ≤ 8388608
+  pub small : whole ≤ 8388608
   pub eight : m ≤ 8
 
-pub part-of : {inverses images span upper word values : List ℕ} → CosetsFit inverses images span upper word values
-    → (j : ℕ) → j < length values → Part j (length span) (length word)
-part-of {inverses} {images} {span} {upper} {word} {values} f j h =
-    let many : length values ≤ 1048576 = subst (λ (s : ℕ). s ≤ 1048576) (sym (f .values-fit)) (pow-mono {i = length upper} {j = 20} (f .upper-fits)) in
+pub part-of : {inverses span upper : List ℕ} → CosetsFit inverses span upper
+    → (j : ℕ) → j < 2 ^ length upper → Part j (length span) (2 ^ length upper * length span)
+part-of {inverses} {span} {upper} f j h =
     let few : length span ≤ 8 = subst (λ (s : ℕ). s ≤ 8) (sym (f .span-fits)) (pow-mono {i = length inverses} {j = 3} (f .few)) in
-    let within = coset-within j (length values) (length span) h in
     record {
-      within = subst (λ (s : ℕ). j * length span + length span ≤ s) (sym (f .word-fits)) within;
-      small = le-trans within (mul-le-mul many few);
+      within = coset-within j (2 ^ length upper) (length span) h;
+      small = mul-le-mul (pow-mono {i = length upper} {j = 20} (f .upper-fits)) few;
       eight = few;
     }

@@ -1,4 +1,4 @@
--- Halving a coset until one entry is left gives the value of its interpolant at the challenge. Assumes nothing.
+-- Halving a coset, its points moved by the challenge, until one entry is left gives the value of its interpolant at the challenge. Assumes nothing.
 use mathlib.Core.Path.{_≡_, refl, sym, ap, ap₂, _∙_, subst}
 use mathlib.Core.List.{List, [], _∷_, map}
 use Prim.Native.Nat.{ℕ, zero, suc, _+_, _*_, _-_, _^_, _<_, _≤_}
@@ -16,8 +16,9 @@ use Rattle.poly.proofs.Evaluation.{evaluate-timesLinear}
 use Rattle.poly.specs.Polynomial.{All, evaluate, dividedDifferences, interpolant}
 use Rattle.coset.specs.Coset.{point, tabulated, points}
 use Rattle.coset.specs.Subspace.{nextOffset, nextBasis, image}
-use Rattle.coset.specs.Steps.{oneStep, composedMaps, stepElements, imagesBefore}
+use Rattle.coset.specs.Steps.{oneStep, composedMaps, stepElements}
 use Rattle.coset.proofs.Points.{point-even, point-odd, point-image, point-element, point-parted, getD-points, length-tabulated, getD-tabulated, tabulated-agree}
+use Rattle.coset.proofs.Dependence.{point-moved, points-moved}
 use Rattle.coset.proofs.Steps.{one-step-additive, one-step-element, length-elements, elements-of-prefix, image-through}
 use Rattle.coset.proofs.Subspace.{nextOffset-through, nextBasis-through, cosets-of}
 use Rattle.coset.proofs.Dimension.{independent-prefix}
@@ -35,7 +36,7 @@ one-point p u x =
     evaluate-timesLinear gf64 IsElement gf64-laws u p [] x ∙ ap (bitXor u) (product-zero-r (bitXor x p)) ∙ xor-zero-r u
 
 -- that of two points is a line
-two-points : (p p′ u v x : ℕ) → evaluate gf64 (interpolant gf64 (p ∷ p′ ∷ []) (u ∷ v ∷ [])) x ≡ lineAt (inverse (bitXor p′ p)) x p u v
+two-points : (p p′ u v x : ℕ) → evaluate gf64 (interpolant gf64 (p ∷ p′ ∷ []) (u ∷ v ∷ [])) x ≡ lineAt (inverse (bitXor p′ p)) (bitXor x p) u v
 unfolding interpolant dividedDifferences lineAt
 two-points p p′ u v x =
     evaluate-timesLinear gf64 IsElement gf64-laws u p (interpolant gf64 (p′ ∷ []) (slope ∷ [])) x
@@ -45,9 +46,9 @@ two-points p p′ u v x =
     slope : ℕ
     slope = product (inverse (bitXor p′ p)) (bitXor v u)
 
-pub line-is : (i x p u v : ℕ) → sum u (product (sum x p) (product (sum u v) i)) ≡ lineAt i x p u v
+pub line-is : (i m u v : ℕ) → sum u (product m (product (sum u v) i)) ≡ lineAt i m u v
 unfolding lineAt
-line-is i x p u v = refl
+line-is i m u v = refl
 
 -- ---- folding with step 1 is halving
 
@@ -79,12 +80,13 @@ module _ (offset b : ℕ) (basis word : List ℕ) (fits : length word ≡ 2 ^ le
   pair-inside j h = omega (arith, pow-suc 2 (length basis))
 
   entry-one : (x j : ℕ) → j < 2 ^ length basis
-      → lineAt (inverse b) x (getD (points offset (b ∷ basis)) (j * 2) 0) (getD word (j * 2) 0) (getD word (suc (j * 2)) 0)
+      → lineAt (inverse b) (getD (points (sum offset x) (b ∷ basis)) (j * 2) 0) (getD word (j * 2) 0) (getD word (suc (j * 2)) 0)
       ≡ foldEntry 1 offset (b ∷ basis) word x j
   unfolding foldEntry cosetPoints cosetEntries tabulated
   entry-one x j h =
-      ap (λ (p : ℕ). lineAt (inverse b) x p u v) (getD-points offset (b ∷ basis) (j * 2) (omega (arith, pair-inside j h)))
-      ∙ ap (λ (e : ℕ). lineAt (inverse e) x (point offset (b ∷ basis) (j * 2)) u v) (sym difference)
+      ap (λ (m : ℕ). lineAt (inverse b) m u v)
+      (getD-points (sum offset x) (b ∷ basis) (j * 2) (omega (arith, pair-inside j h)) ∙ point-moved offset x (b ∷ basis) (j * 2))
+      ∙ ap (λ (e : ℕ). lineAt (inverse e) (sum x (point offset (b ∷ basis) (j * 2))) u v) (sym difference)
       ∙ sym (two-points (point offset (b ∷ basis) (j * 2)) (point offset (b ∷ basis) (suc (j * 2))) u v x)
       ∙ ap (λ (l : List ℕ). evaluate gf64 (interpolant gf64 (point offset (b ∷ basis) (j * 2) ∷ point offset (b ∷ basis) (suc (j * 2)) ∷ []) l) x)
       (sym (two-entries word (j * 2) (omega (arith, pair-inside j h))))
@@ -100,11 +102,11 @@ module _ (offset b : ℕ) (basis word : List ℕ) (fits : length word ≡ 2 ^ le
           ap₂ bitXor (point-odd offset b basis j) (point-even offset b basis j)
           ∙ xor-assoc b (point offset basis j) (point offset basis j) ∙ ap (bitXor b) (xor-self (point offset basis j)) ∙ xor-zero-r b
 
-  pub halved-entries : (x : ℕ) → halvedEntries (inverse b) x (2 ^ length basis) (points offset (b ∷ basis)) word ≡ folded 1 offset (b ∷ basis) word x
+  pub halved-entries : (x : ℕ) → halvedEntries (inverse b) (2 ^ length basis) (points (sum offset x) (b ∷ basis)) word ≡ folded 1 offset (b ∷ basis) word x
   unfolding halvedEntries folded
   halved-entries x =
       tabulated-agree
-      (λ i. lineAt (inverse b) x (getD (points offset (b ∷ basis)) (i * 2) 0) (getD word (i * 2) 0) (getD word (suc (i * 2)) 0))
+      (λ i. lineAt (inverse b) (getD (points (sum offset x) (b ∷ basis)) (i * 2) 0) (getD word (i * 2) 0) (getD word (suc (i * 2)) 0))
       (foldEntry 1 offset (b ∷ basis) word x) 0 (2 ^ length basis) (λ j l u. entry-one x j (omega arith))
       ∙ ap (λ (n : ℕ). tabulated (foldEntry 1 offset (b ∷ basis) word x) 0 (2 ^ n)) (sym (length-one-less b basis))
 
@@ -139,17 +141,16 @@ unfolding interpolated points tabulated point
 value-at-one offset u x = one-point offset u x
 
 pub value-by-halving : (offset : ℕ) (basis word : List ℕ) (x n : ℕ) → length basis ≡ n → IsWord offset basis word → IsElement x
-    → valueAt (map inverse (stepElements n basis)) (imagesBefore (stepElements n basis) x) (points offset basis) word
-    ≡ evaluate gf64 (interpolated offset basis word) x
-unfolding valueAt stepElements imagesBefore
+    → valueAt (map inverse (stepElements n basis)) (points (sum offset x) basis) word ≡ evaluate gf64 (interpolated offset basis word) x
+unfolding valueAt stepElements
 value-by-halving offset [] [] x zero l w h = absurd (omega (arith, w .count))
 value-by-halving offset [] (u ∷ []) x zero l w h = sym (value-at-one offset u x)
 value-by-halving offset [] (u ∷ v ∷ word) x zero l w h = absurd (omega (arith, w .count))
 value-by-halving offset [] word x (suc n) l w h = absurd (omega arith)
 value-by-halving offset (b ∷ basis) word x zero l w h = absurd (omega arith)
 value-by-halving offset (b ∷ basis) word x (suc n) l w h =
-    ap (λ (c : ℕ). valueAt inverses challenges (halvedPoints c (points offset (b ∷ basis))) (halvedEntries (inverse b) x c (points offset (b ∷ basis)) word)) count
-    ∙ ap₂ (valueAt inverses challenges) (halved-points offset b basis word (w .count)) (halved-entries offset b basis word (w .count) x)
+    ap (λ (c : ℕ). valueAt inverses (halvedPoints c (points (sum offset x) (b ∷ basis))) (halvedEntries (inverse b) c (points (sum offset x) (b ∷ basis)) word)) count
+    ∙ ap₂ (valueAt inverses) still-moved (halved-entries offset b basis word (w .count) x)
     ∙ value-by-halving (oneStep b offset) (map (oneStep b) basis) (folded 1 offset (b ∷ basis) word x) (oneStep b x) n
     (length-map basis (oneStep b) ∙ omega arith) (folded-is-word offset b basis word x w h) (one-step-element b x)
     ∙ ap₂ (λ (p : List ℕ) (y : ℕ). evaluate gf64 p y) next-is image-is
@@ -158,8 +159,10 @@ value-by-halving offset (b ∷ basis) word x (suc n) l w h =
     inverses : List ℕ
     inverses = map inverse (stepElements n (map (oneStep b) basis))
 
-    challenges : List ℕ
-    challenges = imagesBefore (stepElements n (map (oneStep b) basis)) (oneStep b x)
+    -- by the image of the challenge
+    still-moved : halvedPoints (2 ^ length basis) (points (sum offset x) (b ∷ basis)) ≡ points (sum (oneStep b offset) (oneStep b x)) (map (oneStep b) basis)
+    still-moved =
+        halved-points (sum offset x) b basis word (w .count) ∙ ap (λ (o : ℕ). points o (map (oneStep b) basis)) (one-step-additive b offset x)
 
     count : 2 ^ length inverses ≡ 2 ^ length basis
     count =
@@ -222,11 +225,11 @@ coset-is-word step offset basis word j w fits h =
     }
 
 pub entry-by-halving : (step offset : ℕ) (basis word : List ℕ) (x j : ℕ) → IsWord offset basis word → IsElement x → step ≤ length basis → j < 2 ^ (length basis - step)
-    → valueAt (map inverse (stepElements step basis)) (imagesBefore (stepElements step basis) x) (points (point offset (drop step basis) j) (take step basis)) (cosetEntries step word j)
+    → valueAt (map inverse (stepElements step basis)) (points (sum (point offset (drop step basis) j) x) (take step basis)) (cosetEntries step word j)
     ≡ foldEntry step offset basis word x j
 unfolding foldEntry interpolated
 entry-by-halving step offset basis word x j w hx fits h =
-    ap (λ (l : List ℕ). valueAt (map inverse l) (imagesBefore l x) (points first (take step basis)) (cosetEntries step word j)) (sym (elements-of-prefix step basis))
+    ap (λ (l : List ℕ). valueAt (map inverse l) (points (sum first x) (take step basis)) (cosetEntries step word j)) (sym (elements-of-prefix step basis))
     ∙ value-by-halving first (take step basis) (cosetEntries step word j) x step (length-take-le step basis fits) (coset-is-word step offset basis word j w fits h) hx
     ∙ ap (λ (l : List ℕ). evaluate gf64 (interpolant gf64 l (cosetEntries step word j)) x) (sym (cosetPoints-are step offset basis j fits))
   where
@@ -235,9 +238,9 @@ entry-by-halving step offset basis word x j w hx fits h =
 
 pub entry-of-coset : (step offset : ℕ) (basis word : List ℕ) → IsWord offset basis word → step ≤ length basis → (x j : ℕ) → IsElement x
     → j < 2 ^ (length basis - step)
-    → valueAt (map inverse (stepElements step basis)) (imagesBefore (stepElements step basis) x) (cosetPoints step offset basis j) (cosetEntries step word j)
+    → valueAt (map inverse (stepElements step basis)) (map (sum x) (cosetPoints step offset basis j)) (cosetEntries step word j)
     ≡ foldEntry step offset basis word x j
 entry-of-coset step offset basis word w fits x j hx h =
-    ap (λ (l : List ℕ). valueAt (map inverse (stepElements step basis)) (imagesBefore (stepElements step basis) x) l (cosetEntries step word j))
-    (cosetPoints-are step offset basis j fits)
+    ap (λ (l : List ℕ). valueAt (map inverse (stepElements step basis)) l (cosetEntries step word j))
+    (ap (map (sum x)) (cosetPoints-are step offset basis j fits) ∙ points-moved (point offset (drop step basis) j) x (take step basis))
     ∙ entry-by-halving step offset basis word x j w hx fits h

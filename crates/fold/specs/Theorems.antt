@@ -7,13 +7,13 @@ use lib.ListN.{length, getD, drop}
 use Rattle.refusal.specs.declared.Outcome.the-variants.{Done}
 use Rattle.refusal.specs.declared.Position.{Position}
 use Rattle.refusal.specs.declared.Position.the-variants.{At, Absent}
-use Rattle.gf64.specs.Field.{IsElement, inverse}
+use Rattle.gf64.specs.Field.{IsElement, sum, inverse}
 use Rattle.poly.specs.Carrier.{gf64}
 use Rattle.poly.specs.Polynomial.{All, Distinct, Zeros, evaluate, interpolant}
 use Rattle.coset.specs.Coset.{point}
 use Rattle.coset.specs.Span.{firstDependent, Independent}
 use Rattle.coset.specs.Subspace.{image, nextOffset, nextBasis}
-use Rattle.coset.specs.Steps.{stepElements, imagesBefore}
+use Rattle.coset.specs.Steps.{stepElements}
 use Rattle.reed_solomon.specs.Codes.{encoded, interpolated, WordDegreeBelow}
 use Rattle.fold.specs.declared.Folded.{Folded}
 use Rattle.fold.specs.declared.Folded.the-variants.{NextOffset}
@@ -69,11 +69,12 @@ pub record ExceptionalSets : Type 0 where
   pub bound : (rate step offset : ℕ) (basis layer : List ℕ) → IsWord offset basis layer → rate + step ≤ length basis
       → (xs : List ℕ) → All (Exceptional rate step offset basis layer) xs → Distinct xs → length xs ≤ 2 ^ step - 1
 
--- how the code computes an entry: the coset is halved once for each map of the step, with the inverse of its element, at the image of the challenge
+-- how the code computes an entry: the coset, its points moved by the challenge, is halved once for each map of the step, with the inverse of its
+-- element
 pub record Halvings : Type 0 where
   pub entry : (step offset : ℕ) (basis word : List ℕ) → IsWord offset basis word → step ≤ length basis → (x j : ℕ) → IsElement x
       → j < 2 ^ (length basis - step)
-      → valueAt (map inverse (stepElements step basis)) (imagesBefore (stepElements step basis) x) (cosetPoints step offset basis j) (cosetEntries step word j)
+      → valueAt (map inverse (stepElements step basis)) (map (sum x) (cosetPoints step offset basis j)) (cosetEntries step word j)
       ≡ foldEntry step offset basis word x j
 
 -- cases D, F, J and K of Table A, as far as they speak of one fold at a time

@@ -8,7 +8,7 @@ use refusal::Outcome;
 use refusal::Position;
 ghost use mathlib.Core.Path.{_≡_};
 ghost use mathlib.Core.List.{map};
-ghost use Prim.Native.Nat.{_-_, _^_, _≤_};
+ghost use Prim.Native.Nat.{_*_, _-_, _^_, _≤_};
 ghost use lib.ListN.{length};
 ghost use Rattle.gf64.specs.Field.{inverse};
 ghost use Rattle.poly.specs.Carrier.{gf64};
@@ -175,8 +175,8 @@ fn checked_next_basis(step: usize, basis: &[u64]) -> Outcome
     }
 }
 
-// Fills in the fold. The elements e are those of the maps X · (X - e) whose composition is the subspace polynomial; inverses, span and the
-// images of the challenge are computed once, before the cosets.
+// Fills in the fold. The elements e are those of the maps X · (X - e) whose composition is the subspace polynomial; inverses and span are
+// computed once, before the cosets, and the offset is moved by the challenge once, and with it every point.
 fn fill_values(
     elements: &[u64],
     offset: Element,
@@ -193,39 +193,37 @@ fn fill_values(
     let step = elements.len();
     let size = 1 << step;
     let inverses = inverses_of(elements);
-    let images = coset::images_before(elements, challenge);
     let span = span_of(&basis[..step]);
     fill_cosets(
         &inverses[..step],
-        &images[..step],
         &span[..size],
-        offset,
+        offset.sum(challenge),
         &basis[step..],
         word,
         values,
     );
 }
 
-// One value for each coset. The upper basis is that from the step's place on, over which the cosets' first points go.
+// One value for each coset. The upper basis is that from the step's place on, over which the cosets' first points go, from the moved offset on.
 fn fill_cosets(
     inverses: &[u64],
-    images: &[u64],
     span: &[u64],
-    offset: Element,
+    moved: Element,
     upper: &[u64],
     word: &[u64],
     values: &mut [u64],
 )
-    requires { ⌜ CosetsFit (now inverses) (now images) (now span) (now upper) (now word) (now values) ⌝ }
-    ensures { λ _. ⌜ now (values .exit) ≡ cosetValues (now (inverses .entry)) (now (images .entry)) (now (span .entry)) (offset .0) (now (upper .entry)) (now (word .entry)) ⌝ }
+    requires { ⌜ CosetsFit (now inverses) (now span) (now upper) × (length (now values) ≡ 2 ^ length (now upper))
+        × (length (now word) ≡ 2 ^ length (now upper) * length (now span)) ⌝ }
+    ensures { λ _. ⌜ now (values .exit) ≡ cosetValues (now (inverses .entry)) (now (span .entry)) (moved .0) (now (upper .entry)) (now (word .entry)) ⌝ }
 {
     let sums = coset::prefix_sums(upper);
-    let mut first = offset;
+    let mut first = moved;
     let mut j: usize = 0;
     while j < values.len() {
         let start = j * span.len();
         let coset = Coset::read(span, first, &word[start..start + span.len()]);
-        values[j] = coset.value_at(inverses, images).0;
+        values[j] = coset.value_at(inverses).0;
         j += 1;
         first = coset::stepped(&sums, first, j);
     }

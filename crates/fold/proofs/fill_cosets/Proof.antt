@@ -27,45 +27,45 @@ length-part m n word h =
     ap (λ (k : ℕ). length (take k (drop n word))) (back n m) ∙ length-take-le m (drop n word) (omega (arith, length-drop n word))
 
 abbrev Inv-loop : tie.InvT-loop
-Inv-loop inverses images span upper word values₀ sums first₀ j₀ values first j =
-    (j ≤ length values₀) × (values ≡ filled (cosetValues inverses images span (first₀ .0) upper word) values₀ j) × (length values ≡ length values₀)
+Inv-loop inverses span upper word values₀ sums first₀ j₀ values first j =
+    (j ≤ length values₀) × (values ≡ filled (cosetValues inverses span (first₀ .0) upper word) values₀ j) × (length values ≡ length values₀)
     × (j < length values₀ → first .0 ≡ point (first₀ .0) upper j)
 
 abbrev μ-loop : tie.MeasureT-loop
-μ-loop inverses images span upper word values₀ sums first₀ j₀ values first j = length values₀ - j
+μ-loop inverses span upper word values₀ sums first₀ j₀ values first j = length values₀ - j
 
 prefix-sums-requires : tie.Need-prefix-sums-requires Inv-loop μ-loop
 prefix-sums-requires c κs = search needs
 
 loop-holds : tie.Need-loop-holds Inv-loop μ-loop
 loop-holds c =
-    let a = c .before .before .before .before .before .before .before .args in (
+    let a = c .before .before .before .before .before .before .args in (
       search needs,
-      filled-start (cosetValues (a .inverses .now) (a .images .now) (a .span .now) (a .offset .0) (a .upper .now) (a .word .now)) (a .values .now),
+      filled-start (cosetValues (a .inverses .now) (a .span .now) (a .moved .0) (a .upper .now) (a .word .now)) (a .values .now),
       refl,
-      λ h. sym (point-first (a .offset .0) (a .upper .now)),
+      λ h. sym (point-first (a .moved .0) (a .upper .now)),
     )
 
 mul-start : tie.Need-mul-start Inv-loop μ-loop
 mul-start c =
-    let start = c .before .before .before .before .before .before .before .before .before in
+    let start = c .before .before .before .before .before .before .before .before in
     let l = c .before .loop in
-    let part = part-of (start .pre) (l .j) (omega (arith, l .inv .2)) in
-    omega (arith, part .small)
+    let part = part-of (start .pre .0) (l .j) (omega (arith, l .inv .2, start .pre .1)) in
+    omega (arith, part .within, part .small)
 
 add-read : tie.Need-add-read Inv-loop μ-loop
 add-read c =
-    let start = c .before .before .before .before .before .before .before .before .before in
+    let start = c .before .before .before .before .before .before .before .before in
     let l = c .before .loop in
-    let part = part-of (start .pre) (l .j) (omega (arith, l .inv .2)) in
-    omega (arith, part .small)
+    let part = part-of (start .pre .0) (l .j) (omega (arith, l .inv .2, start .pre .1)) in
+    omega (arith, part .within, part .small)
 
 mul-read : tie.Need-mul-read Inv-loop μ-loop
 mul-read c =
-    let start = c .before .before .before .before .before .before .before .before .before in
+    let start = c .before .before .before .before .before .before .before .before in
     let l = c .before .loop in
-    let part = part-of (start .pre) (l .j) (omega (arith, l .inv .2)) in
-    omega (arith, part .small)
+    let part = part-of (start .pre .0) (l .j) (omega (arith, l .inv .2, start .pre .1)) in
+    omega (arith, part .within, part .small)
 
 sub-read : tie.Need-sub-read Inv-loop μ-loop
 sub-read c = omega arith
@@ -75,23 +75,23 @@ part-read-start c = search needs
 
 part-read-end : tie.Need-part-read-end Inv-loop μ-loop
 part-read-end c =
-    let start = c .before .before .before .before .before .before .before .before .before in
+    let start = c .before .before .before .before .before .before .before .before in
     let l = c .before .loop in
-    let part = part-of (start .pre) (l .j) (omega (arith, l .inv .2)) in
-    part .within
+    let part = part-of (start .pre .0) (l .j) (omega (arith, l .inv .2, start .pre .1)) in
+    omega (arith, part .within, start .pre .2)
 
 read-requires : tie.Need-read-requires Inv-loop μ-loop
 read-requires c κs =
-    let start = c .before .before .before .before .before .before .before .before .before .before in
+    let start = c .before .before .before .before .before .before .before .before .before in
     let a = start .args in
     let l = c .before .before .loop in
-    let part = part-of (start .pre) (l .j) (omega (arith, l .inv .2)) in
-    (part .eight, length-part (length (a .span .now)) (l .j * length (a .span .now)) (a .word .now) (part .within))
+    let part = part-of (start .pre .0) (l .j) (omega (arith, l .inv .2, start .pre .1)) in
+    (part .eight, length-part (length (a .span .now)) (l .j * length (a .span .now)) (a .word .now) (omega (arith, part .within, start .pre .2)))
 
 value-at-requires : tie.Need-value-at-requires Inv-loop μ-loop
 value-at-requires c κs =
-    let start = c .before .before .before .before .before .before .before .before .before .before .before in
-    (start .pre .some, start .pre .few, start .pre .images-fit, ap (λ (r : Coset). r .count) (c .read .ensures) ∙ start .pre .span-fits)
+    let start = c .before .before .before .before .before .before .before .before .before .before in
+    (start .pre .0 .some, start .pre .0 .few, ap (λ (r : Coset). r .count) (c .read .ensures) ∙ start .pre .0 .span-fits)
 
 mul-values : tie.Need-mul-values Inv-loop μ-loop
 mul-values c = search needs
@@ -113,27 +113,27 @@ loop-less c = search needs
 
 loop-again : tie.Need-loop-again Inv-loop μ-loop
 loop-again c =
-    let start = c .before .before .before .before .before .before .before .before .before .before .before .before .before .before in
+    let start = c .before .before .before .before .before .before .before .before .before .before .before .before .before in
     let a = start .args in
     let l = c .before .before .before .before .before .before .loop in
     let m = length (a .span .now) in
     let inside : l .j < length (a .values .now) = omega (arith, l .inv .2) in
-    let target = cosetValues (a .inverses .now) (a .images .now) (a .span .now) (a .offset .0) (a .upper .now) (a .word .now) in
+    let target = cosetValues (a .inverses .now) (a .span .now) (a .moved .0) (a .upper .now) (a .word .now) in
     let value = c .before .before .value-at .result .0 in (
       search needs,
       ap (λ (held : List ℕ). set held (l .j) value) (l .inv .1)
           ∙ filled-next target (a .values .now) (l .j) value inside
-          (length-cosetValues (a .inverses .now) (a .images .now) (a .span .now) (a .offset .0) (a .upper .now) (a .word .now) ∙ sym (start .pre .values-fit))
+          (length-cosetValues (a .inverses .now) (a .span .now) (a .moved .0) (a .upper .now) (a .word .now) ∙ sym (start .pre .1))
           (c .before .before .value-at .ensures
-          ∙ ap (λ (r : Coset). valueAt (a .inverses .now) (a .images .now) (r .points) (r .entries)) (c .before .before .before .read .ensures)
-          ∙ cosetValue-is (a .inverses .now) (a .images .now) (a .span .now) (a .offset .0) (a .upper .now) (a .word .now) (l .j) (l .first .0)
+          ∙ ap (λ (r : Coset). valueAt (a .inverses .now) (r .points) (r .entries)) (c .before .before .before .read .ensures)
+          ∙ cosetValue-is (a .inverses .now) (a .span .now) (a .moved .0) (a .upper .now) (a .word .now) (l .j) (l .first .0)
           (take (l .j * m + m - l .j * m) (drop (l .j * m) (a .word .now))) (l .inv .3 inside)
           (ap (λ (n : ℕ). take n (drop (l .j * m) (a .word .now))) (back (l .j * m) m))
-          ∙ sym (cosetValues-at (a .inverses .now) (a .images .now) (a .span .now) (a .offset .0) (a .upper .now) (a .word .now) (l .j) (omega (arith, start .pre .values-fit)))),
+          ∙ sym (cosetValues-at (a .inverses .now) (a .span .now) (a .moved .0) (a .upper .now) (a .word .now) (l .j) (omega (arith, start .pre .1)))),
       length-set (l .values) (l .j) value ∙ l .inv .2,
       λ h. c .stepped .ensures
           ∙ ap (λ (sums : List ℕ). sum (l .first .0) (getD sums (trailingZeros 64 (l .j + 1)) 0)) (c .before .before .before .before .before .before .before .prefix-sums .ensures)
-          ∙ point-stepped (a .offset .0) (a .upper .now) (l .j) (l .first .0) (start .pre .upper-fits) (l .inv .3 inside) (omega (arith, start .pre .values-fit)),
+          ∙ point-stepped (a .moved .0) (a .upper .now) (l .j) (l .first .0) (start .pre .0 .upper-fits) (l .inv .3 inside) (omega (arith, start .pre .1)),
     )
 
 same-length : tie.Need-same-length Inv-loop μ-loop
@@ -141,12 +141,12 @@ same-length c = search needs
 
 returns : tie.Need-returns Inv-loop μ-loop
 returns c =
-    let start = c .before .before .before .before .before .before .before .before .before in
+    let start = c .before .before .before .before .before .before .before .before in
     let a = start .args in
     let l = c .before .loop in
     l .inv .1
-    ∙ filled-all (cosetValues (a .inverses .now) (a .images .now) (a .span .now) (a .offset .0) (a .upper .now) (a .word .now)) (a .values .now) (l .j) (omega (arith, l .inv .2))
-    (length-cosetValues (a .inverses .now) (a .images .now) (a .span .now) (a .offset .0) (a .upper .now) (a .word .now) ∙ sym (start .pre .values-fit))
+    ∙ filled-all (cosetValues (a .inverses .now) (a .span .now) (a .moved .0) (a .upper .now) (a .word .now)) (a .values .now) (l .j) (omega (arith, l .inv .2))
+    (length-cosetValues (a .inverses .now) (a .span .now) (a .moved .0) (a .upper .now) (a .word .now) ∙ sym (start .pre .1))
 
 pub fill-cosets-spec : {M : Type 1} → statement M
 fill-cosets-spec =

@@ -16,13 +16,13 @@ use Rattle.fold.proofs.halving.Coset.halved.Statement.{statement}
 use Rattle.fold.proofs.halving.Coset.halved.Tie as tie
 
 abbrev Inv-loop : tie.InvT-loop
-Inv-loop inverse x self half points₀ entries₀ i₀ points entries i =
+Inv-loop inverse self half points₀ entries₀ i₀ points entries i =
     (i ≤ half) × (half ≡ self .count / 2) × (half ≤ 4)
     × (points ≡ filled (padded gf64 8 (halvedPoints half (self .points))) (replicate 8 0) i)
-    × (entries ≡ filled (padded gf64 8 (halvedEntries (inverse .0) (x .0) half (self .points) (self .entries))) (replicate 8 0) i)
+    × (entries ≡ filled (padded gf64 8 (halvedEntries (inverse .0) half (self .points) (self .entries))) (replicate 8 0) i)
 
 abbrev μ-loop : tie.MeasureT-loop
-μ-loop inverse x self half points₀ entries₀ i₀ points entries i = half - i
+μ-loop inverse self half points₀ entries₀ i₀ points entries i = half - i
 
 loop-holds : tie.Need-loop-holds Inv-loop μ-loop
 loop-holds c =
@@ -33,29 +33,29 @@ loop-holds c =
       refl,
       omega (arith, start .pre),
       filled-start (padded gf64 8 (halvedPoints half (a .t1 .points))) (replicate 8 0),
-      filled-start (padded gf64 8 (halvedEntries (a .inverse .0) (a .x .0) half (a .t1 .points) (a .t1 .entries))) (replicate 8 0),
+      filled-start (padded gf64 8 (halvedEntries (a .inverse .0) half (a .t1 .points) (a .t1 .entries))) (replicate 8 0),
     )
+
+mul-t11 : tie.Need-mul-t11 Inv-loop μ-loop
+mul-t11 c = search needs
 
 mul-t12 : tie.Need-mul-t12 Inv-loop μ-loop
 mul-t12 c = search needs
 
-mul-t13 : tie.Need-mul-t13 Inv-loop μ-loop
-mul-t13 c = search needs
+element-copy-out-t15 : tie.Need-element-copy-out-t15 Inv-loop μ-loop
+element-copy-out-t15 c = search needs
 
-element-copy-out-t16 : tie.Need-element-copy-out-t16 Inv-loop μ-loop
-element-copy-out-t16 c = search needs
+mul-t17 : tie.Need-mul-t17 Inv-loop μ-loop
+mul-t17 c = search needs
 
-mul-t18 : tie.Need-mul-t18 Inv-loop μ-loop
-mul-t18 c = search needs
+add-t18 : tie.Need-add-t18 Inv-loop μ-loop
+add-t18 c = search needs
 
-add-t19 : tie.Need-add-t19 Inv-loop μ-loop
-add-t19 c = search needs
+mul-t19 : tie.Need-mul-t19 Inv-loop μ-loop
+mul-t19 c = search needs
 
-mul-t20 : tie.Need-mul-t20 Inv-loop μ-loop
-mul-t20 c = search needs
-
-element-copy-out-t23 : tie.Need-element-copy-out-t23 Inv-loop μ-loop
-element-copy-out-t23 c = search needs
+element-copy-out-t22 : tie.Need-element-copy-out-t22 Inv-loop μ-loop
+element-copy-out-t22 c = search needs
 
 product-requires : tie.Need-product-requires Inv-loop μ-loop
 product-requires c κs = search needs
@@ -87,11 +87,11 @@ loop-again c =
     let l = c .before .before .before .before .before .loop in
     let half = a .t1 .count / 2 in
     let points = halvedPoints half (a .t1 .points) in
-    let entries = halvedEntries (a .inverse .0) (a .x .0) half (a .t1 .points) (a .t1 .entries) in
+    let entries = halvedEntries (a .inverse .0) half (a .t1 .points) (a .t1 .entries) in
     let point = c .before .product .result .0 in
     let entry = c .line .result .0 in
     let count = length-halvedPoints half (a .t1 .points) in
-    let count′ = length-halvedEntries (a .inverse .0) (a .x .0) half (a .t1 .points) (a .t1 .entries) in (
+    let count′ = length-halvedEntries (a .inverse .0) half (a .t1 .points) (a .t1 .entries) in (
       search needs,
       l .inv .1,
       l .inv .2,
@@ -101,7 +101,7 @@ loop-again c =
           ∙ sym (halvedPoints-at half (a .t1 .points) (l .i) (omega arith))),
       ap (λ (held : List ℕ). set held (l .i) entry) (l .inv .4)
           ∙ padded-next 8 entries (l .i) entry (omega (arith, count′)) (omega (arith, count′, l .inv .2))
-          (c .line .ensures ∙ sym (halvedEntries-at (a .inverse .0) (a .x .0) half (a .t1 .points) (a .t1 .entries) (l .i) (omega arith))),
+          (c .line .ensures ∙ sym (halvedEntries-at (a .inverse .0) half (a .t1 .points) (a .t1 .entries) (l .i) (omega arith))),
     )
 
 returns : tie.Need-returns Inv-loop μ-loop
@@ -110,9 +110,9 @@ returns c =
     let l = c .before .loop in
     let half = a .t1 .count / 2 in
     let points = halvedPoints half (a .t1 .points) in
-    let entries = halvedEntries (a .inverse .0) (a .x .0) half (a .t1 .points) (a .t1 .entries) in
+    let entries = halvedEntries (a .inverse .0) half (a .t1 .points) (a .t1 .entries) in
     let count = length-halvedPoints half (a .t1 .points) in
-    let count′ = length-halvedEntries (a .inverse .0) (a .x .0) half (a .t1 .points) (a .t1 .entries) in
+    let count′ = length-halvedEntries (a .inverse .0) half (a .t1 .points) (a .t1 .entries) in
     coset-equal (l .points) (padded gf64 8 points) (l .entries) (padded gf64 8 entries) half half
     (l .inv .3 ∙ filled-padded 8 points (l .i) (omega (arith, count)) (omega (arith, count, l .inv .2)))
     (l .inv .4 ∙ filled-padded 8 entries (l .i) (omega (arith, count′)) (omega (arith, count′, l .inv .2)))
@@ -125,13 +125,13 @@ halved-spec =
     Inv-loop
     μ-loop
     loop-holds
+    mul-t11
     mul-t12
-    mul-t13
-    element-copy-out-t16
-    mul-t18
-    add-t19
-    mul-t20
-    element-copy-out-t23
+    element-copy-out-t15
+    mul-t17
+    add-t18
+    mul-t19
+    element-copy-out-t22
     product-requires
     mul-points
     array-write-points
