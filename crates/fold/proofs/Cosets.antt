@@ -7,7 +7,7 @@ use lib.Pow.{pow-mono}
 use native.Mathlib.Numerals.{add-one}
 use native.Mathlib.Omega.{arith}
 use lib.ListN.{length, getD, take, drop, length-drop, drop-of-length-le}
-use lib.Seq.{drop-cons}
+use lib.Seq.{drop-cons, length-take-le}
 use Rattle.gf64.specs.Field.{sum, product}
 use Rattle.poly.specs.Carrier.{gf64}
 use Rattle.poly.specs.Polynomial.{padded}
@@ -111,21 +111,33 @@ module _ (inverses span : List ℕ) (moved : ℕ) (upper word : List ℕ) where
   unfolding cosetValues
   length-cosetValues = length-tabulated (cosetValue inverses span moved upper word) 0 (2 ^ length upper)
 
-  pub cosetValues-at : (j : ℕ) → j < 2 ^ length upper
-      → getD (cosetValues inverses span moved upper word) j 0 ≡ cosetValue inverses span moved upper word j
-  unfolding cosetValues
-  cosetValues-at j h =
-      getD-tabulated (cosetValue inverses span moved upper word) 0 (2 ^ length upper) j h
-      ∙ ap (cosetValue inverses span moved upper word) (zero-add j)
-
-  pub cosetValue-is : (j first : ℕ) (part : List ℕ) → first ≡ point moved upper j → part ≡ take (length span) (drop (j * length span) word)
+  value-is : (j first : ℕ) (part : List ℕ) → first ≡ point moved upper j → part ≡ take (length span) (drop (j * length span) word)
       → valueAt inverses (padded gf64 8 (map (sum first) span)) (padded gf64 8 part) ≡ cosetValue inverses span moved upper word j
   unfolding cosetValue
-  cosetValue-is j first part e f =
+  value-is j first part e f =
       value-padded inverses 8 (map (sum first) span) part
       ∙ ap₂ (λ (p : ℕ) (l : List ℕ). valueAt inverses (map (sum p) span) l) e f
 
+  pub cosetValues-at : (j first : ℕ) (part : List ℕ) → j < 2 ^ length upper → first ≡ point moved upper j
+      → part ≡ take (length span) (drop (j * length span) word)
+      → valueAt inverses (padded gf64 8 (map (sum first) span)) (padded gf64 8 part) ≡ getD (cosetValues inverses span moved upper word) j 0
+  unfolding cosetValues
+  cosetValues-at j first part h e f =
+      value-is j first part e f
+      ∙ sym (getD-tabulated (cosetValue inverses span moved upper word) 0 (2 ^ length upper) j h ∙ ap (cosetValue inverses span moved upper word) (zero-add j))
+
 -- ---- where a coset's entries lie
+
+-- as they are lent
+pub lent-part : (start m : ℕ) (xs : List ℕ) → take (start + m - start) (drop start xs) ≡ take m (drop start xs)
+lent-part start m xs = ap (λ (n : ℕ). take n (drop start xs)) back
+  where
+    back : start + m - start ≡ m
+    back = omega arith
+
+pub length-lent-part : (start m : ℕ) (xs : List ℕ) → start + m ≤ length xs → length (take (start + m - start) (drop start xs)) ≡ m
+length-lent-part start m xs h =
+    ap length (lent-part start m xs) ∙ length-take-le m (drop start xs) (omega (arith, length-drop start xs))
 
 pub record Part (j m whole : ℕ) : Type 0 where
   pub within : j * m + m ≤ whole
@@ -133,12 +145,12 @@ pub record Part (j m whole : ℕ) : Type 0 where
   pub small : whole ≤ 8388608
   pub eight : m ≤ 8
 
+pub entries-few : {inverses span upper : List ℕ} → CosetsFit inverses span upper → (length span ≤ 8) × (2 ^ length upper * length span ≤ 8388608)
+entries-few {inverses} {span} {upper} f =
+    let few : length span ≤ 8 = subst (λ (s : ℕ). s ≤ 8) (sym (f .span-fits)) (pow-mono {i = length inverses} {j = 3} (f .few)) in
+    (few, mul-le-mul (pow-mono {i = length upper} {j = 20} (f .upper-fits)) few)
+
 pub part-of : {inverses span upper : List ℕ} → CosetsFit inverses span upper
     → (j : ℕ) → j < 2 ^ length upper → Part j (length span) (2 ^ length upper * length span)
 part-of {inverses} {span} {upper} f j h =
-    let few : length span ≤ 8 = subst (λ (s : ℕ). s ≤ 8) (sym (f .span-fits)) (pow-mono {i = length inverses} {j = 3} (f .few)) in
-    record {
-      within = coset-within j (2 ^ length upper) (length span) h;
-      small = mul-le-mul (pow-mono {i = length upper} {j = 20} (f .upper-fits)) few;
-      eight = few;
-    }
+    record { within = coset-within j (2 ^ length upper) (length span) h; small = entries-few f .1; eight = entries-few f .0 }

@@ -5,5 +5,6 @@ pub mod Theorems
 pub mod Cases
 mod Checks
 pub mod Outcomes
-mod Cosets
-mod AllCosets
+pub mod Cosets
+pub mod AllCosets
+mod Behind

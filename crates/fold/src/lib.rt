@@ -1,5 +1,5 @@
 // The fold of a word over a coset of at most 2^20 points.
-mod halving;
+pub mod halving;
 
 use field::Element;
 use halving::Coset;
@@ -7,9 +7,9 @@ use refusal::Cause;
 use refusal::Outcome;
 use refusal::Position;
 ghost use mathlib.Core.Path.{_≡_};
-ghost use mathlib.Core.List.{map};
-ghost use Prim.Native.Nat.{_*_, _-_, _^_, _≤_};
-ghost use lib.ListN.{length};
+ghost use mathlib.Core.List.{map, _++_};
+ghost use Prim.Native.Nat.{_+_, _*_, _-_, _^_, _≤_};
+ghost use lib.ListN.{length, take};
 ghost use Rattle.gf64.specs.Field.{inverse};
 ghost use Rattle.poly.specs.Carrier.{gf64};
 ghost use Rattle.poly.specs.Polynomial.{padded};
@@ -177,7 +177,7 @@ fn checked_next_basis(step: usize, basis: &[u64]) -> Outcome
 
 // Fills in the fold. The elements e are those of the maps X · (X - e) whose composition is the subspace polynomial; inverses and span are
 // computed once, before the cosets, and the offset is moved by the challenge once, and with it every point.
-fn fill_values(
+pub fn fill_values(
     elements: &[u64],
     offset: Element,
     basis: &[u64],
@@ -229,8 +229,61 @@ fn fill_cosets(
     }
 }
 
+// Folds the layer in the front of a list into what is behind it.
+pub fn fill_behind(
+    elements: &[u64],
+    offset: Element,
+    basis: &[u64],
+    challenge: Element,
+    joined: &mut [u64],
+)
+    requires { ⌜ (1 ≤ length (now elements)) × (length (now elements) ≤ 3) × (length (now elements) ≤ length (now basis)) × (length (now basis) ≤ 20)
+        × (now elements ≡ stepElements (length (now elements)) (now basis)) × Independent (now basis)
+        × (length (now joined) ≡ 2 ^ length (now basis) + 2 ^ (length (now basis) - length (now elements))) ⌝ }
+    ensures { λ _. ⌜ now (joined .exit) ≡ take (2 ^ length (now (basis .entry))) (now (joined .entry)) ++ folded (length (now (elements .entry))) (offset .0) (now (basis .entry)) (take (2 ^ length (now (basis .entry))) (now (joined .entry))) (challenge .0) ⌝ }
+{
+    let step = elements.len();
+    let size = 1 << step;
+    let inverses = inverses_of(elements);
+    let span = span_of(&basis[..step]);
+    fill_cosets_behind(
+        &inverses[..step],
+        &span[..size],
+        offset.sum(challenge),
+        &basis[step..],
+        joined,
+    );
+}
+
+// One value for each coset of the layer in the front of the list, which goes on behind the layer. A loop of its own, since a list that is
+// written into cannot be lent as the word at the same time.
+fn fill_cosets_behind(
+    inverses: &[u64],
+    span: &[u64],
+    moved: Element,
+    upper: &[u64],
+    joined: &mut [u64],
+)
+    requires { ⌜ CosetsFit (now inverses) (now span) (now upper)
+        × (length (now joined) ≡ 2 ^ length (now upper) * length (now span) + 2 ^ length (now upper)) ⌝ }
+    ensures { λ _. ⌜ now (joined .exit) ≡ take (2 ^ length (now (upper .entry)) * length (now (span .entry))) (now (joined .entry)) ++ cosetValues (now (inverses .entry)) (now (span .entry)) (moved .0) (now (upper .entry)) (take (2 ^ length (now (upper .entry)) * length (now (span .entry))) (now (joined .entry))) ⌝ }
+{
+    let sums = coset::prefix_sums(upper);
+    let count: usize = 1 << upper.len();
+    let size = count * span.len();
+    let mut point = moved;
+    let mut j: usize = 0;
+    while j < count {
+        let start = j * span.len();
+        let coset = Coset::read(span, point, &joined[start..start + span.len()]);
+        joined[size + j] = coset.value_at(inverses).0;
+        j += 1;
+        point = coset::stepped(&sums, point, j);
+    }
+}
+
 // The inverses of at most three elements, and zeros. None of a step's elements is zero (`Subspaces.elements`).
-fn inverses_of(elements: &[u64]) -> [u64; 3]
+pub fn inverses_of(elements: &[u64]) -> [u64; 3]
     requires { ⌜ length (now elements) ≤ 3 ⌝ }
     ensures { λ r. ⌜ r ≡ padded gf64 3 (map inverse (now (elements .entry))) ⌝ }
 {
@@ -244,7 +297,7 @@ fn inverses_of(elements: &[u64]) -> [u64; 3]
 }
 
 // The span of at most three elements in point order, and zeros.
-fn span_of(basis: &[u64]) -> [u64; 8]
+pub fn span_of(basis: &[u64]) -> [u64; 8]
     requires { ⌜ length (now basis) ≤ 3 ⌝ }
     ensures { λ r. ⌜ r ≡ padded gf64 8 (points 0 (now (basis .entry))) ⌝ }
 {

@@ -3,8 +3,7 @@
 use mathlib.Core.Path.{_≡_, refl, sym, ap, _∙_}
 use mathlib.Core.List.{List}
 use Prim.Native.Nat.{ℕ, _+_, _*_, _-_, _≤_, _<_}
-use lib.ListN.{length, getD, take, drop, set, length-set, length-drop}
-use lib.Seq.{length-take-le}
+use lib.ListN.{length, getD, take, drop, set, length-set}
 use lib.Count.{trailingZeros}
 use Rattle.gf64.specs.Field.{sum}
 use Rattle.poly.proofs.Filling.{filled, filled-start, filled-next, filled-all}
@@ -13,18 +12,11 @@ use Rattle.coset.proofs.Dependence.{point-first}
 use Rattle.coset.proofs.Sequence.{point-stepped}
 use Rattle.fold.specs.declared.halving.Coset.{Coset}
 use Rattle.fold.specs.Halving.{valueAt, cosetValues}
-use Rattle.fold.proofs.Cosets.{part-of, cosetValue-is, length-cosetValues, cosetValues-at}
+use Rattle.fold.proofs.Cosets.{length-cosetValues, cosetValues-at, lent-part, length-lent-part, part-of}
 use borrow.Author.Needs.{needs}
 use native.Mathlib.Omega.{arith}
 use Rattle.fold.proofs.fill_cosets.Statement.{statement}
 use Rattle.fold.proofs.fill_cosets.Tie as tie
-
-back : (n m : ℕ) → n + m - n ≡ m
-back n m = omega arith
-
-length-part : (m n : ℕ) (word : List ℕ) → n + m ≤ length word → length (take (n + m - n) (drop n word)) ≡ m
-length-part m n word h =
-    ap (λ (k : ℕ). length (take k (drop n word))) (back n m) ∙ length-take-le m (drop n word) (omega (arith, length-drop n word))
 
 abbrev Inv-loop : tie.InvT-loop
 Inv-loop inverses span upper word values₀ sums first₀ j₀ values first j =
@@ -86,7 +78,7 @@ read-requires c κs =
     let a = start .args in
     let l = c .before .before .loop in
     let part = part-of (start .pre .0) (l .j) (omega (arith, l .inv .2, start .pre .1)) in
-    (part .eight, length-part (length (a .span .now)) (l .j * length (a .span .now)) (a .word .now) (omega (arith, part .within, start .pre .2)))
+    (part .eight, length-lent-part (l .j * length (a .span .now)) (length (a .span .now)) (a .word .now) (omega (arith, part .within, start .pre .2)))
 
 value-at-requires : tie.Need-value-at-requires Inv-loop μ-loop
 value-at-requires c κs =
@@ -126,10 +118,8 @@ loop-again c =
           (length-cosetValues (a .inverses .now) (a .span .now) (a .moved .0) (a .upper .now) (a .word .now) ∙ sym (start .pre .1))
           (c .before .before .value-at .ensures
           ∙ ap (λ (r : Coset). valueAt (a .inverses .now) (r .points) (r .entries)) (c .before .before .before .read .ensures)
-          ∙ cosetValue-is (a .inverses .now) (a .span .now) (a .moved .0) (a .upper .now) (a .word .now) (l .j) (l .first .0)
-          (take (l .j * m + m - l .j * m) (drop (l .j * m) (a .word .now))) (l .inv .3 inside)
-          (ap (λ (n : ℕ). take n (drop (l .j * m) (a .word .now))) (back (l .j * m) m))
-          ∙ sym (cosetValues-at (a .inverses .now) (a .span .now) (a .moved .0) (a .upper .now) (a .word .now) (l .j) (omega (arith, start .pre .1)))),
+          ∙ cosetValues-at (a .inverses .now) (a .span .now) (a .moved .0) (a .upper .now) (a .word .now) (l .j) (l .first .0)
+          (take (l .j * m + m - l .j * m) (drop (l .j * m) (a .word .now))) (omega (arith, start .pre .1)) (l .inv .3 inside) (lent-part (l .j * m) m (a .word .now))),
       length-set (l .values) (l .j) value ∙ l .inv .2,
       λ h. c .stepped .ensures
           ∙ ap (λ (sums : List ℕ). sum (l .first .0) (getD sums (trailingZeros 64 (l .j + 1)) 0)) (c .before .before .before .before .before .before .before .prefix-sums .ensures)
