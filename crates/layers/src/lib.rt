@@ -1,6 +1,6 @@
 // The layers of a run: parameters, where each layer lies in the store, the layers' cosets, and the checks that prover and judge have in
 // common.
-mod cosets;
+pub mod cosets;
 
 use cosets::LayerCoset;
 use field::Element;
