@@ -21,7 +21,7 @@ use Rattle.fold.specs.Halving.{valueAt, cosetValue, cosetValues, CosetsF
 use Rattle.fold.specs.Theorems.{IsWord}
 use Rattle.fold.proofs.Lines.{entry-by-halving}
 
-length-span : (step : ℕ) (basis : List ℕ) → step ≤ length basis → length (points 0 (take step basis)) ≡ 2 ^ step
+pub length-span : (step : ℕ) (basis : List ℕ) → step ≤ length basis → length (points 0 (take step basis)) ≡ 2 ^ step
 length-span step basis h = length-points 0 (take step basis) ∙ ap (λ (n : ℕ). 2 ^ n) (length-take-le step basis h)
 
 module _ (step offset : ℕ) (basis word : List ℕ) (x : ℕ) (w : IsWord offset basis word) (hx : IsElement x) (fits : step ≤ length basis) where

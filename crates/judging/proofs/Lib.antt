@@ -1,0 +1,6 @@
+mod StepSizes
+mod Visits
+mod Tables
+mod Queries
+mod Runs
+mod Judged

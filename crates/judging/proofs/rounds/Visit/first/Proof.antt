@@ -1,0 +1,17 @@
+-- `Visit::first` meets its contract. Assumes nothing.
+use Rattle.judging.specs.declared.rounds.Visit.{Visit}
+use Prim.Native.Nat.{ℕ}
+use mathlib.Core.Path.{ap}
+use borrow.Author.Needs.{needs}
+use native.Mathlib.Omega.{arith}
+use Rattle.judging.proofs.rounds.Visit.first.Statement.{statement}
+use Rattle.judging.proofs.rounds.Visit.first.Tie as tie
+
+point-requires : tie.Need-point-requires
+point-requires c κs = search needs
+
+returns : tie.Need-returns
+returns c = ap {B = Visit} (λ (x : ℕ). record { index = c .before .before .args .index; point = record { 0 = x } }) (c .point .ensures)
+
+pub first-spec : {M : Type 1} → statement M
+first-spec = tie.close (tie.spec point-requires returns)

@@ -1,0 +1,154 @@
+// What a round has of its layer for all queries, and where a query stands in a layer.
+use field::Element;
+use fold::halving::Coset;
+use layers::Parameters;
+use layers::cosets::LayerCoset;
+ghost use mathlib.Core.Path.{_≡_};
+ghost use mathlib.Core.Bool.{true, false};
+ghost use Prim.Native.Nat.{ℕ, _+_, _*_, _/_, _^_, _≤_, _<_};
+ghost use lib.ListN.{length, getD};
+ghost use Rattle.fri.specs.Layout.{dimension};
+ghost use Rattle.layers.specs.Parameters.{stepsBy, Valid};
+ghost use Rattle.layers.specs.Cosets.{basisOf};
+ghost use Rattle.judging.specs.Rounds.{noRound, roundOver, roundAt, visitAt, nextVisit, valueFolded, partRead, valueRead};
+
+// A round: the elements of its step's maps, their inverses, the span of the step's basis elements in point order, the challenge, and where
+// its layer and the next one begin in the store.
+pub struct Round {
+    pub elements: [u64; 3],
+    pub inverses: [u64; 3],
+    pub span: [u64; 8],
+    pub challenge: Element,
+    pub start: usize,
+    pub next: usize,
+}
+
+// A query's index in a layer, and the point there.
+pub struct Visit {
+    pub index: usize,
+    pub point: Element,
+}
+
+// All rounds. What is inverted is inverted here, once a layer.
+pub fn set_up(parameters: Parameters, basis: &[u64], challenges: &[u64]) -> [Round; 19]
+    requires { ⌜ Valid parameters × (length (now basis) ≡ parameters .k) × (length (now challenges) ≡ length (stepsBy parameters)) ⌝ }
+    ensures { λ r. ⌜ ((i : ℕ) → i < length (stepsBy parameters) → getD r i noRound ≡ roundAt parameters (now (basis .entry)) (now (challenges .entry)) i) ⌝ }
+{
+    let count = parameters.rounds();
+    let none = Round {
+        elements: [0; 3],
+        inverses: [0; 3],
+        span: [0; 8],
+        challenge: Element::ZERO,
+        start: 0,
+        next: 0,
+    };
+    let mut table = [none; 19];
+    let mut coset = LayerCoset::first(Element::ZERO, basis);
+    let mut start: usize = 0;
+    let mut i: usize = 0;
+    while i < count {
+        let next = parameters.layer_start(i + 1);
+        let challenge = challenges[i];
+        table[i] = Round::over(coset, parameters.step, Element(challenge), start, next);
+        coset = coset.next(parameters.step);
+        start = next;
+        i += 1;
+    }
+    table
+}
+
+impl Round {
+    fn over(coset: LayerCoset, step: usize, challenge: Element, start: usize, next: usize) -> Round
+        requires { ⌜ (step ≤ 3) × (step ≤ coset .dimension) × (coset .dimension ≤ 20) ⌝ }
+        ensures { λ r. ⌜ r ≡ roundOver step (basisOf coset) (challenge .0) start next ⌝ }
+    {
+        let basis = coset.basis;
+        let dimension = coset.dimension;
+        let elements = coset::step_elements(&basis[..dimension], step);
+        Round {
+            elements,
+            inverses: fold::inverses_of(&elements[..step]),
+            span: fold::span_of(&basis[..step]),
+            challenge,
+            start,
+            next,
+        }
+    }
+
+    // The fold, at the challenge, of the coset that holds the visit; in the first round it is one of the word, later one of the store.
+    pub fn computed(
+        self,
+        step: usize,
+        visit: Visit,
+        first: bool,
+        word: &[u64],
+        store: &[u64],
+    ) -> Element
+        requires { ⌜ (1 ≤ step) × (step ≤ 3) × (first ≡ true → visit .index / 2 ^ step * 2 ^ step + 2 ^ step ≤ length (now word))
+            × (first ≡ false → self .start + visit .index / 2 ^ step * 2 ^ step + 2 ^ step ≤ length (now store)) ⌝ }
+        ensures { λ r. ⌜ r .0 ≡ valueFolded step self visit (partRead step self visit first (now (word .entry)) (now (store .entry))) ⌝ }
+    {
+        let size = 1 << step;
+        let begin = visit.index / size * size;
+        if first {
+            let end = begin + size;
+            self.folded(step, visit, &word[begin..end])
+        } else {
+            let begin = self.start + begin;
+            let end = begin + size;
+            self.folded(step, visit, &store[begin..end])
+        }
+    }
+
+    // The fold of a coset with these entries. Its first point is the visit's plus the span's element between the two.
+    fn folded(self, step: usize, visit: Visit, part: &[u64]) -> Element
+        requires { ⌜ (1 ≤ step) × (step ≤ 3) × (length (now part) ≡ 2 ^ step) ⌝ }
+        ensures { λ r. ⌜ r .0 ≡ valueFolded step self visit (now (part .entry)) ⌝ }
+    {
+        let size = 1 << step;
+        let span = self.span;
+        let inverses = self.inverses;
+        let between = span[visit.index % size];
+        let first = visit.point.sum(Element(between));
+        let coset = Coset::read(&span[..size], self.challenge.sum(first), part);
+        coset.value_at(&inverses[..step])
+    }
+
+    // The value that the fold must equal: an entry of the next layer or, in the last round, the last polynomial's.
+    pub fn found(self, next: Visit, stored: bool, store: &[u64], last: &[u64]) -> Element
+        requires { ⌜ (stored ≡ true → self .next + next .index < length (now store)) ⌝ }
+        ensures { λ r. ⌜ r .0 ≡ valueRead self next stored (now (store .entry)) (now (last .entry)) ⌝ }
+    {
+        if stored {
+            let at = self.next + next.index;
+            Element(store[at])
+        } else {
+            poly::evaluate(last, next.point)
+        }
+    }
+}
+
+impl Visit {
+    // In layer 0.
+    pub fn first(offset: Element, basis: &[u64], index: usize) -> Visit
+        ensures { λ r. ⌜ r ≡ visitAt (offset .0) (now (basis .entry)) index ⌝ }
+    {
+        Visit {
+            index,
+            point: coset::point(offset, basis, index),
+        }
+    }
+
+    // In the next layer.
+    pub fn next(self, round: Round, step: usize) -> Visit
+        requires { ⌜ step ≤ 3 ⌝ }
+        ensures { λ r. ⌜ r ≡ nextVisit step (round .elements) self ⌝ }
+    {
+        let elements = round.elements;
+        Visit {
+            index: self.index >> step,
+            point: coset::composed_maps(&elements[..step], self.point),
+        }
+    }
+}
