@@ -13,6 +13,9 @@ use Rattle.field.specs.declared.Inverted.{Inverted}
 use Rattle.field.specs.declared.Inverted.the-variants.{Value, Refused}
 use Rattle.fold.specs.declared.Folded.{Folded}
 use Rattle.fold.specs.Answers.{numberOfFolded, placeOfFolded, roundOfFolded, valueOfFolded}
+use Rattle.fri.specs.declared.Verdict.{Verdict}
+use Rattle.fri.specs.Judge.{numberOfAnswer, placeOfAnswer, roundOfAnswer}
+use Rattle.layers.specs.declared.Part.{Part}
 use Rattle.capi.specs.declared.Answer.{Answer}
 
 -- stands for a place, a round or a value that there is none of
@@ -63,6 +66,21 @@ answerOfOutcome outcome =
       place = orNone (placeOfOutcome outcome);
       round = orNone (roundOfOutcome outcome);
       reads = 0;
+      value = none;
+    }
+
+-- the answer of the layer lookup: where the part begins and how long it is
+abbrev pub answerOfPart : Part → Answer
+answerOfPart part = record { number = 0; place = part .start; round = none; reads = 0; value = part .length }
+
+-- the answer of a judging, with the entries read
+abbrev pub answerOfVerdict : Verdict → Answer
+answerOfVerdict verdict =
+    record {
+      number = numberOfAnswer (verdict .answer);
+      place = orNone (placeOfAnswer (verdict .answer));
+      round = orNone (roundOfAnswer (verdict .answer));
+      reads = verdict .reads;
       value = none;
     }
 

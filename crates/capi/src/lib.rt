@@ -2,6 +2,9 @@
 use field::Element;
 use field::Inverted;
 use fold::Folded;
+use fri::Verdict;
+use layers::Parameters;
+use layers::Part;
 use refusal::Cause;
 use refusal::Outcome;
 use refusal::Position;
@@ -11,7 +14,10 @@ ghost use Rattle.gf64.specs.Field.{sum, product};
 ghost use Rattle.field.specs.Answers.{invertedOf};
 ghost use Rattle.reed_solomon.specs.Answers.{encodeOutcome, interpolateOutcome, valuesAfter, coefficientsAfter};
 ghost use Rattle.fold.specs.Answers.{foldAnswer, foldValuesAfter, nextBasisAfter};
-ghost use Rattle.capi.specs.Answers.{orNone, answerOfValue, answerOfCause, answerOfInverted, answerOfFolded, answerOfOutcome, numbersOf, answered, whereAnswered};
+ghost use Rattle.fri.specs.Judge.{verdictOf};
+ghost use Rattle.layers.specs.Parameters.{runOf};
+ghost use Rattle.layers.specs.Parts.{partOf};
+ghost use Rattle.capi.specs.Answers.{orNone, answerOfValue, answerOfCause, answerOfInverted, answerOfFolded, answerOfOutcome, answerOfPart, answerOfVerdict, numbersOf, answered, whereAnswered};
 
 // The five numbers of an answer.
 pub struct Answer {
@@ -86,6 +92,28 @@ impl Answer {
         match outcome {
             Outcome::Done => Answer::of_value(0, NONE),
             Outcome::Refused(cause) => Answer::of_cause(cause, 0),
+        }
+    }
+
+    fn of_part(part: Part) -> Answer
+        ensures { λ r. ⌜ r ≡ answerOfPart part ⌝ }
+    {
+        Answer {
+            number: 0,
+            place: part.start as u64,
+            round: NONE,
+            reads: 0,
+            value: part.length as u64,
+        }
+    }
+
+    fn of_verdict(verdict: Verdict) -> Answer
+        ensures { λ r. ⌜ r ≡ answerOfVerdict verdict ⌝ }
+    {
+        let answer = verdict.answer;
+        match answer {
+            fri::Answer::Accepted => Answer::of_value(verdict.reads, NONE),
+            fri::Answer::Refused(cause) => Answer::of_cause(cause, verdict.reads),
         }
     }
 
@@ -191,4 +219,55 @@ pub extern "C" fn rz_fold(
         next_basis,
     );
     Answer::of_folded(folded).write(answer);
+}
+
+#[no_mangle]
+pub extern "C" fn rz_layer(
+    k: usize,
+    rate: usize,
+    step: usize,
+    store: &[u64],
+    i: usize,
+    answer: &mut [u64],
+)
+    ensures { λ _. ⌜ now (answer .exit) ≡ answered (answerOfPart (partOf (record { k = k; rate = rate; step = step }) (length (now (store .entry))) i)) (now (answer .entry)) ⌝ }
+{
+    if answer.len() != ANSWER_LENGTH {
+        return;
+    }
+    let parameters = Parameters { k, rate, step };
+    Answer::of_part(parameters.part(store.len(), i)).write(answer);
+}
+
+#[no_mangle]
+pub extern "C" fn rz_judge(
+    k: usize,
+    rate: usize,
+    step: usize,
+    offset: u64,
+    basis: &[u64],
+    challenges: &[u64],
+    queries: &[u64],
+    word: &[u64],
+    store: &[u64],
+    last: &[u64],
+    answer: &mut [u64],
+)
+    ensures { λ _. ⌜ now (answer .exit) ≡ answered (answerOfVerdict (verdictOf (runOf (record { k = k; rate = rate; step = step }) offset (now (basis .entry)) (now (challenges .entry)) (now (word .entry)) (now (store .entry)) (now (last .entry))) (now (queries .entry)))) (now (answer .entry)) ⌝ }
+{
+    if answer.len() != ANSWER_LENGTH {
+        return;
+    }
+    let parameters = Parameters { k, rate, step };
+    let verdict = judging::judge(
+        parameters,
+        Element(offset),
+        basis,
+        challenges,
+        queries,
+        word,
+        store,
+        last,
+    );
+    Answer::of_verdict(verdict).write(answer);
 }
