@@ -63,7 +63,7 @@ next-basis-requires c κs =
     let start = c .before .before .before .before .before .before in
     let twenty : length (start .args .self .basis) ≡ 20 = search needs in
     let whole = length-take-le (start .args .self .dimension) (start .args .self .basis) (omega (arith, twenty, start .pre .2)) in
-    (start .pre .0, omega (arith, whole, start .pre .1), omega (arith, whole, start .pre .2))
+    (omega (arith, start .pre .0), omega (arith, whole, start .pre .1), omega (arith, whole, start .pre .2))
 
 sub-t15 : tie.Need-sub-t15
 sub-t15 c = search needs
