@@ -1,0 +1,52 @@
+-- `prover::last_coefficients` meets its contract. Assumes nothing.
+use mathlib.Core.Path.{_≡_, sym}
+use native.Mathlib.Nat.{le-of-eq}
+use lib.Seq.{length-take-le}
+use lib.ListN.{length}
+use Rattle.prover.proofs.Last.{degree-told, coefficients-written}
+use borrow.Author.Needs.{needs}
+use native.Mathlib.Omega.{arith}
+use Rattle.prover.proofs.last_coefficients.Statement.{statement}
+use Rattle.prover.proofs.last_coefficients.Tie as tie
+
+degree-bound-requires : tie.Need-degree-bound-requires
+degree-bound-requires c κs = search needs
+
+sub-t6 : tie.Need-sub-t6
+sub-t6 c = search needs
+
+returns : tie.Need-returns
+returns c =
+    let a = c .before .before .before .before .args in
+    degree-told (a .interpolant .now) (a .last .now) (c .before .degree-bound .result) (c .before .degree-bound .ensures) (c .if1 .taken)
+
+slice-aggregate-copy : tie.Need-slice-aggregate-copy
+slice-aggregate-copy c =
+    let start = c .before .before .before .before .before in
+    sym (length-take-le (length (start .args .last .now)) (start .args .interpolant .now) (start .pre))
+
+copy-requires : tie.Need-copy-requires
+copy-requires c κs =
+    let start = c .before .before .before .before .before .before in
+    le-of-eq (length-take-le (length (start .args .last .now)) (start .args .interpolant .now) (start .pre))
+
+same-length : tie.Need-same-length
+same-length c = search needs
+
+returns-2 : tie.Need-returns-2
+returns-2 c =
+    let start = c .before .before .before .before .before .before .before .before .before in
+    let a = start .args in
+    coefficients-written (a .interpolant .now) (a .last .now) (c .before .before .before .before .before .before .degree-bound .result) (c .before .before .before .before .before .before .degree-bound .ensures) (c .before .before .before .before .before .if1 .left) (start .pre) (c .before .before .copy .last .1 .0) (c .before .before .copy .ensures)
+
+pub last-coefficients-spec : {M : Type 1} → statement M
+last-coefficients-spec =
+    tie.close
+    (tie.spec
+    degree-bound-requires
+    sub-t6
+    returns
+    slice-aggregate-copy
+    copy-requires
+    same-length
+    returns-2)
