@@ -1,1 +1,3 @@
 mod Last
+mod Stored
+mod Rounds

@@ -6,12 +6,64 @@ use refusal::Cause;
 use refusal::Outcome;
 ghost use mathlib.Core.Path.{_≡_};
 ghost use mathlib.Core.List.{_++_};
-ghost use Prim.Native.Nat.{_+_, _-_, _^_, _≤_};
+ghost use Prim.Native.Nat.{suc, _+_, _-_, _^_, _≤_};
 ghost use lib.ListN.{length, take};
 ghost use Rattle.coset.specs.Span.{Independent};
 ghost use Rattle.fold.specs.Fold.{folded};
-ghost use Rattle.layers.specs.Cosets.{cosetOf, basisOf};
+ghost use Rattle.fri.specs.Layout.{dimension, layerStart, storeLength};
+ghost use Rattle.fri.specs.Run.{roundsIn};
+ghost use Rattle.fri.specs.Layers.{honestStore};
+ghost use Rattle.layers.specs.Parameters.{stepsBy, Valid};
+ghost use Rattle.layers.specs.Cosets.{basisOf};
 ghost use Rattle.prover.specs.Last.{lastOutcome, lastCoefficients};
+ghost use Rattle.prover.specs.Input.{inputOf, Passed, cosetIn, layerFrom};
+
+// Layers 1 to r - 1 into the store, each folded from the one before it. The answer is the coset of layer r - 1.
+fn fill_store(
+    parameters: Parameters,
+    offset: Element,
+    basis: &[u64],
+    challenges: &[u64],
+    word: &[u64],
+    store: &mut [u64],
+) -> LayerCoset
+    requires { ⌜ Passed (inputOf parameters (offset .0) (now basis) (now challenges) (now word)) (length (now store)) ⌝ }
+    ensures answer { λ r. ⌜ r ≡ cosetIn (inputOf parameters (offset .0) (now (basis .entry)) (now (challenges .entry)) (now (word .entry))) (length (stepsBy parameters) - 1) ⌝ }
+    ensures store { λ _. ⌜ now (store .exit) ≡ honestStore (inputOf parameters (offset .0) (now (basis .entry)) (now (challenges .entry)) (now (word .entry))) ⌝ }
+{
+    let rounds = parameters.rounds();
+    let mut coset = LayerCoset::first(offset, basis);
+    let mut i: usize = 0;
+    while i + 1 < rounds {
+        fold_round(parameters, coset, i, Element(challenges[i]), word, store);
+        coset = coset.next(parameters.step);
+        i += 1;
+    }
+    coset
+}
+
+// Folds layer i, the word or a layer of the store, into layer i + 1 of the store.
+fn fold_round(
+    parameters: Parameters,
+    coset: LayerCoset,
+    i: usize,
+    challenge: Element,
+    word: &[u64],
+    store: &mut [u64],
+)
+    requires { ⌜ Valid parameters × (i + 2 ≤ length (stepsBy parameters)) × (coset .dimension ≡ dimension (parameters .k) (stepsBy parameters) i)
+        × Independent (basisOf coset) × (length (now word) ≡ 2 ^ (parameters .k))
+        × (length (now store) ≡ storeLength (parameters .k) (stepsBy parameters)) ⌝ }
+    ensures { λ _. ⌜ take (layerStart (parameters .k) (stepsBy parameters) (suc (suc i))) (now (store .exit)) ≡ take (layerStart (parameters .k) (stepsBy parameters) (suc i)) (now (store .entry)) ++ folded (parameters .step) (coset .offset .0) (basisOf coset) (layerFrom parameters (now (word .entry)) (now (store .entry)) i) (challenge .0) ⌝ }
+{
+    let end = parameters.layer_start(i + 2);
+    if i == 0 {
+        fold_layer(coset, parameters.step, challenge, word, &mut store[..end]);
+        return;
+    }
+    let start = parameters.layer_start(i);
+    fold_behind(coset, parameters.step, challenge, &mut store[start..end]);
+}
 
 // Folds a layer into the next one.
 fn fold_layer(coset: LayerCoset, step: usize, challenge: Element, layer: &[u64], next: &mut [u64])
