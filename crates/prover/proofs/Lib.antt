@@ -1,3 +1,4 @@
 mod Last
 mod Stored
 mod Rounds
+mod Input

@@ -55,11 +55,13 @@ module _ (p : Parameters) (offset : ℕ) (basis challenges word : List ℕ) wher
   pub coset-first : cosetOf offset basis ≡ cosetIn run 0
   coset-first = sym (ap₂ (λ (o : ℕ) (l : List ℕ). cosetOf o l) (first-coset run .0) (first-coset run .1))
 
+  pub coset-basis : (i : ℕ) (coset : LayerCoset) → coset ≡ cosetIn run i → basisOf coset ≡ basisIn run i
+  coset-basis i coset e = ap basisOf e ∙ basisOf-coset (offsetIn run i) (basisIn run i)
+
   pub coset-next : (i : ℕ) → i < length (stepsBy p) → (coset : LayerCoset) → coset ≡ cosetIn run i
       → cosetOf (nextOffset (p .step) (coset .offset .0) (basisOf coset)) (nextBasis (p .step) (basisOf coset)) ≡ cosetIn run (suc i)
   coset-next i h coset e =
-      ap (λ (s : LayerCoset). cosetOf (nextOffset (p .step) (s .offset .0) (basisOf s)) (nextBasis (p .step) (basisOf s))) e
-      ∙ ap (λ (l : List ℕ). cosetOf (nextOffset (p .step) (offsetIn run i) l) (nextBasis (p .step) l)) (basisOf-coset (offsetIn run i) (basisIn run i))
+      ap₂ (λ (o : ℕ) (l : List ℕ). cosetOf (nextOffset (p .step) o l) (nextBasis (p .step) l)) (ap (λ (s : LayerCoset). s .offset .0) e) (coset-basis i coset e)
       ∙ ap₂ (λ (o : ℕ) (l : List ℕ). cosetOf o l) (offset-next p offset basis i h) (basis-next p offset basis i h)
 
   -- layers joined one by one
@@ -79,8 +81,7 @@ module _ (p : Parameters) (offset : ℕ) (basis challenges word : List ℕ) wher
   pub honest-folded : (i : ℕ) → i < length (stepsBy p) → (coset : LayerCoset) → coset ≡ cosetIn run i
       → folded (p .step) (coset .offset .0) (basisOf coset) (honestLayer run i) (getD challenges i 0) ≡ honestLayer run (suc i)
   honest-folded i h coset e =
-      ap (λ (s : LayerCoset). folded (p .step) (s .offset .0) (basisOf s) (honestLayer run i) (getD challenges i 0)) e
-      ∙ ap (λ (l : List ℕ). folded (p .step) (offsetIn run i) l (honestLayer run i) (getD challenges i 0)) (basisOf-coset (offsetIn run i) (basisIn run i))
+      ap₂ (λ (o : ℕ) (l : List ℕ). folded (p .step) o l (honestLayer run i) (getD challenges i 0)) (ap (λ (s : LayerCoset). s .offset .0) e) (coset-basis i coset e)
       ∙ sym (honest-run .folds run i (honestLayer run i) h) ∙ sym (honest-run .next run i)
 
   module _ (v : ValidCoset run) (whole : length word ≡ 2 ^ p .k) where
@@ -88,8 +89,7 @@ module _ (p : Parameters) (offset : ℕ) (basis challenges word : List ℕ) wher
     coset-dimension i coset e = ap (λ (s : LayerCoset). s .dimension) e ∙ length-layerBasis run v i
 
     pub coset-independent : (i : ℕ) (coset : LayerCoset) → coset ≡ cosetIn run i → Independent (basisOf coset)
-    coset-independent i coset e =
-        subst Independent (sym (ap basisOf e ∙ basisOf-coset (offsetIn run i) (basisIn run i))) (layerBasis-independent run v i)
+    coset-independent i coset e = subst Independent (sym (coset-basis i coset e)) (layerBasis-independent run v i)
 
     -- a layer that is joined is the one that word and store have
     pub layer-found : (i : ℕ) (store : List ℕ) → layerStart (p .k) (stepsBy p) (suc i) ≤ length store → take (layerStart (p .k) (stepsBy p) (suc i)) store ≡ honestJoined run i
@@ -103,6 +103,15 @@ module _ (p : Parameters) (offset : ℕ) (basis challenges word : List ℕ) wher
         sym (drop-at (take start store) (take size (drop start store)) start (length-take-le start store (omega (arith, h, after))))
         ∙ ap (drop start) (sym (take-add start size store) ∙ ap (λ (n : ℕ). take n store) (sym after) ∙ e ∙ sym (joined-next i))
         ∙ drop-at (honestJoined run i) (honestLayer run (suc i)) start (length-joined run v whole i)
+
+    -- the honest store holds layer r - 1, where the word is not that layer
+    pub last-found : (store : List ℕ) → store ≡ honestStore run → length store ≡ storeLength (p .k) (stepsBy p)
+        → layerFrom p word store (length (stepsBy p) - 1) ≡ honestLayer run (length (stepsBy p) - 1)
+    last-found store e fits =
+        let whole-rounds : suc (length (stepsBy p) - 1) ≡ length (stepsBy p) = omega (arith, one-round p (v .parameters)) in
+        let ends : layerStart (p .k) (stepsBy p) (suc (length (stepsBy p) - 1)) ≡ length store = ap (layerStart (p .k) (stepsBy p)) whole-rounds ∙ storeLength-is (p .k) (stepsBy p) ∙ sym fits in
+        layer-found (length (stepsBy p) - 1) store (le-of-eq ends)
+        (take-all (layerStart (p .k) (stepsBy p) (suc (length (stepsBy p) - 1))) store (le-of-eq (sym ends)) ∙ e ∙ sym store-is)
 
     -- one more layer in the store
     pub round-joined : (i : ℕ) → i < length (stepsBy p) → (coset : LayerCoset) → coset ≡ cosetIn run i → (store store′ : List ℕ)

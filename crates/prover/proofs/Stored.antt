@@ -2,9 +2,10 @@
 use mathlib.Core.Path.{_≡_, refl, sym, ap, ap₂, _∙_, subst}
 use mathlib.Core.List.{List, [], _++_, append-assoc}
 use Prim.Native.Nat.{ℕ, zero, suc, _+_, _-_, _^_, _≤_, _<_}
+use native.Mathlib.Nat.{le-of-eq}
 use native.Mathlib.Omega.{arith}
 use lib.ListN.{length, take, drop, length-append, length-drop}
-use lib.Seq.{length-take-le, take-take, take-add, take-at}
+use lib.Seq.{length-take-le, take-all, take-take, take-add, take-at}
 use borrow.Rule.Slice.PartMut.{midOf, putMid, postOf}
 use Rattle.fri.specs.Layout.{dimension, layerStart, storeLength, storedLayer}
 use Rattle.fri.specs.Run.{layerIn}
@@ -12,6 +13,7 @@ use Rattle.fri.proofs.Layouts.{start-next, layer-before, step-of-round}
 use Rattle.layers.specs.declared.Parameters.{Parameters}
 use Rattle.layers.specs.Parameters.{stepsBy, runOf}
 use Rattle.layers.proofs.Sizes.{start-of-first, storeLength-is}
+use Rattle.poly.proofs.Parts.{mid-suffix}
 use Rattle.prover.specs.Input.{layerFrom}
 
 -- a part whose front is kept and whose rest is rewritten
@@ -41,7 +43,7 @@ module _ (p : Parameters) where
   unfolding dimension
   dimension-next i h = ap (λ (s : ℕ). dimension (p .k) (stepsBy p) i - s) (step-of-round (p .k) (p .rate) (p .step) i h)
 
-  layer-first : (word store : List ℕ) → word ≡ layerFrom p word store 0
+  pub layer-first : (word store : List ℕ) → word ≡ layerFrom p word store 0
   unfolding layerIn
   layer-first word store = refl
 
@@ -87,3 +89,23 @@ module _ (p : Parameters) where
         ∙ ap (λ (l : List ℕ). take end (putMid start (end - start) store l)) (w ∙ ap (λ (l : List ℕ). take size (midOf start (end - start) store) ++ fold l) kept)
         ∙ part-rewritten start size end store (fold layer) ends h
         ∙ ap₂ (λ (n : ℕ) (l : List ℕ). take n store ++ fold l) after (ap (λ (n : ℕ). take size (drop n store)) s ∙ layer-stored word store i least)
+
+  -- layer r - 1, where there is more than one round, is what the store ends with
+  module _ (word store : List ℕ) (i start : ℕ) (least : 1 ≤ i) (last : suc i ≡ length (stepsBy p)) (begins : start ≡ layerStart (p .k) (stepsBy p) i)
+      (fits : length store ≡ storeLength (p .k) (stepsBy p)) where
+    ends : length store ≡ start + 2 ^ dimension (p .k) (stepsBy p) i
+    ends =
+        fits ∙ sym (storeLength-is (p .k) (stepsBy p)) ∙ ap (layerStart (p .k) (stepsBy p)) (sym last) ∙ start-next (p .k) (stepsBy p) i least
+        ∙ ap (λ (n : ℕ). n + 2 ^ dimension (p .k) (stepsBy p) i) (sym begins)
+
+    pub last-begins : start ≤ length store
+    last-begins = omega (arith, ends)
+
+    pub length-last : length (midOf start (length store - start) store) ≡ 2 ^ dimension (p .k) (stepsBy p) i
+    length-last = ap length (mid-suffix start store) ∙ length-drop start store ∙ omega (arith, ends)
+
+    pub last-stored : midOf start (length store - start) store ≡ layerFrom p word store i
+    last-stored =
+        mid-suffix start store
+        ∙ sym (take-all (2 ^ dimension (p .k) (stepsBy p) i) (drop start store) (le-of-eq (length-drop start store ∙ omega (arith, ends))))
+        ∙ ap (λ (n : ℕ). take (2 ^ dimension (p .k) (stepsBy p) i) (drop n store)) begins ∙ layer-stored word store i least

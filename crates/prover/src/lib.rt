@@ -11,12 +11,147 @@ ghost use lib.ListN.{length, take};
 ghost use Rattle.coset.specs.Span.{Independent};
 ghost use Rattle.fold.specs.Fold.{folded};
 ghost use Rattle.fri.specs.Layout.{dimension, layerStart, storeLength};
-ghost use Rattle.fri.specs.Run.{roundsIn};
-ghost use Rattle.fri.specs.Layers.{honestStore};
-ghost use Rattle.layers.specs.Parameters.{stepsBy, Valid};
+ghost use Rattle.refusal.specs.declared.Outcome.the-variants as outcomes;
+ghost use Rattle.refusal.specs.Checks.{afterwards};
+ghost use Rattle.fri.specs.Layers.{honestLayer, honestStore, honestLast};
+ghost use Rattle.fri.specs.Checks.{runOutcome};
+ghost use Rattle.fri.specs.Prover.{degreeOutcome, proveOutcome, storeAfter, lastAfter};
+ghost use Rattle.layers.specs.Parameters.{stepsBy, Valid, runOf};
 ghost use Rattle.layers.specs.Cosets.{basisOf};
 ghost use Rattle.prover.specs.Last.{lastOutcome, lastCoefficients};
 ghost use Rattle.prover.specs.Input.{inputOf, Passed, cosetIn, layerFrom};
+
+// The honest proof of a word at its challenges: layers 1 to r - 1, joined, into the store, and the coefficients of layer r into `last`.
+// Refused, in this order: k, R or η out of range, or k too small for them (4, 5, 6, 7); a list whose length is not the one due, the lowest
+// of 1 to 5 (13); a dependent basis (8); a dependent basis of a later layer (16), which no basis has that comes so far. These refusals
+// leave both lists as they were. Then a layer r whose degree is not below the number of last coefficients (12), with that degree: the
+// store holds the layers, and `last` what it held.
+pub fn prove(
+    parameters: Parameters,
+    offset: Element,
+    basis: &[u64],
+    challenges: &[u64],
+    word: &[u64],
+    store: &mut [u64],
+    last: &mut [u64],
+) -> Outcome
+    ensures answer { λ r. ⌜ r ≡ proveOutcome (runOf parameters (offset .0) (now (basis .entry)) (now (challenges .entry)) (now (word .entry)) (now (store .entry)) (now (last .entry))) ⌝ }
+    ensures store { λ _. ⌜ now (store .exit) ≡ storeAfter (runOf parameters (offset .0) (now (basis .entry)) (now (challenges .entry)) (now (word .entry)) (now (store .entry)) (now (last .entry))) ⌝ }
+    ensures last { λ _. ⌜ now (last .exit) ≡ lastAfter (runOf parameters (offset .0) (now (basis .entry)) (now (challenges .entry)) (now (word .entry)) (now (store .entry)) (now (last .entry))) ⌝ }
+{
+    let outcome = layers::checked(
+        parameters,
+        offset,
+        basis,
+        challenges,
+        word,
+        &store[..],
+        &last[..],
+    );
+    match outcome {
+        Outcome::Done => prove_checked(parameters, offset, basis, challenges, word, store, last),
+        Outcome::Refused(cause) => Outcome::Refused(cause),
+    }
+}
+
+// The prover after the checks.
+fn prove_checked(
+    parameters: Parameters,
+    offset: Element,
+    basis: &[u64],
+    challenges: &[u64],
+    word: &[u64],
+    store: &mut [u64],
+    last: &mut [u64],
+) -> Outcome
+    requires { ⌜ runOutcome (runOf parameters (offset .0) (now basis) (now challenges) (now word) (now store) (now last)) ≡ outcomes.Done ⌝ }
+    ensures answer { λ r. ⌜ r ≡ degreeOutcome (runOf parameters (offset .0) (now (basis .entry)) (now (challenges .entry)) (now (word .entry)) (now (store .entry)) (now (last .entry))) ⌝ }
+    ensures store { λ _. ⌜ now (store .exit) ≡ honestStore (runOf parameters (offset .0) (now (basis .entry)) (now (challenges .entry)) (now (word .entry)) (now (store .entry)) (now (last .entry))) ⌝ }
+    ensures last { λ _. ⌜ now (last .exit) ≡ afterwards (degreeOutcome (runOf parameters (offset .0) (now (basis .entry)) (now (challenges .entry)) (now (word .entry)) (now (store .entry)) (now (last .entry)))) (honestLast (runOf parameters (offset .0) (now (basis .entry)) (now (challenges .entry)) (now (word .entry)) (now (store .entry)) (now (last .entry)))) (now (last .entry)) ⌝ }
+{
+    let mut room = [0u64; 256];
+    let size: usize = 1 << parameters.dimension(parameters.rounds());
+    prove_in(
+        parameters,
+        offset,
+        basis,
+        challenges,
+        word,
+        store,
+        last,
+        &mut room[..size],
+    )
+}
+
+// The same with room for layer r, whose coefficients take the place of its values.
+fn prove_in(
+    parameters: Parameters,
+    offset: Element,
+    basis: &[u64],
+    challenges: &[u64],
+    word: &[u64],
+    store: &mut [u64],
+    last: &mut [u64],
+    room: &mut [u64],
+) -> Outcome
+    requires { ⌜ (runOutcome (runOf parameters (offset .0) (now basis) (now challenges) (now word) (now store) (now last)) ≡ outcomes.Done)
+        × (length (now room) ≡ 2 ^ dimension (parameters .k) (stepsBy parameters) (length (stepsBy parameters))) ⌝ }
+    ensures answer { λ r. ⌜ r ≡ degreeOutcome (runOf parameters (offset .0) (now (basis .entry)) (now (challenges .entry)) (now (word .entry)) (now (store .entry)) (now (last .entry))) ⌝ }
+    ensures store { λ _. ⌜ now (store .exit) ≡ honestStore (runOf parameters (offset .0) (now (basis .entry)) (now (challenges .entry)) (now (word .entry)) (now (store .entry)) (now (last .entry))) ⌝ }
+    ensures last { λ _. ⌜ now (last .exit) ≡ afterwards (degreeOutcome (runOf parameters (offset .0) (now (basis .entry)) (now (challenges .entry)) (now (word .entry)) (now (store .entry)) (now (last .entry)))) (honestLast (runOf parameters (offset .0) (now (basis .entry)) (now (challenges .entry)) (now (word .entry)) (now (store .entry)) (now (last .entry)))) (now (last .entry)) ⌝ }
+{
+    let coset = fold_layers(parameters, offset, basis, challenges, word, store, room);
+    let elements = coset.basis;
+    let dimension = coset.dimension;
+    reed_solomon::interpolate_in_place(coset.offset, &elements[..dimension], room);
+    last_coefficients(&room[..], last)
+}
+
+// All layers: 1 to r - 1 into the store, layer r into a list of its own. The answer is the coset of layer r.
+fn fold_layers(
+    parameters: Parameters,
+    offset: Element,
+    basis: &[u64],
+    challenges: &[u64],
+    word: &[u64],
+    store: &mut [u64],
+    next: &mut [u64],
+) -> LayerCoset
+    requires { ⌜ Passed (inputOf parameters (offset .0) (now basis) (now challenges) (now word)) (length (now store))
+        × (length (now next) ≡ 2 ^ dimension (parameters .k) (stepsBy parameters) (length (stepsBy parameters))) ⌝ }
+    ensures answer { λ r. ⌜ r ≡ cosetIn (inputOf parameters (offset .0) (now (basis .entry)) (now (challenges .entry)) (now (word .entry))) (length (stepsBy parameters)) ⌝ }
+    ensures store { λ _. ⌜ now (store .exit) ≡ honestStore (inputOf parameters (offset .0) (now (basis .entry)) (now (challenges .entry)) (now (word .entry))) ⌝ }
+    ensures next { λ _. ⌜ now (next .exit) ≡ honestLayer (inputOf parameters (offset .0) (now (basis .entry)) (now (challenges .entry)) (now (word .entry))) (length (stepsBy parameters)) ⌝ }
+{
+    let coset = fill_store(parameters, offset, basis, challenges, word, store);
+    let challenge = Element(challenges[challenges.len() - 1]);
+    fold_last(parameters, coset, challenge, word, &store[..], next);
+    coset.next(parameters.step)
+}
+
+// Folds layer r - 1, the word or the last one of the store, into layer r.
+fn fold_last(
+    parameters: Parameters,
+    coset: LayerCoset,
+    challenge: Element,
+    word: &[u64],
+    store: &[u64],
+    next: &mut [u64],
+)
+    requires { ⌜ Valid parameters × (coset .dimension ≡ dimension (parameters .k) (stepsBy parameters) (length (stepsBy parameters) - 1))
+        × Independent (basisOf coset) × (length (now word) ≡ 2 ^ (parameters .k))
+        × (length (now store) ≡ storeLength (parameters .k) (stepsBy parameters))
+        × (length (now next) ≡ 2 ^ dimension (parameters .k) (stepsBy parameters) (length (stepsBy parameters))) ⌝ }
+    ensures { λ _. ⌜ now (next .exit) ≡ folded (parameters .step) (coset .offset .0) (basisOf coset) (layerFrom parameters (now (word .entry)) (now (store .entry)) (length (stepsBy parameters) - 1)) (challenge .0) ⌝ }
+{
+    let i = parameters.rounds() - 1;
+    if i == 0 {
+        fold_layer(coset, parameters.step, challenge, word, next);
+        return;
+    }
+    let start = parameters.layer_start(i);
+    fold_layer(coset, parameters.step, challenge, &store[start..], next);
+}
 
 // Layers 1 to r - 1 into the store, each folded from the one before it. The answer is the coset of layer r - 1.
 fn fill_store(

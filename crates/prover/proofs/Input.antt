@@ -1,0 +1,103 @@
+-- The run of a call and the prover's input: the checks of the one are what is known of the other, and their honest layers are the same. Assumes
+-- nothing.
+use mathlib.Core.Path.{_≡_, refl, sym, ap, ap₂, _∙_, subst}
+use mathlib.Core.Bool.{Bool, true, false}
+use mathlib.Core.List.{List, _++_}
+use Prim.Native.Nat.{ℕ, zero, suc, _-_, _^_, _≤_}
+use native.Mathlib.Nat.{le-trans, le-of-eq}
+use native.Mathlib.Omega.{arith}
+use lib.Dec.{leb}
+use lib.Pow.{pow-mono}
+use lib.ListN.{length, take}
+use borrow.Author.Tests.{leb-false}
+use Rattle.refusal.specs.declared.Outcome.{Outcome}
+use Rattle.refusal.specs.declared.Outcome.the-variants.{Done}
+use Rattle.refusal.specs.Checks.{afterwards}
+use Rattle.refusal.proofs.Checks.{le-of-test}
+use Rattle.reed_solomon.specs.Codes.{interpolated}
+use Rattle.fri.specs.Layout.{dimension, lastCount}
+use Rattle.fri.specs.Run.{Run, stepsIn}
+use Rattle.fri.specs.Layers.{basisIn, offsetIn, foldOf, honestLayer, honestJoined, honestStore, lastInterpolant, honestLast}
+use Rattle.fri.specs.Checks.{runOutcome}
+use Rattle.fri.specs.Prover.{degreeOutcome}
+use Rattle.fri.proofs.Checks.{run-valid}
+use Rattle.fri.proofs.Layouts.{length-steps}
+use Rattle.fri.proofs.Layers.{layouts}
+use Rattle.layers.specs.declared.Parameters.{Parameters}
+use Rattle.layers.specs.Parameters.{stepsBy, Valid, runOf}
+use Rattle.layers.proofs.Sizes.{lastCount-is}
+use Rattle.prover.specs.Last.{lastOutcome, lastCoefficients}
+use Rattle.prover.specs.Input.{inputOf, Passed}
+
+-- ---- layer r is small
+
+pub last-size : (p : Parameters) → Valid p → 2 ^ dimension (p .k) (stepsBy p) (length (stepsBy p)) ≤ 256
+last-size p v =
+    subst (λ (r : ℕ). 2 ^ dimension (p .k) (stepsBy p) r ≤ 256) (sym (length-steps (p .k) (p .rate) (p .step))) (layouts .few-points (p .k) (p .rate) (p .step) v)
+
+small-of-size : (n : ℕ) (test : Bool) → leb n 12 ≡ test → 2 ^ n ≤ 256 → n ≤ 12
+small-of-size n true e h = le-of-test n 12 e
+small-of-size n false e h = absurd (omega (arith, h, pow-mono {i = 13} {j = n} (leb-false n 12 e)))
+
+pub last-small : (p : Parameters) → Valid p → dimension (p .k) (stepsBy p) (length (stepsBy p)) ≤ 12
+last-small p v = let n = dimension (p .k) (stepsBy p) (length (stepsBy p)) in small-of-size n (leb n 12) refl (last-size p v)
+
+-- there are no more last coefficients than layer r has entries
+pub coefficients-fit : (p : Parameters) → lastCount (p .k) (p .rate) (stepsBy p) ≤ 2 ^ dimension (p .k) (stepsBy p) (length (stepsBy p))
+coefficients-fit p =
+    let n = dimension (p .k) (stepsBy p) (length (stepsBy p)) in
+    le-trans (le-of-eq (sym (lastCount-is (p .k) (p .rate) (stepsBy p)))) (pow-mono {i = n - p .rate} {j = n} (omega arith))
+
+-- ---- the two runs
+
+module _ (p : Parameters) (offset : ℕ) (basis challenges word store last : List ℕ) where
+  abbrev called : Run
+  called = runOf p offset basis challenges word store last
+
+  abbrev given : Run
+  given = inputOf p offset basis challenges word
+
+  module _ (done : runOutcome called ≡ Done) where
+    pub input-passed : Passed given (length store)
+    input-passed =
+        let facts = run-valid called done in
+        record {
+          parameters = facts .0;
+          basis = facts .1 .basis;
+          challenges = facts .1 .challenges;
+          word = facts .1 .word;
+          store = facts .1 .store;
+          independent = facts .2;
+        }
+
+    pub last-counted : length last ≡ lastCount (p .k) (p .rate) (stepsBy p)
+    last-counted = run-valid called done .1 .last
+
+  same-layer : (i : ℕ) → honestLayer given i ≡ honestLayer called i
+  unfolding honestLayer foldOf
+  same-layer zero = refl
+  same-layer (suc i) = ap (foldOf called i) (same-layer i)
+
+  same-joined : (n : ℕ) → honestJoined given n ≡ honestJoined called n
+  unfolding honestJoined
+  same-joined zero = refl
+  same-joined (suc n) = ap₂ {B = List ℕ} (λ (front layer : List ℕ). front ++ layer) (same-joined n) (same-layer (suc n))
+
+  pub same-store : honestStore given ≡ honestStore called
+  unfolding honestStore
+  same-store = same-joined (length (stepsBy p) - 1)
+
+  pub same-interpolant : interpolated (offsetIn given (length (stepsBy p))) (basisIn given (length (stepsBy p))) (honestLayer given (length (stepsBy p))) ≡ lastInterpolant called
+  unfolding lastInterpolant
+  same-interpolant =
+      ap (interpolated (offsetIn called (length (stepsBy p))) (basisIn called (length (stepsBy p)))) (same-layer (length (stepsBy p)))
+
+  -- the degree check of a run is that of its interpolant
+  module _ (interpolant : List ℕ) (is : interpolant ≡ lastInterpolant called) (counted : length last ≡ lastCount (p .k) (p .rate) (stepsBy p)) where
+    pub degree-answered : lastOutcome interpolant (length last) ≡ degreeOutcome called
+    degree-answered = ap₂ lastOutcome is counted
+
+    pub degree-holds : lastCoefficients interpolant last ≡ afterwards (degreeOutcome called) (honestLast called) last
+    unfolding honestLast
+    degree-holds =
+        ap₂ (λ (o : Outcome) (l : List ℕ). afterwards o l last) degree-answered (ap₂ (λ (n : ℕ) (l : List ℕ). take n l) counted is)
