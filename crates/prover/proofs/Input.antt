@@ -1,6 +1,6 @@
 -- The run of a call and the prover's input: the checks of the one are what is known of the other, and their honest layers are the same. Assumes
 -- nothing.
-use mathlib.Core.Path.{_≡_, refl, sym, ap, ap₂, _∙_, subst}
+use mathlib.Core.Path.{_≡_, refl, sym, ap, ap₂, subst}
 use mathlib.Core.Bool.{Bool, true, false}
 use mathlib.Core.List.{List, _++_}
 use Prim.Native.Nat.{ℕ, zero, suc, _-_, _^_, _≤_}
@@ -10,21 +10,24 @@ use lib.Dec.{leb}
 use lib.Pow.{pow-mono}
 use lib.ListN.{length, take}
 use borrow.Author.Tests.{leb-false}
+use Rattle.gf64.specs.Field.{IsElement}
+use Rattle.poly.specs.Polynomial.{All}
 use Rattle.refusal.specs.declared.Outcome.{Outcome}
 use Rattle.refusal.specs.declared.Outcome.the-variants.{Done}
 use Rattle.refusal.specs.Checks.{afterwards}
 use Rattle.refusal.proofs.Checks.{le-of-test}
 use Rattle.reed_solomon.specs.Codes.{interpolated}
 use Rattle.fri.specs.Layout.{dimension, lastCount}
-use Rattle.fri.specs.Run.{Run, stepsIn}
+use Rattle.fri.specs.Run.{Run, stepsIn, roundsIn}
 use Rattle.fri.specs.Layers.{basisIn, offsetIn, foldOf, honestLayer, honestJoined, honestStore, lastInterpolant, honestLast}
 use Rattle.fri.specs.Checks.{runOutcome}
 use Rattle.fri.specs.Prover.{degreeOutcome}
+use Rattle.fri.specs.Demand.{ValidCoset}
 use Rattle.fri.proofs.Checks.{run-valid}
 use Rattle.fri.proofs.Layouts.{length-steps}
 use Rattle.fri.proofs.Layers.{layouts}
 use Rattle.layers.specs.declared.Parameters.{Parameters}
-use Rattle.layers.specs.Parameters.{stepsBy, Valid, runOf}
+use Rattle.layers.specs.Parameters.{stepsBy, Valid}
 use Rattle.layers.proofs.Sizes.{lastCount-is}
 use Rattle.prover.specs.Last.{lastOutcome, lastCoefficients}
 use Rattle.prover.specs.Input.{inputOf, Passed}
@@ -50,15 +53,34 @@ coefficients-fit p =
 
 -- ---- the two runs
 
-module _ (p : Parameters) (offset : ℕ) (basis challenges word store last : List ℕ) where
-  abbrev called : Run
-  called = runOf p offset basis challenges word store last
+-- any offset and a basis that passed are a coset
+pub valid-input : (p : Parameters) (offset offset′ : ℕ) (basis challenges word : List ℕ) (stored : ℕ) → Passed (inputOf p offset basis challenges word) stored
+    → IsElement offset′ → All IsElement basis → ValidCoset (inputOf p offset′ basis challenges word)
+valid-input p offset offset′ basis challenges word stored passed o b =
+    record {
+      parameters = passed .parameters;
+      offset-element = o;
+      basis-elements = b;
+      basis-count = passed .basis;
+      independent = passed .independent;
+    }
 
+-- the prover's input
+abbrev pub inputIn : Run → Run
+inputIn run = inputOf (record { k = run .k; rate = run .rate; step = run .step }) (run .offset) (run .basis) (run .challenges) (run .word)
+
+module _ (called : Run) where
   abbrev given : Run
-  given = inputOf p offset basis challenges word
+  given = inputIn called
+
+  abbrev d : ℕ
+  d = lastCount (called .k) (called .rate) (stepsIn called)
+
+  abbrev r : ℕ
+  r = roundsIn called
 
   module _ (done : runOutcome called ≡ Done) where
-    pub input-passed : Passed given (length store)
+    pub input-passed : Passed given (length (called .store))
     input-passed =
         let facts = run-valid called done in
         record {
@@ -70,7 +92,7 @@ module _ (p : Parameters) (offset : ℕ) (basis challenges word store last : Lis
           independent = facts .2;
         }
 
-    pub last-counted : length last ≡ lastCount (p .k) (p .rate) (stepsBy p)
+    pub last-counted : length (called .last) ≡ d
     last-counted = run-valid called done .1 .last
 
   same-layer : (i : ℕ) → honestLayer given i ≡ honestLayer called i
@@ -85,19 +107,18 @@ module _ (p : Parameters) (offset : ℕ) (basis challenges word store last : Lis
 
   pub same-store : honestStore given ≡ honestStore called
   unfolding honestStore
-  same-store = same-joined (length (stepsBy p) - 1)
+  same-store = same-joined (r - 1)
 
-  pub same-interpolant : interpolated (offsetIn given (length (stepsBy p))) (basisIn given (length (stepsBy p))) (honestLayer given (length (stepsBy p))) ≡ lastInterpolant called
+  pub same-interpolant : interpolated (offsetIn given r) (basisIn given r) (honestLayer given r) ≡ lastInterpolant called
   unfolding lastInterpolant
-  same-interpolant =
-      ap (interpolated (offsetIn called (length (stepsBy p))) (basisIn called (length (stepsBy p)))) (same-layer (length (stepsBy p)))
+  same-interpolant = ap (interpolated (offsetIn called r) (basisIn called r)) (same-layer r)
 
   -- the degree check of a run is that of its interpolant
-  module _ (interpolant : List ℕ) (is : interpolant ≡ lastInterpolant called) (counted : length last ≡ lastCount (p .k) (p .rate) (stepsBy p)) where
-    pub degree-answered : lastOutcome interpolant (length last) ≡ degreeOutcome called
+  module _ (interpolant : List ℕ) (is : interpolant ≡ lastInterpolant called) (counted : length (called .last) ≡ d) where
+    pub degree-answered : lastOutcome interpolant (length (called .last)) ≡ degreeOutcome called
     degree-answered = ap₂ lastOutcome is counted
 
-    pub degree-holds : lastCoefficients interpolant last ≡ afterwards (degreeOutcome called) (honestLast called) last
+    pub degree-holds : lastCoefficients interpolant (called .last) ≡ afterwards (degreeOutcome called) (honestLast called) (called .last)
     unfolding honestLast
     degree-holds =
-        ap₂ (λ (o : Outcome) (l : List ℕ). afterwards o l last) degree-answered (ap₂ (λ (n : ℕ) (l : List ℕ). take n l) counted is)
+        ap₂ (λ (o : Outcome) (l : List ℕ). afterwards o l (called .last)) degree-answered (ap₂ (λ (n : ℕ) (l : List ℕ). take n l) counted is)

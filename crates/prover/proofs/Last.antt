@@ -4,7 +4,8 @@ use mathlib.Core.List.{List, _++_}
 use Prim.Native.Nat.{ℕ, _-_, _≤_, _<_}
 use native.Mathlib.Nat.{le-of-eq}
 use lib.Dec.{leb}
-use lib.ListN.{length, take, drop}
+use native.Mathlib.Omega.{arith}
+use lib.ListN.{length, take, drop, length-take}
 use lib.Seq.{length-take-le}
 use borrow.Author.Tests.{le-leb, lt-leb}
 use Rattle.poly.specs.Degree.{degreeBound}
@@ -13,6 +14,9 @@ use Rattle.refusal.specs.declared.Cause.the-variants.{DegreeTooLarge}
 use Rattle.refusal.specs.declared.Outcome.the-variants.{Done, Refused}
 use Rattle.refusal.proofs.Checks.{passed-by, refused-by, done-holds, refused-holds}
 use Rattle.prover.specs.Last.{lastOutcome, lastCoefficients}
+
+pub taken-fit : (n : ℕ) (xs : List ℕ) (most : ℕ) → n ≤ most → length (take n xs) ≤ most
+taken-fit n xs most h = omega (arith, h, length-take n xs)
 
 module _ (interpolant held : List ℕ) (bound : ℕ) (is : bound ≡ degreeBound interpolant) where
   pub degree-told : length held < bound

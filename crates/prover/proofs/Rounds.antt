@@ -1,133 +1,125 @@
 -- The rounds of a prover over the honest layers. Assumes nothing.
 use mathlib.Core.Path.{_≡_, refl, sym, ap, ap₂, _∙_, subst}
-use mathlib.Core.List.{List, [], _++_}
-use Prim.Native.Nat.{ℕ, zero, suc, _+_, _-_, _^_, _≤_, _<_}
+use mathlib.Core.List.{List, _++_}
+use Prim.Native.Nat.{ℕ, zero, suc, _-_, _^_, _≤_, _<_}
 use native.Mathlib.Nat.{le-of-eq}
 use native.Mathlib.Omega.{arith}
-use lib.ListN.{length, getD, take, drop}
+use lib.ListN.{length, take, drop}
 use lib.Seq.{length-take-le, take-add, take-all, drop-at}
-use Rattle.gf64.specs.Field.{IsElement}
-use Rattle.poly.specs.Polynomial.{All}
 use Rattle.coset.specs.Span.{Independent}
 use Rattle.coset.specs.Subspace.{nextOffset, nextBasis}
 use Rattle.fold.specs.Fold.{folded}
 use Rattle.fri.specs.Layout.{dimension, layerStart, storeLength, storedLayer}
-use Rattle.fri.specs.Run.{Run, stepsIn, roundsIn, layerIn}
+use Rattle.fri.specs.Run.{Run, stepsIn, roundsIn, challengeIn, layerIn}
 use Rattle.fri.specs.Layers.{basisIn, offsetIn, honestLayer, honestJoined, honestStore}
 use Rattle.fri.specs.Demand.{ValidCoset}
-use Rattle.fri.proofs.Cosets.{first-coset, length-layerBasis, layerBasis-independent, length-honest, length-joined}
-use Rattle.fri.proofs.Layouts.{start-next, layer-before}
+use Rattle.fri.proofs.Cosets.{first-coset, some-rounds, length-layerBasis, layerBasis-independent, length-joined}
+use Rattle.fri.proofs.Layouts.{start-next}
 use Rattle.fri.proofs.Layers.{honest-run}
 use Rattle.layers.specs.declared.Parameters.{Parameters}
 use Rattle.layers.specs.declared.cosets.LayerCoset.{LayerCoset}
-use Rattle.layers.specs.Parameters.{stepsBy}
 use Rattle.layers.specs.Cosets.{cosetOf, basisOf}
-use Rattle.layers.proofs.Sizes.{start-of-first, storeLength-is, one-round}
+use Rattle.layers.proofs.Sizes.{start-of-first, storeLength-is}
 use Rattle.layers.proofs.LayerCosets.{basisOf-coset}
 use Rattle.layers.proofs.LaterBases.{basis-next, offset-next}
-use Rattle.prover.specs.Input.{inputOf, Passed, cosetIn, layerFrom}
+use Rattle.prover.specs.Input.{cosetIn, layerFrom}
 
--- any offset and a basis that passed are a coset
-pub valid-input : (p : Parameters) (given offset : ℕ) (basis challenges word : List ℕ) (stored : ℕ) → Passed (inputOf p given basis challenges word) stored
-    → IsElement offset → All IsElement basis → ValidCoset (inputOf p offset basis challenges word)
-valid-input p given offset basis challenges word stored passed o b =
-    record {
-      parameters = passed .parameters;
-      offset-element = o;
-      basis-elements = b;
-      basis-count = passed .basis;
-      independent = passed .independent;
-    }
+module _ (run : Run) where
+  abbrev p : Parameters
+  p = record { k = run .k; rate = run .rate; step = run .step }
 
-module _ (p : Parameters) (offset : ℕ) (basis challenges word : List ℕ) where
-  abbrev run : Run
-  run = inputOf p offset basis challenges word
+  abbrev start : ℕ → ℕ
+  start i = layerStart (run .k) (stepsIn run) i
 
   -- what holds before round i: layers 1 to i are in the store
   pub record Filled (rounds : ℕ) (store : List ℕ) (coset : LayerCoset) (i : ℕ) : Type 0 where
-    pub count : rounds ≡ length (stepsBy p)
+    pub count : rounds ≡ roundsIn run
     pub within : suc i ≤ rounds
     pub coset-is : coset ≡ cosetIn run i
-    pub joined : take (layerStart (p .k) (stepsBy p) (suc i)) store ≡ honestJoined run i
-    pub kept : length store ≡ storeLength (p .k) (stepsBy p)
+    pub joined : take (layerStart (run .k) (stepsIn run) (suc i)) store ≡ honestJoined run i
+    pub kept : length store ≡ storeLength (run .k) (stepsIn run)
 
-  -- the prover's cosets
-  pub coset-first : cosetOf offset basis ≡ cosetIn run 0
+  -- ---- the cosets
+
+  pub coset-first : cosetOf (run .offset) (run .basis) ≡ cosetIn run 0
   coset-first = sym (ap₂ (λ (o : ℕ) (l : List ℕ). cosetOf o l) (first-coset run .0) (first-coset run .1))
 
-  pub coset-basis : (i : ℕ) (coset : LayerCoset) → coset ≡ cosetIn run i → basisOf coset ≡ basisIn run i
-  coset-basis i coset e = ap basisOf e ∙ basisOf-coset (offsetIn run i) (basisIn run i)
+  module _ (i : ℕ) (coset : LayerCoset) (is : coset ≡ cosetIn run i) where
+    pub coset-offset : coset .offset .0 ≡ offsetIn run i
+    coset-offset = ap (λ (c : LayerCoset). c .offset .0) is
 
-  pub coset-next : (i : ℕ) → i < length (stepsBy p) → (coset : LayerCoset) → coset ≡ cosetIn run i
-      → cosetOf (nextOffset (p .step) (coset .offset .0) (basisOf coset)) (nextBasis (p .step) (basisOf coset)) ≡ cosetIn run (suc i)
-  coset-next i h coset e =
-      ap₂ (λ (o : ℕ) (l : List ℕ). cosetOf (nextOffset (p .step) o l) (nextBasis (p .step) l)) (ap (λ (s : LayerCoset). s .offset .0) e) (coset-basis i coset e)
-      ∙ ap₂ (λ (o : ℕ) (l : List ℕ). cosetOf o l) (offset-next p offset basis i h) (basis-next p offset basis i h)
+    pub coset-basis : basisOf coset ≡ basisIn run i
+    coset-basis = ap basisOf is ∙ basisOf-coset (offsetIn run i) (basisIn run i)
 
-  -- layers joined one by one
-  pub joined-first : (store : List ℕ) → take (layerStart (p .k) (stepsBy p) 1) store ≡ honestJoined run 0
+    pub coset-next : i < roundsIn run → cosetOf (nextOffset (run .step) (coset .offset .0) (basisOf coset)) (nextBasis (run .step) (basisOf coset)) ≡ cosetIn run (suc i)
+    coset-next h =
+        ap₂ (λ (o : ℕ) (l : List ℕ). cosetOf (nextOffset (run .step) o l) (nextBasis (run .step) l)) coset-offset coset-basis
+        ∙ ap₂ (λ (o : ℕ) (l : List ℕ). cosetOf o l) (offset-next p (run .offset) (run .basis) i h) (basis-next p (run .offset) (run .basis) i h)
+
+    -- the fold of an honest layer is the next one
+    pub honest-folded : i < roundsIn run
+        → folded (run .step) (coset .offset .0) (basisOf coset) (honestLayer run i) (challengeIn run i) ≡ honestLayer run (suc i)
+    honest-folded h =
+        ap₂ (λ (o : ℕ) (l : List ℕ). folded (run .step) o l (honestLayer run i) (challengeIn run i)) coset-offset coset-basis
+        ∙ sym (honest-run .folds run i (honestLayer run i) h) ∙ sym (honest-run .next run i)
+
+    module _ (v : ValidCoset run) where
+      pub coset-dimension : coset .dimension ≡ dimension (run .k) (stepsIn run) i
+      coset-dimension = ap (λ (c : LayerCoset). c .dimension) is ∙ length-layerBasis run v i
+
+      pub coset-independent : Independent (basisOf coset)
+      coset-independent = subst Independent (sym coset-basis) (layerBasis-independent run v i)
+
+  -- ---- the layers in the store
+
+  pub joined-first : (store : List ℕ) → take (start 1) store ≡ honestJoined run 0
   unfolding honestJoined
-  joined-first store = ap (λ (n : ℕ). take n store) (sym (start-of-first (p .k) (stepsBy p)))
+  joined-first store = ap (λ (n : ℕ). take n store) (sym (start-of-first (run .k) (stepsIn run)))
 
   joined-next : (i : ℕ) → honestJoined run i ++ honestLayer run (suc i) ≡ honestJoined run (suc i)
   unfolding honestJoined
   joined-next i = refl
 
-  store-is : honestJoined run (length (stepsBy p) - 1) ≡ honestStore run
+  store-is : honestJoined run (roundsIn run - 1) ≡ honestStore run
   unfolding honestStore
   store-is = refl
 
-  -- the fold of an honest layer is the next one
-  pub honest-folded : (i : ℕ) → i < length (stepsBy p) → (coset : LayerCoset) → coset ≡ cosetIn run i
-      → folded (p .step) (coset .offset .0) (basisOf coset) (honestLayer run i) (getD challenges i 0) ≡ honestLayer run (suc i)
-  honest-folded i h coset e =
-      ap₂ (λ (o : ℕ) (l : List ℕ). folded (p .step) o l (honestLayer run i) (getD challenges i 0)) (ap (λ (s : LayerCoset). s .offset .0) e) (coset-basis i coset e)
-      ∙ sym (honest-run .folds run i (honestLayer run i) h) ∙ sym (honest-run .next run i)
+  -- the store is whole when layer r - 1 is joined
+  pub store-whole : (store : List ℕ) (i : ℕ) → suc i ≡ roundsIn run → length store ≡ storeLength (run .k) (stepsIn run)
+      → take (start (suc i)) store ≡ honestJoined run i → store ≡ honestStore run
+  store-whole store i e fits joined =
+      let ends : start (suc i) ≡ length store = ap start e ∙ storeLength-is (run .k) (stepsIn run) ∙ sym fits in
+      let last : i ≡ roundsIn run - 1 = omega (arith, e) in
+      sym (take-all (start (suc i)) store (le-of-eq (sym ends))) ∙ joined ∙ ap (honestJoined run) last ∙ store-is
 
-  module _ (v : ValidCoset run) (whole : length word ≡ 2 ^ p .k) where
-    pub coset-dimension : (i : ℕ) (coset : LayerCoset) → coset ≡ cosetIn run i → coset .dimension ≡ dimension (p .k) (stepsBy p) i
-    coset-dimension i coset e = ap (λ (s : LayerCoset). s .dimension) e ∙ length-layerBasis run v i
-
-    pub coset-independent : (i : ℕ) (coset : LayerCoset) → coset ≡ cosetIn run i → Independent (basisOf coset)
-    coset-independent i coset e = subst Independent (sym (coset-basis i coset e)) (layerBasis-independent run v i)
-
+  module _ (v : ValidCoset run) (whole : length (run .word) ≡ 2 ^ run .k) where
     -- a layer that is joined is the one that word and store have
-    pub layer-found : (i : ℕ) (store : List ℕ) → layerStart (p .k) (stepsBy p) (suc i) ≤ length store → take (layerStart (p .k) (stepsBy p) (suc i)) store ≡ honestJoined run i
-        → layerFrom p word store i ≡ honestLayer run i
+    layer-found : (i : ℕ) (store : List ℕ) → start (suc i) ≤ length store → take (start (suc i)) store ≡ honestJoined run i
+        → layerFrom p (run .word) store i ≡ honestLayer run i
     unfolding layerIn honestLayer storedLayer
     layer-found zero store h e = refl
     layer-found (suc i) store h e =
-        let start = layerStart (p .k) (stepsBy p) (suc i) in
-        let size = 2 ^ dimension (p .k) (stepsBy p) (suc i) in
-        let after = start-next (p .k) (stepsBy p) (suc i) (omega arith) in
-        sym (drop-at (take start store) (take size (drop start store)) start (length-take-le start store (omega (arith, h, after))))
-        ∙ ap (drop start) (sym (take-add start size store) ∙ ap (λ (n : ℕ). take n store) (sym after) ∙ e ∙ sym (joined-next i))
-        ∙ drop-at (honestJoined run i) (honestLayer run (suc i)) start (length-joined run v whole i)
+        let size = 2 ^ dimension (run .k) (stepsIn run) (suc i) in
+        let after = start-next (run .k) (stepsIn run) (suc i) (omega arith) in
+        sym (drop-at (take (start (suc i)) store) (take size (drop (start (suc i)) store)) (start (suc i)) (length-take-le (start (suc i)) store (omega (arith, h, after))))
+        ∙ ap (drop (start (suc i))) (sym (take-add (start (suc i)) size store) ∙ ap (λ (n : ℕ). take n store) (sym after) ∙ e ∙ sym (joined-next i))
+        ∙ drop-at (honestJoined run i) (honestLayer run (suc i)) (start (suc i)) (length-joined run v whole i)
 
-    -- the honest store holds layer r - 1, where the word is not that layer
-    pub last-found : (store : List ℕ) → store ≡ honestStore run → length store ≡ storeLength (p .k) (stepsBy p)
-        → layerFrom p word store (length (stepsBy p) - 1) ≡ honestLayer run (length (stepsBy p) - 1)
+    -- layer r - 1 is the word or in the honest store
+    pub last-found : (store : List ℕ) → store ≡ honestStore run → length store ≡ storeLength (run .k) (stepsIn run)
+        → layerFrom p (run .word) store (roundsIn run - 1) ≡ honestLayer run (roundsIn run - 1)
     last-found store e fits =
-        let whole-rounds : suc (length (stepsBy p) - 1) ≡ length (stepsBy p) = omega (arith, one-round p (v .parameters)) in
-        let ends : layerStart (p .k) (stepsBy p) (suc (length (stepsBy p) - 1)) ≡ length store = ap (layerStart (p .k) (stepsBy p)) whole-rounds ∙ storeLength-is (p .k) (stepsBy p) ∙ sym fits in
-        layer-found (length (stepsBy p) - 1) store (le-of-eq ends)
-        (take-all (layerStart (p .k) (stepsBy p) (suc (length (stepsBy p) - 1))) store (le-of-eq (sym ends)) ∙ e ∙ sym store-is)
+        let rounds : suc (roundsIn run - 1) ≡ roundsIn run = omega (arith, some-rounds run v) in
+        let ends : start (suc (roundsIn run - 1)) ≡ length store = ap start rounds ∙ storeLength-is (run .k) (stepsIn run) ∙ sym fits in
+        layer-found (roundsIn run - 1) store (le-of-eq ends) (take-all (start (suc (roundsIn run - 1))) store (le-of-eq (sym ends)) ∙ e ∙ sym store-is)
 
     -- one more layer in the store
-    pub round-joined : (i : ℕ) → i < length (stepsBy p) → (coset : LayerCoset) → coset ≡ cosetIn run i → (store store′ : List ℕ)
-        → layerStart (p .k) (stepsBy p) (suc i) ≤ length store → take (layerStart (p .k) (stepsBy p) (suc i)) store ≡ honestJoined run i
-        → take (layerStart (p .k) (stepsBy p) (suc (suc i))) store′
-        ≡ take (layerStart (p .k) (stepsBy p) (suc i)) store ++ folded (p .step) (coset .offset .0) (basisOf coset) (layerFrom p word store i) (getD challenges i 0)
-        → take (layerStart (p .k) (stepsBy p) (suc (suc i))) store′ ≡ honestJoined run (suc i)
-    round-joined i h coset e store store′ fits joined written =
+    pub round-joined : (i : ℕ) (coset : LayerCoset) → coset ≡ cosetIn run i → i < roundsIn run → (store store′ : List ℕ)
+        → start (suc i) ≤ length store → take (start (suc i)) store ≡ honestJoined run i
+        → take (start (suc (suc i))) store′
+        ≡ take (start (suc i)) store ++ folded (run .step) (coset .offset .0) (basisOf coset) (layerFrom p (run .word) store i) (challengeIn run i)
+        → take (start (suc (suc i))) store′ ≡ honestJoined run (suc i)
+    round-joined i coset is h store store′ fits joined written =
         written
-        ∙ ap₂ {B = List ℕ} (λ (front layer : List ℕ). front ++ folded (p .step) (coset .offset .0) (basisOf coset) layer (getD challenges i 0)) joined (layer-found i store fits joined)
-        ∙ ap (λ (l : List ℕ). honestJoined run i ++ l) (honest-folded i h coset e) ∙ joined-next i
-
-  -- the store is whole when layer r - 1 is joined
-  pub store-whole : (store : List ℕ) (i : ℕ) → suc i ≡ length (stepsBy p) → length store ≡ storeLength (p .k) (stepsBy p)
-      → take (layerStart (p .k) (stepsBy p) (suc i)) store ≡ honestJoined run i → store ≡ honestStore run
-  store-whole store i e fits joined =
-      let ends : layerStart (p .k) (stepsBy p) (suc i) ≡ length store = ap (layerStart (p .k) (stepsBy p)) e ∙ storeLength-is (p .k) (stepsBy p) ∙ sym fits in
-      let last : i ≡ length (stepsBy p) - 1 = omega (arith, e) in
-      sym (take-all (layerStart (p .k) (stepsBy p) (suc i)) store (le-of-eq (sym ends))) ∙ joined ∙ ap (honestJoined run) last ∙ store-is
+        ∙ ap₂ {B = List ℕ} (λ (front layer : List ℕ). front ++ folded (run .step) (coset .offset .0) (basisOf coset) layer (challengeIn run i)) joined (layer-found i store fits joined)
+        ∙ ap (λ (l : List ℕ). honestJoined run i ++ l) (honest-folded i coset is h) ∙ joined-next i

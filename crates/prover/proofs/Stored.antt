@@ -1,6 +1,6 @@
 -- What the store holds up to a layer's end, after that layer was written. Assumes nothing.
-use mathlib.Core.Path.{_≡_, refl, sym, ap, ap₂, _∙_, subst}
-use mathlib.Core.List.{List, [], _++_, append-assoc}
+use mathlib.Core.Path.{_≡_, refl, sym, ap, ap₂, _∙_}
+use mathlib.Core.List.{List, _++_, append-assoc}
 use Prim.Native.Nat.{ℕ, zero, suc, _+_, _-_, _^_, _≤_, _<_}
 use native.Mathlib.Nat.{le-of-eq}
 use native.Mathlib.Omega.{arith}
@@ -11,7 +11,7 @@ use Rattle.fri.specs.Layout.{dimension, layerStart, storeLength, storedLayer}
 use Rattle.fri.specs.Run.{layerIn}
 use Rattle.fri.proofs.Layouts.{start-next, layer-before, step-of-round}
 use Rattle.layers.specs.declared.Parameters.{Parameters}
-use Rattle.layers.specs.Parameters.{stepsBy, runOf}
+use Rattle.layers.specs.Parameters.{stepsBy}
 use Rattle.layers.proofs.Sizes.{start-of-first, storeLength-is}
 use Rattle.poly.proofs.Parts.{mid-suffix}
 use Rattle.prover.specs.Input.{layerFrom}

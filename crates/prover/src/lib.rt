@@ -144,12 +144,12 @@ fn fold_last(
         × (length (now next) ≡ 2 ^ dimension (parameters .k) (stepsBy parameters) (length (stepsBy parameters))) ⌝ }
     ensures { λ _. ⌜ now (next .exit) ≡ folded (parameters .step) (coset .offset .0) (basisOf coset) (layerFrom parameters (now (word .entry)) (now (store .entry)) (length (stepsBy parameters) - 1)) (challenge .0) ⌝ }
 {
-    let i = parameters.rounds() - 1;
-    if i == 0 {
+    let before = parameters.rounds() - 1;
+    if before == 0 {
         fold_layer(coset, parameters.step, challenge, word, next);
         return;
     }
-    let start = parameters.layer_start(i);
+    let start = parameters.layer_start(before);
     fold_layer(coset, parameters.step, challenge, &store[start..], next);
 }
 

@@ -1,28 +1,29 @@
 -- `prover::fill_store` meets its contract. The loop's invariant: layers 1 to i are in the store, and the coset is that of layer i. Assumes nothing.
+use Rattle.fri.specs.Run.{Run}
+use Rattle.layers.specs.Cosets.{cosetOf}
 use native.Mathlib.Numerals.{add-one}
-use mathlib.Core.Path.{_≡_, refl, sym, ap, ap₂, _∙_, subst}
-use mathlib.Core.List.{List}
-use Prim.Native.Nat.{ℕ, suc, _+_, _-_, _^_, _≤_, _<_}
-use native.Mathlib.Nat.{le-of-eq, le-trans}
+use mathlib.Core.Path.{_≡_, sym, ap, ap₂, _∙_, subst}
+use Prim.Native.Nat.{ℕ, suc, _-_, _≤_}
 use lib.ListN.{length, take}
 use Rattle.coset.proofs.Points.{all-elements}
 use Rattle.fri.specs.Demand.{ValidCoset}
-use Rattle.fri.specs.Layout.{layerStart, dimension}
+use Rattle.fri.specs.Layout.{layerStart}
 use Rattle.fri.specs.Layers.{honestJoined, honestStore}
 use Rattle.fri.proofs.Layouts.{start-next}
 use Rattle.layers.specs.declared.cosets.LayerCoset.{LayerCoset}
 use Rattle.layers.specs.Parameters.{stepsBy}
-use Rattle.layers.proofs.Sizes.{one-round, few-rounds, dimension-most, step-within, storeLength-is}
+use Rattle.layers.proofs.Sizes.{one-round, few-rounds, dimension-most, step-within}
 use Rattle.prover.specs.Input.{inputOf, cosetIn}
 use Rattle.prover.proofs.Stored.{end-within}
-use Rattle.prover.proofs.Rounds.{Filled, valid-input, coset-first, coset-next, coset-dimension, coset-independent, joined-first, round-joined, store-whole}
+use Rattle.prover.proofs.Input.{valid-input}
+use Rattle.prover.proofs.Rounds.{Filled, coset-first, coset-next, coset-dimension, coset-independent, joined-first, round-joined, store-whole}
 use borrow.Author.Needs.{needs}
 use native.Mathlib.Omega.{arith}
 use Rattle.prover.proofs.fill_store.Statement.{statement}
 use Rattle.prover.proofs.fill_store.Tie as tie
 
 abbrev Inv-loop : tie.InvT-loop
-Inv-loop parameters basis challenges word store₀ rounds coset₀ i₀ store coset i = Filled parameters (coset₀ .offset .0) basis challenges word rounds store coset i
+Inv-loop parameters basis challenges word store₀ rounds coset₀ i₀ store coset i = Filled (inputOf parameters (coset₀ .offset .0) basis challenges word) rounds store coset i
 
 abbrev μ-loop : tie.MeasureT-loop
 μ-loop parameters basis challenges word store₀ rounds coset₀ i₀ store coset i = rounds - i
@@ -34,10 +35,14 @@ OffsetIs c = c .first .result .offset .0 ≡ c .before .before .before .before .
 offset-is : (c : tie.After-first Inv-loop μ-loop) → OffsetIs c
 offset-is c = ap (λ (r : LayerCoset). r .offset .0) (c .first .ensures)
 
+-- the prover's input, with that offset
+abbrev run-at : tie.After-first Inv-loop μ-loop → Run
+run-at c =
+    let a = c .before .before .before .before .before .before .args in
+    inputOf (a .parameters) (c .first .result .offset .0) (a .basis .now) (a .challenges .now) (a .word .now)
+
 abbrev ValidAt : tie.At-loop Inv-loop μ-loop → Type 0
-ValidAt c =
-    let a = c .before .before .before .before .before .before .before .args in
-    ValidCoset (inputOf (a .parameters) (c .before .first .result .offset .0) (a .basis .now) (a .challenges .now) (a .word .now))
+ValidAt c = ValidCoset (run-at (c .before))
 
 valid : (c : tie.At-loop Inv-loop μ-loop) → ValidAt c
 valid c =
@@ -59,12 +64,12 @@ loop-holds c =
     let start = c .before .before .before .before .before .before in
     let a = start .args in
     let p = a .parameters in
-    let o = c .first .result .offset .0 in
+    let run = run-at c in
     record {
       count = c .before .rounds .ensures;
       within = omega (arith, c .before .rounds .ensures, one-round p (start .pre .parameters));
-      coset-is = c .first .ensures ∙ coset-first p (a .offset .0) (a .basis .now) (a .challenges .now) (a .word .now) ∙ ap (λ (x : ℕ). cosetIn (inputOf p x (a .basis .now) (a .challenges .now) (a .word .now)) 0) (sym (offset-is c));
-      joined = joined-first p o (a .basis .now) (a .challenges .now) (a .word .now) (a .store .now);
+      coset-is = c .first .ensures ∙ ap (λ (o : ℕ). cosetOf o (a .basis .now)) (sym (offset-is c)) ∙ coset-first run;
+      joined = joined-first run (a .store .now);
       kept = start .pre .store;
     }
 
@@ -84,14 +89,12 @@ shared-slice-read-t14 c =
 fold-round-requires : tie.Need-fold-round-requires Inv-loop μ-loop
 fold-round-requires c κs =
     let start = c .before .before .before .before .before .before .before .before .before .before in
-    let a = start .args in
     let l = c .before .before .before .loop in
-    let o = c .before .before .before .before .first .result .offset .0 in
-    let v = valid (c .before .before .before) in (
+    let run = run-at (c .before .before .before .before) in (
       start .pre .parameters,
       omega (arith, l .inv .count),
-      coset-dimension (a .parameters) o (a .basis .now) (a .challenges .now) (a .word .now) v (start .pre .word) (l .i) (l .coset) (l .inv .coset-is),
-      coset-independent (a .parameters) o (a .basis .now) (a .challenges .now) (a .word .now) v (start .pre .word) (l .i) (l .coset) (l .inv .coset-is),
+      coset-dimension run (l .i) (l .coset) (l .inv .coset-is) (valid (c .before .before .before)),
+      coset-independent run (l .i) (l .coset) (l .inv .coset-is) (valid (c .before .before .before)),
       start .pre .word,
       l .inv .kept,
     )
@@ -99,12 +102,11 @@ fold-round-requires c κs =
 next-requires : tie.Need-next-requires Inv-loop μ-loop
 next-requires c κs =
     let start = c .before .before .before .before .before .before .before .before .before .before .before .before .before in
-    let a = start .args in
-    let p = a .parameters in
+    let p = start .args .parameters in
     let l = c .before .before .before .before .before .before .loop in
     let inside : suc (l .i) ≤ length (stepsBy p) = omega (arith, l .inv .count) in
-    let dim = coset-dimension p (c .before .before .before .before .before .before .before .first .result .offset .0) (a .basis .now) (a .challenges .now) (a .word .now) (valid (c .before .before .before .before .before .before)) (start .pre .word) (l .i) (l .coset) (l .inv .coset-is) in
-    (start .pre .parameters .step-most, omega (arith, dim, step-within p (start .pre .parameters) (l .i) inside), omega (arith, dim, dimension-most p (start .pre .parameters) (l .i)))
+    let dim = coset-dimension (run-at (c .before .before .before .before .before .before .before)) (l .i) (l .coset) (l .inv .coset-is) (valid (c .before .before .before .before .before .before)) in
+    (omega (arith, start .pre .parameters .step-most), omega (arith, dim, step-within p (start .pre .parameters) (l .i) inside), omega (arith, dim, dimension-most p (start .pre .parameters) (l .i)))
 
 add-i : tie.Need-add-i Inv-loop μ-loop
 add-i c = search needs
@@ -115,10 +117,9 @@ loop-less c = search needs
 loop-again : tie.Need-loop-again Inv-loop μ-loop
 loop-again c =
     let start = c .before .before .before .before .before .before .before .before .before .before .before .before .before .before in
-    let a = start .args in
-    let p = a .parameters in
+    let p = start .args .parameters in
     let l = c .before .before .before .before .before .before .before .loop in
-    let o = c .before .before .before .before .before .before .before .before .first .result .offset .0 in
+    let run = run-at (c .before .before .before .before .before .before .before .before) in
     let inside : suc (l .i) ≤ length (stepsBy p) = omega (arith, l .inv .count) in
     let held = c .before .before .before .fold-round .last .1 .1 .1 .1 .1 .0 in
     let same : length held ≡ length (l .store) = search needs in
@@ -126,9 +127,9 @@ loop-again c =
     record {
       count = l .inv .count;
       within = omega arith;
-      coset-is = c .next .ensures ∙ coset-next p o (a .basis .now) (a .challenges .now) (a .word .now) (l .i) inside (l .coset) (l .inv .coset-is) ∙ ap (λ (n : ℕ). cosetIn (inputOf p o (a .basis .now) (a .challenges .now) (a .word .now)) n) (sym (add-one (l .i)));
-      joined = subst (λ (n : ℕ). take (layerStart (p .k) (stepsBy p) (suc n)) held ≡ honestJoined (inputOf p o (a .basis .now) (a .challenges .now) (a .word .now)) n) (sym (add-one (l .i)))
-          (round-joined p o (a .basis .now) (a .challenges .now) (a .word .now) (valid (c .before .before .before .before .before .before .before)) (start .pre .word) (l .i) inside (l .coset) (l .inv .coset-is) (l .store) held begun (l .inv .joined) (c .before .before .before .fold-round .ensures));
+      coset-is = c .next .ensures ∙ coset-next run (l .i) (l .coset) (l .inv .coset-is) inside ∙ ap (cosetIn run) (sym (add-one (l .i)));
+      joined = subst (λ (n : ℕ). take (layerStart (p .k) (stepsBy p) (suc n)) held ≡ honestJoined run n) (sym (add-one (l .i)))
+          (round-joined run (valid (c .before .before .before .before .before .before .before)) (start .pre .word) (l .i) (l .coset) (l .inv .coset-is) inside (l .store) held begun (l .inv .joined) (c .before .before .before .fold-round .ensures));
       kept = same ∙ l .inv .kept;
     }
 
@@ -141,13 +142,11 @@ returns c =
     let a = start .args in
     let p = a .parameters in
     let l = c .before .loop in
-    let o = c .before .before .first .result .offset .0 in
-    let same : o ≡ a .offset .0 = offset-is (c .before .before) in
+    let run = run-at (c .before .before) in
+    let given = ap (λ (o : ℕ). inputOf p o (a .basis .now) (a .challenges .now) (a .word .now)) (offset-is (c .before .before)) in
     let last : suc (l .i) ≡ length (stepsBy p) = omega (arith, l .inv .count, l .inv .within) in
-    let before : l .i ≡ length (stepsBy p) - 1 = omega (arith, last) in (
-      l .inv .coset-is ∙ ap₂ (λ (x n : ℕ). cosetIn (inputOf p x (a .basis .now) (a .challenges .now) (a .word .now)) n) same before,
-      store-whole p o (a .basis .now) (a .challenges .now) (a .word .now) (l .store) (l .i) last (l .inv .kept) (l .inv .joined) ∙ ap (λ (x : ℕ). honestStore (inputOf p x (a .basis .now) (a .challenges .now) (a .word .now))) same,
-    )
+    let before : l .i ≡ length (stepsBy p) - 1 = omega (arith, last) in
+    (l .inv .coset-is ∙ ap₂ (λ (r : Run) (n : ℕ). cosetIn r n) given before, store-whole run (l .store) (l .i) last (l .inv .kept) (l .inv .joined) ∙ ap honestStore given)
 
 pub fill-store-spec : {M : Type 1} → statement M
 fill-store-spec =

@@ -70,8 +70,8 @@ start-fits c =
 rounds-requires : tie.Need-rounds-requires
 rounds-requires c κs = search needs
 
-sub-i : tie.Need-sub-i
-sub-i c = omega (arith, c .rounds .ensures, one-round (c .before .before .before .before .args .parameters) (c .before .before .before .before .pre .0))
+sub-before : tie.Need-sub-before
+sub-before c = omega (arith, c .rounds .ensures, one-round (c .before .before .before .before .args .parameters) (c .before .before .before .before .pre .0))
 
 fold-layer-requires : tie.Need-fold-layer-requires
 fold-layer-requires c κs =
@@ -153,7 +153,7 @@ fold-last-spec =
     tie.close
     (tie.spec
     rounds-requires
-    sub-i
+    sub-before
     fold-layer-requires
     same-length
     returns

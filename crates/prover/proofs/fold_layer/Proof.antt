@@ -1,7 +1,6 @@
 -- `prover::fold_layer` meets its contract. Assumes nothing.
-use mathlib.Core.Path.{_≡_, sym, ap, ap₂, _∙_, subst}
-use mathlib.Core.List.{List}
-use Prim.Native.Nat.{ℕ, _-_, _^_, _≤_}
+use mathlib.Core.Path.{_≡_, sym, ap, ap₂, _∙_}
+use Prim.Native.Nat.{ℕ, _-_, _^_}
 use lib.ListN.{length}
 use lib.Seq.{length-take-le}
 use Rattle.coset.proofs.Subspace.{elements-taken}

@@ -1,7 +1,9 @@
 -- `prover::fold_layers` meets its contract. Assumes nothing.
-use mathlib.Core.Path.{_≡_, sym, ap, ap₂, _∙_}
+use Rattle.fri.specs.Run.{Run}
+use Rattle.prover.proofs.Input.{valid-input}
+use mathlib.Core.Path.{_≡_, ap, ap₂, _∙_}
 use mathlib.Core.List.{List}
-use Prim.Native.Nat.{ℕ, suc, _-_, _^_, _≤_, _<_}
+use Prim.Native.Nat.{ℕ, suc, _-_, _<_}
 use lib.ListN.{length, getD}
 use Rattle.coset.proofs.Points.{all-elements}
 use Rattle.fold.specs.Fold.{folded}
@@ -11,17 +13,21 @@ use Rattle.fri.specs.Layers.{honestLayer}
 use Rattle.layers.specs.Cosets.{basisOf}
 use Rattle.layers.specs.Parameters.{stepsBy}
 use Rattle.layers.proofs.Sizes.{one-round, dimension-most, step-within}
-use Rattle.prover.specs.Input.{inputOf, cosetIn, layerFrom}
-use Rattle.prover.proofs.Rounds.{valid-input, coset-next, coset-dimension, coset-independent, honest-folded, last-found}
+use Rattle.prover.specs.Input.{inputOf, cosetIn}
+use Rattle.prover.proofs.Rounds.{coset-next, coset-dimension, coset-independent, honest-folded, last-found}
 use borrow.Author.Needs.{needs}
 use native.Mathlib.Omega.{arith}
 use Rattle.prover.proofs.fold_layers.Statement.{statement}
 use Rattle.prover.proofs.fold_layers.Tie as tie
 
-abbrev ValidAt : tie.After-fill-store → Type 0
-ValidAt c =
+-- the prover's input
+abbrev run-at : tie.After-fill-store → Run
+run-at c =
     let a = c .before .before .before .before .before .before .before .args in
-    ValidCoset (inputOf (a .parameters) (a .offset .0) (a .basis .now) (a .challenges .now) (a .word .now))
+    inputOf (a .parameters) (a .offset .0) (a .basis .now) (a .challenges .now) (a .word .now)
+
+abbrev ValidAt : tie.After-fill-store → Type 0
+ValidAt c = ValidCoset (run-at c)
 
 valid : (c : tie.After-fill-store) → ValidAt c
 valid c =
@@ -57,13 +63,11 @@ shared-slice-read-t16 c = omega (arith, c .before .before .before .before .befor
 fold-last-requires : tie.Need-fold-last-requires
 fold-last-requires c κs =
     let start = c .before .before .before .before .before .before .before .before .before .before .before .before in
-    let a = start .args in
-    let p = a .parameters in
     let f = c .before .before .before .before .before .fill-store in
-    let i = length (stepsBy p) - 1 in (
+    let i = length (stepsBy (start .args .parameters)) - 1 in (
       start .pre .0 .parameters,
-      coset-dimension p (a .offset .0) (a .basis .now) (a .challenges .now) (a .word .now) (valid (c .before .before .before .before .before)) (start .pre .0 .word) i (f .result) (f .ensures .0),
-      coset-independent p (a .offset .0) (a .basis .now) (a .challenges .now) (a .word .now) (valid (c .before .before .before .before .before)) (start .pre .0 .word) i (f .result) (f .ensures .0),
+      coset-dimension (run-at (c .before .before .before .before .before)) i (f .result) (f .ensures .0) (valid (c .before .before .before .before .before)),
+      coset-independent (run-at (c .before .before .before .before .before)) i (f .result) (f .ensures .0) (valid (c .before .before .before .before .before)),
       start .pre .0 .word,
       stored (c .before .before .before .before),
       start .pre .1,
@@ -72,13 +76,12 @@ fold-last-requires c κs =
 next-requires : tie.Need-next-requires
 next-requires c κs =
     let start = c .before .before .before .before .before .before .before .before .before .before .before .before .before .before .before in
-    let a = start .args in
-    let p = a .parameters in
+    let p = start .args .parameters in
     let f = c .before .before .before .before .before .before .before .before .fill-store in
     let i = length (stepsBy p) - 1 in
     let inside : i < length (stepsBy p) = omega (arith, one-round p (start .pre .0 .parameters)) in
-    let dim = coset-dimension p (a .offset .0) (a .basis .now) (a .challenges .now) (a .word .now) (valid (c .before .before .before .before .before .before .before .before)) (start .pre .0 .word) i (f .result) (f .ensures .0) in
-    (start .pre .0 .parameters .step-most, omega (arith, dim, step-within p (start .pre .0 .parameters) i inside), omega (arith, dim, dimension-most p (start .pre .0 .parameters) i))
+    let dim = coset-dimension (run-at (c .before .before .before .before .before .before .before .before)) i (f .result) (f .ensures .0) (valid (c .before .before .before .before .before .before .before .before)) in
+    (omega (arith, start .pre .0 .parameters .step-most), omega (arith, dim, step-within p (start .pre .0 .parameters) i inside), omega (arith, dim, dimension-most p (start .pre .0 .parameters) i))
 
 same-length : tie.Need-same-length
 same-length c = search needs
@@ -92,19 +95,18 @@ returns c =
     let a = start .args in
     let p = a .parameters in
     let f = c .before .before .before .before .before .before .before .before .before .fill-store in
-    let store = f .last .1 .1 .1 .1 .1 .0 in
     let i = length (stepsBy p) - 1 in
-    let run = inputOf p (a .offset .0) (a .basis .now) (a .challenges .now) (a .word .now) in
+    let run = run-at (c .before .before .before .before .before .before .before .before .before) in
     let inside : i < length (stepsBy p) = omega (arith, one-round p (start .pre .0 .parameters)) in
     let whole : suc i ≡ length (stepsBy p) = omega (arith, inside) in
-    let place : length (a .challenges .now) - 1 ≡ i = ap (λ (n : ℕ). n - 1) (start .pre .0 .challenges) in (
-      c .next2 .ensures ∙ coset-next p (a .offset .0) (a .basis .now) (a .challenges .now) (a .word .now) i inside (f .result) (f .ensures .0) ∙ ap (cosetIn run) whole,
+    let place : length (a .challenges .now) - 1 ≡ i = ap (λ (n : ℕ). n - 1) (start .pre .0 .challenges) in
+    let found = last-found run (valid (c .before .before .before .before .before .before .before .before .before)) (start .pre .0 .word) (f .last .1 .1 .1 .1 .1 .0) (f .ensures .1) (stored (c .before .before .before .before .before .before .before .before)) in (
+      c .next2 .ensures ∙ coset-next run i (f .result) (f .ensures .0) inside ∙ ap (cosetIn run) whole,
       (
         f .ensures .1,
         c .before .before .before .fold-last .ensures
-            ∙ ap₂ (λ (layer : List ℕ) (n : ℕ). folded (p .step) (f .result .offset .0) (basisOf (f .result)) layer (getD (a .challenges .now) n 0))
-            (last-found p (a .offset .0) (a .basis .now) (a .challenges .now) (a .word .now) (valid (c .before .before .before .before .before .before .before .before .before)) (start .pre .0 .word) store (f .ensures .1) (stored (c .before .before .before .before .before .before .before .before))) place
-            ∙ honest-folded p (a .offset .0) (a .basis .now) (a .challenges .now) (a .word .now) i inside (f .result) (f .ensures .0) ∙ ap (honestLayer run) whole,
+            ∙ ap₂ (λ (layer : List ℕ) (n : ℕ). folded (p .step) (f .result .offset .0) (basisOf (f .result)) layer (getD (a .challenges .now) n 0)) found place
+            ∙ honest-folded run i (f .result) (f .ensures .0) inside ∙ ap (honestLayer run) whole,
       ),
     )
 

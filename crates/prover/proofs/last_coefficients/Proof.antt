@@ -1,9 +1,9 @@
 -- `prover::last_coefficients` meets its contract. Assumes nothing.
-use mathlib.Core.Path.{_≡_, sym}
-use native.Mathlib.Nat.{le-of-eq}
-use lib.Seq.{length-take-le}
+use Prim.Native.Nat.{_≤_, _<_}
 use lib.ListN.{length}
-use Rattle.prover.proofs.Last.{degree-told, coefficients-written}
+use mathlib.Core.Path.{sym}
+use lib.Seq.{length-take-le}
+use Rattle.prover.proofs.Last.{taken-fit, degree-told, coefficients-written}
 use borrow.Author.Needs.{needs}
 use native.Mathlib.Omega.{arith}
 use Rattle.prover.proofs.last_coefficients.Statement.{statement}
@@ -18,17 +18,16 @@ sub-t6 c = search needs
 returns : tie.Need-returns
 returns c =
     let a = c .before .before .before .before .args in
-    degree-told (a .interpolant .now) (a .last .now) (c .before .degree-bound .result) (c .before .degree-bound .ensures) (c .if1 .taken)
+    let over : length (a .last .now) < c .before .degree-bound .result = omega (arith, c .if1 .taken) in
+    degree-told (a .interpolant .now) (a .last .now) (c .before .degree-bound .result) (c .before .degree-bound .ensures) over
 
 slice-aggregate-copy : tie.Need-slice-aggregate-copy
 slice-aggregate-copy c =
     let start = c .before .before .before .before .before in
-    sym (length-take-le (length (start .args .last .now)) (start .args .interpolant .now) (start .pre))
+    sym (length-take-le _ (start .args .interpolant .now) (omega (arith, start .pre)))
 
 copy-requires : tie.Need-copy-requires
-copy-requires c κs =
-    let start = c .before .before .before .before .before .before in
-    le-of-eq (length-take-le (length (start .args .last .now)) (start .args .interpolant .now) (start .pre))
+copy-requires c κs = search (needs, taken-fit)
 
 same-length : tie.Need-same-length
 same-length c = search needs
@@ -37,7 +36,8 @@ returns-2 : tie.Need-returns-2
 returns-2 c =
     let start = c .before .before .before .before .before .before .before .before .before in
     let a = start .args in
-    coefficients-written (a .interpolant .now) (a .last .now) (c .before .before .before .before .before .before .degree-bound .result) (c .before .before .before .before .before .before .degree-bound .ensures) (c .before .before .before .before .before .if1 .left) (start .pre) (c .before .before .copy .last .1 .0) (c .before .before .copy .ensures)
+    let within : c .before .before .before .before .before .before .degree-bound .result ≤ length (a .last .now) = omega (arith, c .before .before .before .before .before .if1 .left) in
+    coefficients-written (a .interpolant .now) (a .last .now) (c .before .before .before .before .before .before .degree-bound .result) (c .before .before .before .before .before .before .degree-bound .ensures) within (start .pre) (c .before .before .copy .last .1 .0) (c .before .before .copy .ensures)
 
 pub last-coefficients-spec : {M : Type 1} → statement M
 last-coefficients-spec =

@@ -4,13 +4,12 @@ use Rattle.refusal.specs.declared.Outcome.the-variants.{Done}
 use Rattle.refusal.specs.declared.Outcome.{Outcome}
 use Rattle.refusal.specs.Checks.{afterwards}
 use Rattle.refusal.proofs.Checks.{then-passed, done-holds}
-use Rattle.fri.specs.Prover.{degreeOutcome, proveOutcome, storeAfter, lastAfter}
+use Rattle.fri.specs.Prover.{degreeOutcome}
 use Rattle.fri.specs.Layers.{honestStore, honestLast}
 use Rattle.fri.specs.Checks.{runOutcome}
 use Rattle.fri.proofs.Provers.{refused-prove, refused-holds-both}
 use Rattle.layers.specs.Parameters.{runOf}
 use borrow.Author.Needs.{needs}
-use native.Mathlib.Omega.{arith}
 use Rattle.prover.proofs.prove.Statement.{statement}
 use Rattle.prover.proofs.prove.Tie as tie
 

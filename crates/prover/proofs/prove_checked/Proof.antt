@@ -6,7 +6,7 @@ use lib.ListN.{length, replicate}
 use lib.Seq.{length-take-le}
 use Rattle.coset.proofs.Sizes.{size-shifted}
 use Rattle.fri.specs.Layout.{dimension}
-use Rattle.layers.specs.Parameters.{stepsBy, Valid}
+use Rattle.layers.specs.Parameters.{stepsBy, Valid, runOf}
 use Rattle.layers.proofs.Sizes.{dimension-most}
 use Rattle.prover.proofs.Input.{input-passed, last-size}
 use borrow.Author.Needs.{needs}
@@ -20,7 +20,7 @@ GivenValid c = Valid (c .args .parameters)
 given-valid : (c : tie.Start) → GivenValid c
 given-valid c =
     let a = c .args in
-    input-passed (a .parameters) (a .offset .0) (a .basis .now) (a .challenges .now) (a .word .now) (a .store .now) (a .last .now) (c .pre) .parameters
+    input-passed (runOf (a .parameters) (a .offset .0) (a .basis .now) (a .challenges .now) (a .word .now) (a .store .now) (a .last .now)) (c .pre) .parameters
 
 -- the size of layer r
 abbrev SizeIs : tie.After-dimension → Type 0

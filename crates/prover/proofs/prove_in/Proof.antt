@@ -1,4 +1,5 @@
 -- `prover::prove_in` meets its contract. Assumes nothing.
+use Rattle.fri.specs.Run.{Run}
 use mathlib.Core.Path.{_≡_, sym, ap, ap₂, _∙_}
 use mathlib.Core.List.{List}
 use Prim.Native.Nat.{ℕ, _^_, _≤_}
@@ -10,33 +11,31 @@ use Rattle.reed_solomon.specs.Codes.{interpolated}
 use Rattle.fri.specs.Demand.{ValidCoset}
 use Rattle.fri.specs.Layout.{dimension}
 use Rattle.fri.specs.Layers.{offsetIn, basisIn, honestLayer, lastInterpolant}
-use Rattle.fri.proofs.Cosets.{length-layerBasis}
-use Rattle.layers.specs.declared.cosets.LayerCoset.{LayerCoset}
 use Rattle.layers.specs.Cosets.{basisOf}
 use Rattle.layers.specs.Parameters.{stepsBy, runOf}
-use Rattle.prover.specs.Input.{inputOf, Passed}
-use Rattle.prover.proofs.Rounds.{valid-input, coset-basis, coset-dimension, coset-independent}
-use Rattle.prover.proofs.Input.{input-passed, last-counted, last-small, coefficients-fit, same-store, same-interpolant, degree-answered, degree-holds}
+use Rattle.prover.specs.Input.{Passed}
+use Rattle.prover.proofs.Rounds.{coset-offset, coset-basis, coset-dimension, coset-independent}
+use Rattle.prover.proofs.Input.{inputIn, valid-input, input-passed, last-counted, last-small, coefficients-fit, same-store, same-interpolant, degree-answered, degree-holds}
 use borrow.Author.Needs.{needs}
 use native.Mathlib.Omega.{arith}
 use Rattle.prover.proofs.prove_in.Statement.{statement}
 use Rattle.prover.proofs.prove_in.Tie as tie
 
+-- the run of the call
+abbrev run-at : tie.Start → Run
+run-at c =
+    let a = c .args in
+    runOf (a .parameters) (a .offset .0) (a .basis .now) (a .challenges .now) (a .word .now) (a .store .now) (a .last .now)
+
 -- what the checks leave known
 abbrev PassedAt : tie.Start → Type 0
-PassedAt c =
-    let a = c .args in
-    Passed (inputOf (a .parameters) (a .offset .0) (a .basis .now) (a .challenges .now) (a .word .now)) (length (a .store .now))
+PassedAt c = Passed (inputIn (run-at c)) (length (c .args .store .now))
 
 passed : (c : tie.Start) → PassedAt c
-passed c =
-    let a = c .args in
-    input-passed (a .parameters) (a .offset .0) (a .basis .now) (a .challenges .now) (a .word .now) (a .store .now) (a .last .now) (c .pre .0)
+passed c = input-passed (run-at c) (c .pre .0)
 
 abbrev ValidAt : tie.After-fold-layers → Type 0
-ValidAt c =
-    let a = c .before .before .before .before .before .before .before .before .before .args in
-    ValidCoset (inputOf (a .parameters) (a .offset .0) (a .basis .now) (a .challenges .now) (a .word .now))
+ValidAt c = ValidCoset (inputIn (run-at (c .before .before .before .before .before .before .before .before .before)))
 
 valid : (c : tie.After-fold-layers) → ValidAt c
 valid c =
@@ -54,8 +53,7 @@ DimensionIs c =
 dimension-is : (c : tie.After-fold-layers) → DimensionIs c
 dimension-is c =
     let start = c .before .before .before .before .before .before .before .before .before in
-    let a = start .args in
-    coset-dimension (a .parameters) (a .offset .0) (a .basis .now) (a .challenges .now) (a .word .now) (valid c) (passed start .word) (length (stepsBy (a .parameters))) (c .fold-layers .result) (c .fold-layers .ensures .0)
+    coset-dimension (inputIn (run-at start)) (length (stepsBy (start .args .parameters))) (c .fold-layers .result) (c .fold-layers .ensures .0) (valid c)
 
 abbrev Small : tie.After-fold-layers → Type 0
 Small c = c .fold-layers .result .dimension ≤ 12
@@ -82,25 +80,20 @@ slice-aggregate-interpolate-in-place c =
 interpolate-in-place-requires : tie.Need-interpolate-in-place-requires
 interpolate-in-place-requires c κs =
     let start = c .before .before .before .before .before .before .before .before .before .before .before .before .before .before .before .before in
-    let a = start .args in
-    let p = a .parameters in
     let f = c .before .before .before .before .before .before .before .fold-layers in
     let twenty : length (f .result .basis) ≡ 20 = search needs in
     let whole = length-take-le (f .result .dimension) (f .result .basis) (omega (arith, twenty, small (c .before .before .before .before .before .before .before))) in
-    let kept : length (f .last .1 .1 .1 .1 .1 .1 .0) ≡ length (a .room .now) = search needs in (
+    let kept : length (f .last .1 .1 .1 .1 .1 .1 .0) ≡ length (start .args .room .now) = search needs in (
       omega (arith, whole, small (c .before .before .before .before .before .before .before)),
-      coset-independent p (a .offset .0) (a .basis .now) (a .challenges .now) (a .word .now) (valid (c .before .before .before .before .before .before .before)) (passed start .word) (length (stepsBy p)) (f .result) (f .ensures .0),
+      coset-independent (inputIn (run-at start)) (length (stepsBy (start .args .parameters))) (f .result) (f .ensures .0) (valid (c .before .before .before .before .before .before .before)),
       kept ∙ start .pre .1 ∙ ap (λ (n : ℕ). 2 ^ n) (sym (whole ∙ dimension-is (c .before .before .before .before .before .before .before))),
     )
 
 last-coefficients-requires : tie.Need-last-coefficients-requires
 last-coefficients-requires c κs =
     let start = c .before .before .before .before .before .before .before .before .before .before .before .before .before .before .before .before .before .before .before .before .before in
-    let a = start .args in
-    let p = a .parameters in
-    let kept : length (c .before .before .before .before .interpolate-in-place .last .1 .1 .0) ≡ length (a .room .now) = search needs in
-    le-trans (le-of-eq (last-counted p (a .offset .0) (a .basis .now) (a .challenges .now) (a .word .now) (a .store .now) (a .last .now) (start .pre .0)))
-    (le-trans (coefficients-fit p) (le-of-eq (sym (kept ∙ start .pre .1))))
+    let kept : length (c .before .before .before .before .interpolate-in-place .last .1 .1 .0) ≡ length (start .args .room .now) = search needs in
+    le-trans (le-of-eq (last-counted (run-at start) (start .pre .0))) (le-trans (coefficients-fit (start .args .parameters)) (le-of-eq (sym (kept ∙ start .pre .1))))
 
 same-length : tie.Need-same-length
 same-length c = search needs
@@ -114,25 +107,20 @@ same-length-3 c = search needs
 returns : tie.Need-returns
 returns c =
     let start = c .before .before .before .before .before .before .before .before .before .before .before .before .before .before .before .before .before .before .before .before .before .before .before .before in
-    let a = start .args in
-    let p = a .parameters in
     let f = c .before .before .before .before .before .before .before .before .before .before .before .before .before .before .before .fold-layers in
-    let r = length (stepsBy p) in
-    let run = inputOf p (a .offset .0) (a .basis .now) (a .challenges .now) (a .word .now) in
+    let r = length (stepsBy (start .args .parameters)) in
+    let run = run-at start in
+    let given = inputIn run in
     let interpolant = c .before .before .before .before .before .before .before .interpolate-in-place .last .1 .1 .0 in
-    let at-basis : interpolated (f .result .offset .0) (basisOf (f .result)) (honestLayer run r) ≡ interpolated (offsetIn run r) (basisIn run r) (honestLayer run r) =
-    ap₂ (λ (o : ℕ) (l : List ℕ). interpolated o l (honestLayer run r)) (ap (λ (s : LayerCoset). s .offset .0) (f .ensures .0)) (coset-basis p (a .offset .0) (a .basis .now) (a .challenges .now) (a .word .now) r (f .result) (f .ensures .0))
+    let over : interpolated (f .result .offset .0) (basisOf (f .result)) (honestLayer given r) ≡ interpolated (offsetIn given r) (basisIn given r) (honestLayer given r) =
+    ap₂ (λ (o : ℕ) (l : List ℕ). interpolated o l (honestLayer given r)) (coset-offset given r (f .result) (f .ensures .0)) (coset-basis given r (f .result) (f .ensures .0))
     in
-    let is : interpolant ≡ lastInterpolant (runOf p (a .offset .0) (a .basis .now) (a .challenges .now) (a .word .now) (a .store .now) (a .last .now)) =
-    c .before .before .before .before .before .before .before .interpolate-in-place .ensures ∙ ap (interpolated (f .result .offset .0) (basisOf (f .result))) (f .ensures .1 .1) ∙ at-basis
-    ∙ same-interpolant p (a .offset .0) (a .basis .now) (a .challenges .now) (a .word .now) (a .store .now) (a .last .now)
+    let is : interpolant ≡ lastInterpolant run =
+    c .before .before .before .before .before .before .before .interpolate-in-place .ensures ∙ ap (interpolated (f .result .offset .0) (basisOf (f .result))) (f .ensures .1 .1) ∙ over ∙ same-interpolant run
     in
-    let counted = last-counted p (a .offset .0) (a .basis .now) (a .challenges .now) (a .word .now) (a .store .now) (a .last .now) (start .pre .0) in (
-      c .before .before .last-coefficients .ensures .0 ∙ degree-answered p (a .offset .0) (a .basis .now) (a .challenges .now) (a .word .now) (a .store .now) (a .last .now) interpolant is counted,
-      (
-        f .ensures .1 .0 ∙ same-store p (a .offset .0) (a .basis .now) (a .challenges .now) (a .word .now) (a .store .now) (a .last .now),
-        c .before .before .last-coefficients .ensures .1 ∙ degree-holds p (a .offset .0) (a .basis .now) (a .challenges .now) (a .word .now) (a .store .now) (a .last .now) interpolant is counted,
-      ),
+    let counted = last-counted run (start .pre .0) in (
+      c .before .before .last-coefficients .ensures .0 ∙ degree-answered run interpolant is counted,
+      (f .ensures .1 .0 ∙ same-store run, c .before .before .last-coefficients .ensures .1 ∙ degree-holds run interpolant is counted),
     )
 
 pub prove-in-spec : {M : Type 1} → statement M
