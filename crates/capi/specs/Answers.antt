@@ -69,6 +69,17 @@ answerOfOutcome outcome =
       value = none;
     }
 
+-- the answer of the prover: the degree that number 12 tells is its value too
+abbrev pub answerOfProved : Outcome → Answer
+answerOfProved outcome =
+    record {
+      number = numberOfOutcome outcome;
+      place = orNone (placeOfOutcome outcome);
+      round = orNone (roundOfOutcome outcome);
+      reads = 0;
+      value = cond (eqb (numberOfOutcome outcome) 12) (orNone (placeOfOutcome outcome)) none;
+    }
+
 -- the answer of the layer lookup: where the part begins and how long it is
 abbrev pub answerOfPart : Part → Answer
 answerOfPart part = record { number = 0; place = part .start; round = none; reads = 0; value = part .length }

@@ -15,9 +15,10 @@ ghost use Rattle.field.specs.Answers.{invertedOf};
 ghost use Rattle.reed_solomon.specs.Answers.{encodeOutcome, interpolateOutcome, valuesAfter, coefficientsAfter};
 ghost use Rattle.fold.specs.Answers.{foldAnswer, foldValuesAfter, nextBasisAfter};
 ghost use Rattle.fri.specs.Judge.{verdictOf};
+ghost use Rattle.fri.specs.Prover.{proveOutcome, storeAfter, lastAfter};
 ghost use Rattle.layers.specs.Parameters.{runOf};
 ghost use Rattle.layers.specs.Parts.{partOf};
-ghost use Rattle.capi.specs.Answers.{orNone, answerOfValue, answerOfCause, answerOfInverted, answerOfFolded, answerOfOutcome, answerOfPart, answerOfVerdict, numbersOf, answered, whereAnswered};
+ghost use Rattle.capi.specs.Answers.{orNone, answerOfValue, answerOfCause, answerOfInverted, answerOfFolded, answerOfOutcome, answerOfProved, answerOfPart, answerOfVerdict, numbersOf, answered, whereAnswered};
 
 // The five numbers of an answer.
 pub struct Answer {
@@ -30,6 +31,9 @@ pub struct Answer {
 
 // How many numbers an answer has.
 const ANSWER_LENGTH: usize = 5;
+
+// The number of a degree that is told.
+const DEGREE_TOO_LARGE: u64 = 12;
 
 // Stands for a place, a round or a value that there is none of.
 const NONE: u64 = 18446744073709551615;
@@ -92,6 +96,23 @@ impl Answer {
         match outcome {
             Outcome::Done => Answer::of_value(0, NONE),
             Outcome::Refused(cause) => Answer::of_cause(cause, 0),
+        }
+    }
+
+    // The degree that number 12 tells is the value too.
+    fn of_proved(outcome: Outcome) -> Answer
+        ensures { λ r. ⌜ r ≡ answerOfProved outcome ⌝ }
+    {
+        let answer = Answer::of_outcome(outcome);
+        if answer.number != DEGREE_TOO_LARGE {
+            return answer;
+        }
+        Answer {
+            number: answer.number,
+            place: answer.place,
+            round: answer.round,
+            reads: answer.reads,
+            value: answer.place,
         }
     }
 
@@ -219,6 +240,39 @@ pub extern "C" fn rz_fold(
         next_basis,
     );
     Answer::of_folded(folded).write(answer);
+}
+
+#[no_mangle]
+pub extern "C" fn rz_prove(
+    k: usize,
+    rate: usize,
+    step: usize,
+    offset: u64,
+    basis: &[u64],
+    challenges: &[u64],
+    word: &[u64],
+    store: &mut [u64],
+    last: &mut [u64],
+    answer: &mut [u64],
+)
+    ensures answer { λ _. ⌜ now (answer .exit) ≡ answered (answerOfProved (proveOutcome (runOf (record { k = k; rate = rate; step = step }) offset (now (basis .entry)) (now (challenges .entry)) (now (word .entry)) (now (store .entry)) (now (last .entry))))) (now (answer .entry)) ⌝ }
+    ensures store { λ _. ⌜ now (store .exit) ≡ whereAnswered (now (answer .entry)) (storeAfter (runOf (record { k = k; rate = rate; step = step }) offset (now (basis .entry)) (now (challenges .entry)) (now (word .entry)) (now (store .entry)) (now (last .entry)))) (now (store .entry)) ⌝ }
+    ensures last { λ _. ⌜ now (last .exit) ≡ whereAnswered (now (answer .entry)) (lastAfter (runOf (record { k = k; rate = rate; step = step }) offset (now (basis .entry)) (now (challenges .entry)) (now (word .entry)) (now (store .entry)) (now (last .entry)))) (now (last .entry)) ⌝ }
+{
+    if answer.len() != ANSWER_LENGTH {
+        return;
+    }
+    let parameters = Parameters { k, rate, step };
+    let outcome = prover::prove(
+        parameters,
+        Element(offset),
+        basis,
+        challenges,
+        word,
+        store,
+        last,
+    );
+    Answer::of_proved(outcome).write(answer);
 }
 
 #[no_mangle]
