@@ -43,6 +43,54 @@ extern "C" {
         answer: *mut u64,
         answer_length: usize,
     );
+    fn rz_prove(
+        k: usize,
+        rate: usize,
+        step: usize,
+        offset: u64,
+        basis: *const u64,
+        basis_length: usize,
+        challenges: *const u64,
+        challenges_length: usize,
+        word: *const u64,
+        word_length: usize,
+        store: *mut u64,
+        store_length: usize,
+        last: *mut u64,
+        last_length: usize,
+        answer: *mut u64,
+        answer_length: usize,
+    );
+    fn rz_layer(
+        k: usize,
+        rate: usize,
+        step: usize,
+        store: *const u64,
+        store_length: usize,
+        i: usize,
+        answer: *mut u64,
+        answer_length: usize,
+    );
+    fn rz_judge(
+        k: usize,
+        rate: usize,
+        step: usize,
+        offset: u64,
+        basis: *const u64,
+        basis_length: usize,
+        challenges: *const u64,
+        challenges_length: usize,
+        queries: *const u64,
+        queries_length: usize,
+        word: *const u64,
+        word_length: usize,
+        store: *const u64,
+        store_length: usize,
+        last: *const u64,
+        last_length: usize,
+        answer: *mut u64,
+        answer_length: usize,
+    );
 }
 
 /// How many numbers an answer has.
@@ -72,7 +120,8 @@ impl Answer {
         }
     }
 
-    /// Reads the five numbers of an operation that gives no element.
+    /// Reads the five numbers of an operation that gives no element. Its value, where it has one, is a
+    /// degree, and so another number than `NONE`, whatever `number` is.
     fn without_value(numbers: [u64; ANSWER_LENGTH]) -> Answer {
         let [number, place, round, reads, value] = numbers;
         Answer {
@@ -213,6 +262,114 @@ pub fn fold_into(given: Fold, values: &mut [u64], next_basis: &mut [u64], answer
             values.len(),
             next_basis.as_mut_ptr(),
             next_basis.len(),
+            answer.as_mut_ptr(),
+            answer.len(),
+        )
+    }
+}
+
+/// What a prover and a judge are both given.
+#[derive(Clone, Copy, Debug)]
+pub struct Run<'a> {
+    pub k: usize,
+    pub rate: usize,
+    pub step: usize,
+    pub offset: u64,
+    pub basis: &'a [u64],
+    pub challenges: &'a [u64],
+    pub word: &'a [u64],
+}
+
+/// Proves: `store` gets layers 1 to r - 1, joined, and `last` the last coefficients. Number 12 has the degree
+/// of layer r for its place and for its value; the store then has its layers, and `last` is as it was. Any other
+/// refusal, number 4, 5, 6, 7, 13, 8 or 16, leaves both lists as they were.
+pub fn prove(run: Run, store: &mut [u64], last: &mut [u64]) -> Answer {
+    let mut numbers = [0; ANSWER_LENGTH];
+    prove_into(run, store, last, &mut numbers);
+    Answer::without_value(numbers)
+}
+
+/// The same by the C convention: where `answer` has another length than 5, nothing is written or done.
+pub fn prove_into(run: Run, store: &mut [u64], last: &mut [u64], answer: &mut [u64]) {
+    // SAFETY: each pointer and length are those of one slice, and the exclusive ones overlap no other.
+    unsafe {
+        rz_prove(
+            run.k,
+            run.rate,
+            run.step,
+            run.offset,
+            run.basis.as_ptr(),
+            run.basis.len(),
+            run.challenges.as_ptr(),
+            run.challenges.len(),
+            run.word.as_ptr(),
+            run.word.len(),
+            store.as_mut_ptr(),
+            store.len(),
+            last.as_mut_ptr(),
+            last.len(),
+            answer.as_mut_ptr(),
+            answer.len(),
+        )
+    }
+}
+
+/// Layer `i` of a store, for `i` from 1 to r - 1, as a part of it. Bad parameters, another `i` or a store of
+/// another length give the empty part.
+pub fn layer(k: usize, rate: usize, step: usize, store: &[u64], i: usize) -> &[u64] {
+    let mut numbers = [0; ANSWER_LENGTH];
+    layer_into(k, rate, step, store, i, &mut numbers);
+    let [_, place, _, _, length] = numbers.map(|number| number as usize);
+    &store[place..][..length]
+}
+
+/// The same by the C convention: the place is where the layer begins and the value is its length, where
+/// `answer` has length 5, and otherwise nothing is written.
+pub fn layer_into(k: usize, rate: usize, step: usize, store: &[u64], i: usize, answer: &mut [u64]) {
+    // SAFETY: each pointer and length are those of one slice, and the exclusive one overlaps no other.
+    unsafe {
+        rz_layer(
+            k,
+            rate,
+            step,
+            store.as_ptr(),
+            store.len(),
+            i,
+            answer.as_mut_ptr(),
+            answer.len(),
+        )
+    }
+}
+
+/// Judges what was sent, the word, the store and the last coefficients, at the queries. Number 0 accepts; a
+/// refusal has number 4, 5, 6, 7, 13, 8, 16, 9, 10 or 11. The answer carries the reads.
+pub fn judge(run: Run, queries: &[u64], store: &[u64], last: &[u64]) -> Answer {
+    let mut numbers = [0; ANSWER_LENGTH];
+    judge_into(run, queries, store, last, &mut numbers);
+    Answer::without_value(numbers)
+}
+
+/// The same by the C convention: where `answer` has another length than 5, nothing is written or done.
+pub fn judge_into(run: Run, queries: &[u64], store: &[u64], last: &[u64], answer: &mut [u64]) {
+    // SAFETY: each pointer and length are those of one slice, and the exclusive one overlaps no other.
+    unsafe {
+        rz_judge(
+            run.k,
+            run.rate,
+            run.step,
+            run.offset,
+            run.basis.as_ptr(),
+            run.basis.len(),
+            run.challenges.as_ptr(),
+            run.challenges.len(),
+            queries.as_ptr(),
+            queries.len(),
+            run.word.as_ptr(),
+            run.word.len(),
+            store.as_ptr(),
+            store.len(),
+            last.as_ptr(),
+            last.len(),
             answer.as_mut_ptr(),
             answer.len(),
         )

@@ -15,6 +15,7 @@ fn main() -> ExitCode {
             &compare::reed_solomon::FULL,
         ),
         compare::fold::comparisons(&compare::fold::RAZGWILH, &compare::fold::FULL),
+        compare::protocol::comparisons(&compare::protocol::RAZGWILH, &compare::protocol::FULL),
     ];
     let report = compare::report(&parts.concat());
     print!("{}", report.text);

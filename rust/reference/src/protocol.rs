@@ -21,7 +21,7 @@ use std::collections::BTreeSet;
 use std::ops::RangeInclusive;
 
 /// How many queries a judge takes.
-const QUERY_COUNTS: RangeInclusive<usize> = 1..=256;
+pub const QUERY_COUNTS: RangeInclusive<usize> = 1..=256;
 
 /// What is judged, but for the queries. To a prover the store and the last
 /// coefficients are lists lent for writing.
@@ -52,7 +52,7 @@ impl Run {
 // and a word of the right lengths, most of them as a run.
 
 /// The cosets of layers 0 to r.
-fn cosets(run: &Run) -> Vec<Coset> {
+pub fn cosets(run: &Run) -> Vec<Coset> {
     let first = Coset {
         offset: run.offset,
         basis: run.basis.clone(),
@@ -254,7 +254,7 @@ impl Sent<'_> {
 // Refusals. Each function stops at the first cause, in the paper's order.
 
 /// All causes that a prover and a judge share.
-fn may_take(run: &Run) -> Result<(), Answer> {
+pub fn may_take(run: &Run) -> Result<(), Answer> {
     run.parameters.may_use()?;
     right_lengths(run)?;
     independent(&run.basis)?;
@@ -262,7 +262,7 @@ fn may_take(run: &Run) -> Result<(), Answer> {
 }
 
 /// All causes but a round check.
-fn may_judge(run: &Run, queries: &[u64]) -> Result<(), Answer> {
+pub fn may_judge(run: &Run, queries: &[u64]) -> Result<(), Answer> {
     may_take(run)?;
     right_queries(run.parameters, queries)
 }

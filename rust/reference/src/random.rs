@@ -20,7 +20,8 @@ impl Random {
         Random::seeded(state)
     }
 
-    fn seeded(state: u64) -> Random {
+    /// The generator that starts from this number.
+    pub fn seeded(state: u64) -> Random {
         Random { state }
     }
 

@@ -1,5 +1,5 @@
-//! Bases, offsets and words that calls are made of, and lengths that lists must
-//! not have.
+//! Bases, offsets, words and challenges that calls are made of, and lengths that
+//! lists must not have.
 
 use crate::coset::{first_dependent, point};
 use crate::random::Random;
@@ -52,6 +52,20 @@ pub fn word(random: &mut Random, length: usize, sort: usize) -> Vec<u64> {
         }
         2 => vec![0; length],
         _ => vec![u64::MAX; length],
+    }
+}
+
+/// Any challenge, zero, one, all ones, a point, a zero of q, or what one bit
+/// keeps from being a point.
+pub fn challenge(random: &mut Random, step: usize, offset: u64, basis: &[u64], turn: usize) -> u64 {
+    match turn % 7 {
+        0 => random.number(),
+        1 => 0,
+        2 => 1,
+        3 => u64::MAX,
+        4 => point(offset, basis, random.number()),
+        5 => point(0, &basis[..step], random.number()),
+        _ => point(offset ^ (1 << random.below(64)), basis, random.number()),
     }
 }
 

@@ -3,7 +3,7 @@
 mod call;
 mod inputs;
 
-use super::lent::{Lent, FILLS};
+use super::lent::{Lent, APART, FILLS};
 use super::lists::show_elements;
 use super::reed_solomon::SafeCall as CodeCall;
 use super::{
@@ -18,6 +18,8 @@ use crate::reed_solomon;
 use call::{Call, List, TwoWords};
 use inputs::OutOfRange;
 use razgwilh::{Answer, Fold};
+
+pub(super) use inputs::challenges as challenges_of_case_j;
 
 /// Takes what is given, list 6 and list 7.
 type SafeCall = fn(Fold, &mut [u64], &mut [u64]) -> Answer;
@@ -160,10 +162,6 @@ pub fn comparisons(library: &Library, amounts: &Amounts) -> Vec<Comparison> {
 }
 
 // What the lists hold after a call, against the reference.
-
-/// How far apart the fills of the lists are. So no number can be moved from one
-/// list to another unseen.
-const APART: u64 = 1 << 32;
 
 /// Lists 6 and 7, with the numbers around them.
 #[derive(PartialEq)]
@@ -780,7 +778,7 @@ fn case_j(library: &Library) -> Comparison {
 
 /// Whether a challenge is exceptional.
 #[derive(PartialEq)]
-struct Exceptional(bool);
+pub(super) struct Exceptional(pub(super) bool);
 
 impl Show for Exceptional {
     fn show(&self) -> String {

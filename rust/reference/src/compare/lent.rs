@@ -12,6 +12,10 @@ pub const MARGIN: usize = 8;
 /// which are written but happen to be those of one fill are seen with the other.
 pub const FILLS: [u64; 2] = [0xa5a5_a5a5_a5a5_a500, 0x5a5a_5a5a_5a5a_5a00];
 
+/// How far apart the fills of the lists of one call are. So no number can be
+/// moved from one list to another unseen.
+pub const APART: u64 = 1 << 32;
+
 /// Lengths that the list of an answer must not have: those near the right one,
 /// and one far longer.
 pub fn other_answer_lengths() -> impl Iterator<Item = usize> {

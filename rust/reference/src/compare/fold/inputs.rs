@@ -5,7 +5,8 @@
 use super::call::{Call, List, TwoWords, LISTS};
 use crate::answer::ANSWER_LENGTH;
 use crate::compare::cosets::{
-    self, any_dependent, basis, longest_basis, offset, wrong_lengths as wrong_lengths_for,
+    self, any_dependent, basis, challenge, longest_basis, offset,
+    wrong_lengths as wrong_lengths_for,
 };
 use crate::compare::lent::{other_answer_lengths, FILLS};
 use crate::coset::{point, points};
@@ -84,20 +85,6 @@ fn of_low_degree(random: &mut Random, step: usize, offset: u64, basis: &[u64]) -
     let count = (1 + random.below(4)) << step;
     let polynomial = random.list(count.min(points.len()));
     points.iter().map(|&x| value(&polynomial, x)).collect()
-}
-
-/// Any challenge, zero, one, all ones, a point, a zero of q, or what one bit
-/// keeps from being a point.
-fn challenge(random: &mut Random, step: usize, offset: u64, basis: &[u64], turn: usize) -> u64 {
-    match turn % 7 {
-        0 => random.number(),
-        1 => 0,
-        2 => 1,
-        3 => u64::MAX,
-        4 => point(offset, basis, random.number()),
-        5 => point(0, &basis[..step], random.number()),
-        _ => point(offset ^ (1 << random.below(64)), basis, random.number()),
-    }
 }
 
 /// Right calls with step 1 whose next offset is all ones, which as a raw number
