@@ -170,7 +170,8 @@ fn fill_store(
     let mut coset = LayerCoset::first(offset, basis);
     let mut i: usize = 0;
     while i + 1 < rounds {
-        fold_round(parameters, coset, i, Element(challenges[i]), word, store);
+        let challenge = challenges[i];
+        fold_round(parameters, coset, i, Element(challenge), word, store);
         coset = coset.next(parameters.step);
         i += 1;
     }
@@ -246,7 +247,8 @@ fn last_coefficients(interpolant: &[u64], last: &mut [u64]) -> Outcome
     let count = last.len();
     let bound = poly::degree_bound(interpolant);
     if bound > count {
-        return Outcome::Refused(Cause::DegreeTooLarge { degree: bound - 1 });
+        let degree = bound - 1;
+        return Outcome::Refused(Cause::DegreeTooLarge { degree });
     }
     poly::copy(&interpolant[..count], last);
     Outcome::Done

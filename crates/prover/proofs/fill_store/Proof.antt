@@ -78,11 +78,11 @@ add-loop c =
     let start = c .before .before .before .before .before .before .before in
     omega (arith, c .loop .inv .within, c .loop .inv .count, few-rounds (start .args .parameters) (start .pre .parameters))
 
-mul-t10 : tie.Need-mul-t10 Inv-loop μ-loop
-mul-t10 c = search needs
+mul-challenge : tie.Need-mul-challenge Inv-loop μ-loop
+mul-challenge c = search needs
 
-shared-slice-read-t14 : tie.Need-shared-slice-read-t14 Inv-loop μ-loop
-shared-slice-read-t14 c =
+shared-slice-read-challenge : tie.Need-shared-slice-read-challenge Inv-loop μ-loop
+shared-slice-read-challenge c =
     let start = c .before .before .before .before .before .before .before .before .before in
     omega (arith, start .pre .challenges, c .before .before .loop .inv .count)
 
@@ -158,8 +158,8 @@ fill-store-spec =
     first-requires
     loop-holds
     add-loop
-    mul-t10
-    shared-slice-read-t14
+    mul-challenge
+    shared-slice-read-challenge
     fold-round-requires
     next-requires
     add-i

@@ -12,8 +12,8 @@ use Rattle.prover.proofs.last_coefficients.Tie as tie
 degree-bound-requires : tie.Need-degree-bound-requires
 degree-bound-requires c κs = search needs
 
-sub-t6 : tie.Need-sub-t6
-sub-t6 c = search needs
+sub-degree : tie.Need-sub-degree
+sub-degree c = search needs
 
 returns : tie.Need-returns
 returns c =
@@ -44,7 +44,7 @@ last-coefficients-spec =
     tie.close
     (tie.spec
     degree-bound-requires
-    sub-t6
+    sub-degree
     returns
     slice-aggregate-copy
     copy-requires
