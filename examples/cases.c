@@ -1,4 +1,4 @@
-/* Cases A to E and M of Table A, and the folds of cases F, J and K, through the C interface: prints what the program `cases` prints. */
+/* The cases of Table A but N, through the C interface: prints what the program `cases` prints. */
 #include "razgwilh.h"
 
 #include <inttypes.h>
@@ -11,6 +11,18 @@ static void show_refusal(const uint64_t answer[RZ_ANSWER_LENGTH]) {
     if (answer[1] != RZ_NONE) {
         printf(", place %" PRIu64, answer[1]);
     }
+    if (answer[2] != RZ_NONE) {
+        printf(", round %" PRIu64, answer[2]);
+    }
+}
+
+static void show_verdict(const uint64_t answer[RZ_ANSWER_LENGTH]) {
+    if (answer[0] == 0) {
+        printf("accepted");
+    } else {
+        show_refusal(answer);
+    }
+    printf(", reads %" PRIu64, answer[3]);
 }
 
 static void show_list(const uint64_t *list, size_t length) {
@@ -74,10 +86,13 @@ static void code_cases(void) {
     printf("\n");
 }
 
+/* Case K. */
+static const uint64_t basis_k[] = {1, 2, 4}, challenges_k[] = {2, 3};
+static const uint64_t word_k[] = {0, 1, 4, 5, 0x10, 0x11, 0x14, 0x15};
+
 static void fold_cases(void) {
-    const uint64_t basis[] = {1, 2}, basis_k[] = {1, 2, 4};
+    const uint64_t basis[] = {1, 2};
     const uint64_t zeros[] = {0, 0, 0, 0}, encoded[] = {7, 4, 1, 2}, last_one[] = {0, 0, 0, 1};
-    const uint64_t word_k[] = {0, 1, 4, 5, 0x10, 0x11, 0x14, 0x15};
     uint64_t layer[4], layer_basis[2], last[2], last_basis[1];
 
     printf("D  offset 8, zeros at 4: ");
@@ -95,9 +110,120 @@ static void fold_cases(void) {
     printf("\n");
 }
 
+/* k 2, R 1, step 1 over the basis 1, 2 from 0: a word is proved at a challenge. The store is empty. */
+static void show_proof(const uint64_t *word, uint64_t challenge) {
+    const uint64_t basis[] = {1, 2};
+    uint64_t answer[RZ_ANSWER_LENGTH], store[1], last[1];
+
+    rz_prove(2, 1, 1, 0, basis, LENGTH(basis), &challenge, 1, word, 4, store, 0, last, LENGTH(last), answer, LENGTH(answer));
+    show_filled(answer, last, LENGTH(last));
+}
+
+/* The same run judged, with coefficient b and challenge 4. */
+static void show_judging(const uint64_t *word, const uint64_t *queries, size_t queries_length) {
+    const uint64_t basis[] = {1, 2}, challenges[] = {4}, store[] = {0}, last[] = {0xb};
+    uint64_t answer[RZ_ANSWER_LENGTH];
+
+    rz_judge(2, 1, 1, 0, basis, LENGTH(basis), challenges, LENGTH(challenges), queries, queries_length, word, 4, store, 0,
+             last, LENGTH(last), answer, LENGTH(answer));
+    show_verdict(answer);
+}
+
+static void one_round_cases(void) {
+    const uint64_t encoded[] = {7, 4, 1, 2}, changed[] = {7, 4, 1, 3}, last_one[] = {0, 0, 0, 1};
+    const uint64_t queries[] = {0, 3};
+
+    printf("F  7, 4, 1, 2 at 4 is proved by ");
+    show_proof(encoded, 4);
+    printf("\nG  queries 0, 3: ");
+    show_judging(encoded, queries, 2);
+    printf("\nH  entry 3 made 3: ");
+    show_judging(changed, queries, 2);
+    printf("\nI  only query 0: ");
+    show_judging(changed, queries, 1);
+    printf("\nJ  0, 0, 0, 1 at 4: ");
+    show_proof(last_one, 4);
+    printf("\nJ  0, 0, 0, 1 at 2 is proved by ");
+    show_proof(last_one, 2);
+    printf("\n");
+}
+
+/* Case K's run with a layer 1 and a query. */
+static void show_two_rounds(const uint64_t *layer, uint64_t query) {
+    const uint64_t last[] = {1};
+    uint64_t answer[RZ_ANSWER_LENGTH];
+
+    rz_judge(3, 1, 1, 0, basis_k, LENGTH(basis_k), challenges_k, LENGTH(challenges_k), &query, 1, word_k, LENGTH(word_k), layer,
+             4, last, LENGTH(last), answer, LENGTH(answer));
+    show_verdict(answer);
+}
+
+static void two_round_cases(void) {
+    uint64_t answer[RZ_ANSWER_LENGTH], part[RZ_ANSWER_LENGTH], store[4], last[1];
+
+    rz_prove(3, 1, 1, 0, basis_k, LENGTH(basis_k), challenges_k, LENGTH(challenges_k), word_k, LENGTH(word_k), store,
+             LENGTH(store), last, LENGTH(last), answer, LENGTH(answer));
+    rz_layer(3, 1, 1, store, LENGTH(store), 1, part, LENGTH(part));
+    printf("K  layer 1: ");
+    show_list(store + part[1], part[4]);
+    printf("; proved by ");
+    show_filled(answer, last, LENGTH(last));
+    printf("\nK  query 5: ");
+    show_two_rounds(store, 5);
+    store[0] = 3;
+    printf("\nL  entry 0 of layer 1 made 3, query 0: ");
+    show_two_rounds(store, 0);
+    printf("; query 7: ");
+    show_two_rounds(store, 7);
+    printf("\n");
+}
+
+/* The lengths of the stored layers, of which there are r - 1, and a dimension out of range. */
+static void case_o(void) {
+    static const uint64_t store[149504], none[] = {0};
+    uint64_t answer[RZ_ANSWER_LENGTH];
+
+    printf("O  k 20, R 6, step 3: layers of ");
+    for (size_t i = 1; i <= 4; i++) {
+        rz_layer(20, 6, 3, store, LENGTH(store), i, answer, LENGTH(answer));
+        printf("%s%" PRIu64, i > 1 ? ", " : "", answer[4]);
+    }
+    rz_judge(21, 6, 3, 0, none, 0, none, 0, none, 0, none, 0, none, 0, none, 0, answer, LENGTH(answer));
+    printf("; k 21: ");
+    show_verdict(answer);
+    printf("\n");
+}
+
+/* k 9, R 1, step 1: the word of 7, 3 at challenges 1 to 8, with a query in each of the 256 first-layer cosets, and with one more. */
+static void case_p(void) {
+    const uint64_t basis[] = {1, 2, 4, 8, 16, 32, 64, 128, 256}, challenges[] = {1, 2, 3, 4, 5, 6, 7, 8};
+    const uint64_t coefficients[] = {7, 3};
+    uint64_t answer[RZ_ANSWER_LENGTH], word[512], store[508], last[1], queries[257];
+
+    for (size_t i = 0; i < LENGTH(queries); i++) {
+        queries[i] = i % 256 * 2;
+    }
+    rz_encode(0, basis, LENGTH(basis), coefficients, LENGTH(coefficients), word, LENGTH(word), answer, LENGTH(answer));
+    rz_prove(9, 1, 1, 0, basis, LENGTH(basis), challenges, LENGTH(challenges), word, LENGTH(word), store, LENGTH(store), last,
+             LENGTH(last), answer, LENGTH(answer));
+    printf("P  256 queries in 256 cosets: ");
+    rz_judge(9, 1, 1, 0, basis, LENGTH(basis), challenges, LENGTH(challenges), queries, 256, word, LENGTH(word), store,
+             LENGTH(store), last, LENGTH(last), answer, LENGTH(answer));
+    show_verdict(answer);
+    printf("; 257: ");
+    rz_judge(9, 1, 1, 0, basis, LENGTH(basis), challenges, LENGTH(challenges), queries, 257, word, LENGTH(word), store,
+             LENGTH(store), last, LENGTH(last), answer, LENGTH(answer));
+    show_verdict(answer);
+    printf("\n");
+}
+
 int main(void) {
     field_cases();
     code_cases();
     fold_cases();
+    one_round_cases();
+    two_round_cases();
+    case_o();
+    case_p();
     return 0;
 }

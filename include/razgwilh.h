@@ -16,7 +16,7 @@
  *   place   the section (numbers 1, 2), basis place (8), query (10, 11), degree (12) or list (13)
  *   round   for numbers 11 and 16
  *   reads   how many entries a judge read: 0 where none were, and for every other function
- *   value   what the function gives, where it gives something and number is 0
+ *   value   what the function gives, where it gives something and number is 0; for rz_prove, the degree on number 12
  * RZ_NONE stands for a place, a round or a value that there is none of. A function that gives an element
  * gives it whenever number is 0, and RZ_NONE is then the element with all bits set. */
 #ifndef RAZGWILH_H
@@ -78,6 +78,44 @@ void rz_interpolate(uint64_t offset, const uint64_t *basis, size_t basis_length,
 void rz_fold(size_t k, size_t step, uint64_t offset, const uint64_t *basis, size_t basis_length, const uint64_t *word,
              size_t word_length, uint64_t challenge, uint64_t *values, size_t values_length, uint64_t *next_basis,
              size_t next_basis_length, uint64_t *answer, size_t answer_length);
+
+/* The protocol over lists. k, R and the step have the ranges 2 to 20, 1 to 6 and 1 to 3, and k is at least R + step; there are r = (k - R) / step
+ * rounds, rounded down. Round i, from 0, folds layer i at challenge i; layer 0 is the word, over the coset of dimension k with this offset and basis.
+ * Layer i has 2^(k - i * step) entries. Layers 1 to r - 1 lie joined in the store, which is empty when r is 1. Layer r, of at most 256 entries, is
+ * sent as its d = 2^(k - R - r * step) coefficients, constant first; d is 1, 2 or 4. */
+
+/* The prover: layers 1 to r - 1 into `store`, the last coefficients into `last`. Refused, in this order, with
+ *   number 4   k is out of range; no place
+ *   number 5   R is out of range; no place
+ *   number 6   the step is out of range; no place
+ *   number 7   k is below R + step; no place
+ *   number 13  a list has the wrong length, and its place is the lowest such list: 1, `basis`, other than k; 2, `challenges`, other than r;
+ *              3, `word`, other than 2^k; 4, `store`; 5, `last`, other than d
+ *   number 8   a basis element lies in the span of earlier ones, and its place is the first such place, from 0
+ *   number 16  a later layer's basis is dependent, which happens to no independent basis; no place, and the round
+ *   number 12  layer r has degree d or more, and place and value are that degree; `store` then holds the layers, and `last` is as it was
+ * All other refusals leave `store` and `last` as they were. No value but with number 12, no round but with number 16, 0 reads. */
+void rz_prove(size_t k, size_t rate, size_t step, uint64_t offset, const uint64_t *basis, size_t basis_length,
+              const uint64_t *challenges, size_t challenges_length, const uint64_t *word, size_t word_length, uint64_t *store,
+              size_t store_length, uint64_t *last, size_t last_length, uint64_t *answer, size_t answer_length);
+
+/* The layer lookup: layer i of a store, 1 <= i < r, is the part of `store` from place on, of value entries. It refuses nothing: parameters out of
+ * range, another i or a store of another length give the empty part, place 0 and value 0. No round, 0 reads. */
+void rz_layer(size_t k, size_t rate, size_t step, const uint64_t *store, size_t store_length, size_t i, uint64_t *answer,
+              size_t answer_length);
+
+/* The judge: for each query, an index below 2^k, and each round i, the fold at challenge i of the coset of layer i that holds index
+ * query / 2^(step * i) must equal the entry of layer i + 1 at index query / 2^(step * (i + 1)) or, in the last round, the last polynomial at the point of
+ * layer r with that index, all rounded down. Number 0 where all are equal. Refused as rz_prove is by 4, 5, 6, 7, 13, 8 and 16, then with
+ *   number 9   no query, or over 256; no place
+ *   number 10  a query's index is 2^k or more, and its place is the first such query, from 0
+ *   number 11  a round check fails: the first one, lowest query first, then lowest round; place and round are its query and its round
+ * reads: queries * r * 2^step where number is 0; t * r * 2^step + min(i + 2, r) * 2^step for number 11 at query t and round i; else 0. No list is
+ * written. The answer has no value, and no round but with numbers 11 and 16. */
+void rz_judge(size_t k, size_t rate, size_t step, uint64_t offset, const uint64_t *basis, size_t basis_length,
+              const uint64_t *challenges, size_t challenges_length, const uint64_t *queries, size_t queries_length,
+              const uint64_t *word, size_t word_length, const uint64_t *store, size_t store_length, const uint64_t *last,
+              size_t last_length, uint64_t *answer, size_t answer_length);
 
 #ifdef __cplusplus
 }

@@ -129,6 +129,87 @@ static void expect_refused(void) {
     expect_list(output, word, 0, "output after a refusal");
 }
 
+static const uint64_t basis_k[] = {1, 2, 4}, challenges_k[] = {2, 3}, queries_k[] = {5, 8}, last_k[] = {1};
+static const uint64_t word_k[] = {0, 1, 4, 5, 0x10, 0x11, 0x14, 0x15}, layer_k[] = {2, 4, 0x16, 0x10};
+
+/* Case K proved, looked up and judged, with an answer's list of any length. */
+static void expect_run(size_t length) {
+    const uint64_t part[] = {0, 0, RZ_NONE, 0, 4}, accepted[] = {0, RZ_NONE, RZ_NONE, 4, RZ_NONE};
+    uint64_t answer[LENGTHS], store[LENGTHS], last[LENGTHS];
+    size_t answers = length == RZ_ANSWER_LENGTH;
+
+    fill(answer);
+    fill(store);
+    fill(last);
+    rz_prove(3, 1, 1, 0, basis_k, 3, challenges_k, 2, word_k, 8, store, 4, last, 1, answer, length);
+    expect_answer(answer, length, done, "rz_prove: answer");
+    expect_list(store, layer_k, answers ? 4 : 0, "rz_prove: store");
+    expect_list(last, last_k, answers ? 1 : 0, "rz_prove: last coefficients");
+
+    fill(answer);
+    rz_layer(3, 1, 1, layer_k, 4, 1, answer, length);
+    expect_answer(answer, length, part, "rz_layer");
+
+    fill(answer);
+    rz_judge(3, 1, 1, 0, basis_k, 3, challenges_k, 2, queries_k, 1, word_k, 8, layer_k, 4, last_k, 1, answer, length);
+    expect_answer(answer, length, accepted, "rz_judge");
+}
+
+/* What is given to prover and judge beside case K's numbers. */
+struct lengths {
+    size_t k, rate, step, basis, challenges, word, store, last;
+};
+
+/* Each argument stands in its own place: prover and judge refuse it alike, and both lists are left alone. */
+static void expect_run_refused(struct lengths n, uint64_t number, uint64_t place) {
+    const uint64_t refused[] = {number, place, RZ_NONE, 0, RZ_NONE};
+    uint64_t answer[LENGTHS], store[LENGTHS], last[LENGTHS];
+
+    fill(answer);
+    fill(store);
+    fill(last);
+    rz_prove(n.k, n.rate, n.step, 0, basis_k, n.basis, challenges_k, n.challenges, word_k, n.word, store, n.store, last, n.last,
+             answer, RZ_ANSWER_LENGTH);
+    expect_answer(answer, RZ_ANSWER_LENGTH, refused, "rz_prove: refusal");
+    expect_list(store, word, 0, "rz_prove: store after a refusal");
+    expect_list(last, word, 0, "rz_prove: last coefficients after a refusal");
+    rz_judge(n.k, n.rate, n.step, 0, basis_k, n.basis, challenges_k, n.challenges, queries_k, 1, word_k, n.word, layer_k, n.store,
+             last_k, n.last, answer, RZ_ANSWER_LENGTH);
+    expect_answer(answer, RZ_ANSWER_LENGTH, refused, "rz_judge: refusal");
+}
+
+static void expect_runs_refused(void) {
+    expect_run_refused((struct lengths){1, 1, 1, 3, 2, 8, 4, 1}, 4, RZ_NONE);
+    expect_run_refused((struct lengths){3, 7, 1, 3, 2, 8, 4, 1}, 5, RZ_NONE);
+    expect_run_refused((struct lengths){3, 1, 4, 3, 2, 8, 4, 1}, 6, RZ_NONE);
+    expect_run_refused((struct lengths){3, 3, 1, 3, 2, 8, 4, 1}, 7, RZ_NONE);
+    expect_run_refused((struct lengths){3, 1, 1, 2, 1, 7, 3, 0}, 13, 1);
+    expect_run_refused((struct lengths){3, 1, 1, 3, 1, 7, 3, 0}, 13, 2);
+    expect_run_refused((struct lengths){3, 1, 1, 3, 2, 7, 3, 0}, 13, 3);
+    expect_run_refused((struct lengths){3, 1, 1, 3, 2, 8, 3, 0}, 13, 4);
+    expect_run_refused((struct lengths){3, 1, 1, 3, 2, 8, 4, 0}, 13, 5);
+}
+
+/* The numbers that one of the two alone gives: 9, 10 and 11 of the judge, 12 of the prover. */
+static void expect_own_numbers(void) {
+    const uint64_t no_query[] = {9, RZ_NONE, RZ_NONE, 0, RZ_NONE}, outside[] = {10, 1, RZ_NONE, 0, RZ_NONE};
+    const uint64_t fails[] = {11, 0, 1, 4, RZ_NONE}, degree[] = {12, 1, RZ_NONE, 0, 1};
+    const uint64_t last_one[] = {0, 0, 0, 1}, zero[] = {0};
+    uint64_t answer[LENGTHS], store[LENGTHS], last[LENGTHS];
+
+    fill(answer);
+    fill(last);
+    rz_judge(3, 1, 1, 0, basis_k, 3, challenges_k, 2, queries_k, 0, word_k, 8, layer_k, 4, last_k, 1, answer, RZ_ANSWER_LENGTH);
+    expect_answer(answer, RZ_ANSWER_LENGTH, no_query, "rz_judge: no query");
+    rz_judge(3, 1, 1, 0, basis_k, 3, challenges_k, 2, queries_k, 2, word_k, 8, layer_k, 4, last_k, 1, answer, RZ_ANSWER_LENGTH);
+    expect_answer(answer, RZ_ANSWER_LENGTH, outside, "rz_judge: query out of range");
+    rz_judge(3, 1, 1, 0, basis_k, 3, challenges_k, 2, queries_k, 1, word_k, 8, layer_k, 4, zero, 1, answer, RZ_ANSWER_LENGTH);
+    expect_answer(answer, RZ_ANSWER_LENGTH, fails, "rz_judge: round check");
+    rz_prove(2, 1, 1, 0, basis, 2, coefficients, 1, last_one, 4, store, 0, last, 1, answer, RZ_ANSWER_LENGTH);
+    expect_answer(answer, RZ_ANSWER_LENGTH, degree, "rz_prove: degree");
+    expect_list(last, word, 0, "rz_prove: last coefficients after a degree that is told");
+}
+
 int main(void) {
     const uint64_t of_two[] = {0, RZ_NONE, RZ_NONE, 0, UINT64_C(0x800000000000000d)};
     const uint64_t of_zero[] = {15, RZ_NONE, RZ_NONE, 0, RZ_NONE};
@@ -140,8 +221,11 @@ int main(void) {
         expect_inverse(0, length, of_zero);
         expect_codes(length);
         expect_fold(length);
+        expect_run(length);
     }
     expect_refused();
     expect_folds_refused();
+    expect_runs_refused();
+    expect_own_numbers();
     return failures != 0;
 }

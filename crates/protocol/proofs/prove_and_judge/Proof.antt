@@ -23,9 +23,17 @@ returns c =
     let a = c .before .before .before .before .before .before .before .before .before .before .before .before .before .before .before .before .args in
     let f = c .before .before .before .before .before .before .before .prove in
     let store = f .last .1 .1 .1 .1 .1 .0 in
-    let last = f .last .1 .1 .1 .1 .1 .1 .0 in
-    (c .judge .ensures, (f .ensures .1 .0, (f .ensures .1 .1, λ h. c .judge .ensures
-        ∙ proved-accepted (a .parameters) (a .offset .0) (a .basis .now) (a .challenges .now) (a .queries .now) (a .word .now) (a .store .now) (a .last .now) store last (f .ensures .1 .0) (f .ensures .1 .1) h)))
+    let last = f .last .1 .1 .1 .1 .1 .1 .0 in (
+      c .judge .ensures,
+      (
+        f .ensures .1 .0,
+        (
+          f .ensures .1 .1,
+          λ h. c .judge .ensures
+              ∙ proved-accepted (a .parameters) (a .offset .0) (a .basis .now) (a .challenges .now) (a .queries .now) (a .word .now) (a .store .now) (a .last .now) store last (f .ensures .1 .0) (f .ensures .1 .1) h,
+        ),
+      ),
+    )
 
 pub prove-and-judge-spec : {M : Type 1} → statement M
 prove-and-judge-spec =
