@@ -164,17 +164,7 @@ next-filled step basis elements eb h e =
     ap₂ (λ (es xs : List ℕ). map (composedMaps es) xs) (elements-taken step basis elements h e) (mid-suffix step basis)
     ∙ sym (nextBasis-through step basis eb)
 
--- the front of the array is the next basis
-pub next-taken : (step : ℕ) (basis elements zeros filled : List ℕ) → All IsElement basis → step ≤ length basis → elements ≡ padded gf64 3 (stepElements step basis)
-    → filled ≡ map (composedMaps (take step elements)) (take (length basis - step) (drop step basis)) ++ drop (length (take (length basis - step) (drop step basis))) zeros
-    → take (length basis - step) filled ≡ nextBasis step basis
-next-taken step basis elements zeros filled eb h e f =
-    ap (take (length basis - step)) f
-    ∙ take-at (map (composedMaps (take step elements)) (take (length basis - step) (drop step basis))) (drop (length (take (length basis - step) (drop step basis))) zeros) (length basis - step)
-    (ap length (next-filled step basis elements eb h e) ∙ length-nextBasis step basis)
-    ∙ next-filled step basis elements eb h e
-
--- and zeros follow
+-- an array with the images in its front has the next basis there, and zeros follow
 pub next-padded : (n step : ℕ) (basis elements filled : List ℕ) → All IsElement basis → step ≤ length basis → elements ≡ padded gf64 3 (stepElements step basis)
     → filled ≡ map (composedMaps (take step elements)) (take (length basis - step) (drop step basis)) ++ drop (length (take (length basis - step) (drop step basis))) (replicate n 0)
     → filled ≡ padded gf64 n (nextBasis step basis)

@@ -165,9 +165,7 @@ fn checked_next_basis(step: usize, basis: &[u64]) -> Outcome
     ensures { λ r. ⌜ r ≡ outcomeOfNextBasis (firstDependent (nextBasis step (now (basis .entry)))) ⌝ }
 {
     let count = basis.len() - step;
-    let elements = coset::step_elements(basis, step);
-    let mut next = [0u64; 20];
-    coset::fill_images(&elements[..step], &basis[step..], &mut next);
+    let next = coset::next_basis(basis, step);
     let dependent = coset::first_dependent(&next[..count]);
     match dependent {
         Position::At(_) => Outcome::Refused(Cause::LaterBasisDependent { round: 0 }),

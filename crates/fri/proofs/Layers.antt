@@ -13,7 +13,7 @@ use Rattle.coset.specs.Coset.{point}
 use Rattle.coset.specs.Subspace.{image}
 use Rattle.fri.specs.Layout.{roundsOf, stepsOf, dimension, lastCount, layerStart, storeLength}
 use Rattle.fri.specs.Run.{Run, stepsIn, roundsIn, stepIn, challengeIn}
-use Rattle.fri.specs.Layers.{basisIn, offsetIn, foldOf, honestLayer, lastInterpolant, honestLast, honest}
+use Rattle.fri.specs.Layers.{basisIn, offsetIn, foldOf, honestLayer, lastInterpolant, honestLast}
 use Rattle.fri.specs.Demand.{ValidParameters, ValidCoset}
 use Rattle.fri.specs.Theorems.{Layouts, LayerCosets, HonestLayers}
 use Rattle.fri.proofs.Layouts as laws

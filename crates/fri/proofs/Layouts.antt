@@ -5,7 +5,7 @@ use Prim.Native.Nat.{ℕ, zero, suc, _+_, _*_, _-_, _/_, _^_, _≤_, _<_}
 use native.Mathlib.Nat.{zero-mul, suc-mul, mul-zero, add-zero, add-suc, div-one, le-trans, sub-zero, sub-add-cancel, le-div-iff-mul-le, le-of-eq}
 use native.Mathlib.Omega.{arith}
 use lib.Pow.{shr-lt, shr-shr}
-use lib.ListN.{length, take, drop, length-drop, length-replicate, getD-replicate}
+use lib.ListN.{length, drop, length-drop, length-replicate, getD-replicate}
 use lib.Seq.{length-take-le}
 use Rattle.fri.specs.Layout.{roundsOf, stepsOf, stepAt, dimension, lastCount, layerStart, storeLength, storedLayer, indexIn}
 

@@ -1,9 +1,9 @@
 -- How far the judge is: what holds before a query and before a round, and the verdict where it stops. Assumes nothing.
-use mathlib.Core.Path.{_≡_, refl, sym, ap, ap₂, _∙_, subst}
+use mathlib.Core.Path.{_≡_, sym, ap, ap₂, _∙_, subst}
 use mathlib.Core.Logic.{_≢_, _⊎_, inl, inr}
 use mathlib.Core.List.{List}
-use Prim.Native.Nat.{ℕ, suc, _+_, _*_, _%_, _^_, _≤_, _<_, min}
-use native.Mathlib.Nat.{le-trans, le-of-eq, eq-or-lt-of-le, add-mul, mul-le-mul, mul-le-mul-right, suc-mul, min-le-right}
+use Prim.Native.Nat.{ℕ, _+_, _*_, _%_, _^_, _≤_, _<_, min}
+use native.Mathlib.Nat.{le-trans, eq-or-lt-of-le, add-mul, mul-le-mul, suc-mul, min-le-right}
 use native.Mathlib.Numerals.{add-one}
 use native.Mathlib.Omega.{arith}
 use lib.Pow.{pow-pos, shl-exact}
@@ -17,14 +17,14 @@ use Rattle.fri.specs.declared.Answer.{Answer}
 use Rattle.fri.specs.declared.Answer.the-variants as answers
 use Rattle.fri.specs.declared.Verdict.{Verdict}
 use Rattle.fri.specs.Run.{Run}
-use Rattle.fri.specs.Demand.{ValidCoset, ValidQueries}
+use Rattle.fri.specs.Demand.{ValidQueries}
 use Rattle.fri.specs.Theorems.{PassesEveryRound, FailsFirst}
 use Rattle.fri.specs.Judge.{checksOutcome, verdictOf}
 use Rattle.fri.specs.Rounds.{valueComputed, valueFound}
 use Rattle.fri.proofs.Checks.{run-valid}
 use Rattle.fri.proofs.Verdicts.{checks-valid, accepted-verdict, refused-by, reads-refused}
 use Rattle.layers.specs.declared.Parameters.{Parameters}
-use Rattle.layers.specs.Parameters.{stepsBy, Valid, runOf}
+use Rattle.layers.specs.Parameters.{stepsBy, runOf}
 use Rattle.layers.proofs.Sizes.{few-rounds}
 use Rattle.judging.specs.declared.rounds.Round.{Round}
 use Rattle.judging.specs.declared.rounds.Visit.{Visit}

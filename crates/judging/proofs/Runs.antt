@@ -20,8 +20,8 @@ use Rattle.fold.specs.Fold.{cosetEntries, foldEntry}
 use Rattle.fold.specs.Theorems.{IsWord}
 use Rattle.fold.proofs.Folding.{coset-within}
 use Rattle.refusal.proofs.Checks.{equal-of-test}
-use Rattle.fri.specs.Layout.{stepAt, dimension, layerStart, storeLength, storedLayer, indexIn}
-use Rattle.fri.specs.Run.{Run, stepsIn, roundsIn, challengeIn, layerIn, stepIn}
+use Rattle.fri.specs.Layout.{stepAt, dimension, layerStart, storedLayer, indexIn}
+use Rattle.fri.specs.Run.{Run, stepsIn, layerIn}
 use Rattle.fri.specs.Layers.{layerBasis, layerOffset, basisIn, offsetIn}
 use Rattle.fri.specs.Rounds.{valueComputed, valueFound}
 use Rattle.fri.specs.Demand.{ValidCoset}

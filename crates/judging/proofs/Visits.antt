@@ -1,12 +1,12 @@
 -- A coset that is met at one of its indices: its first point, its fold, and the point of the next layer. Assumes nothing.
 use mathlib.Core.Path.{_≡_, refl, sym, ap, ap₂, _∙_, subst}
 use mathlib.Core.List.{List, map}
-use Prim.Native.Nat.{ℕ, _+_, _*_, _-_, _/_, _%_, _^_, _≤_, _<_}
+use Prim.Native.Nat.{ℕ, _-_, _/_, _%_, _^_, _≤_, _<_}
 use native.Mathlib.Nat.{mod-lt, div-add-mod', div-lt-iff-lt-mul}
 use lib.Pow.{pow-pos}
 use lib.ListN.{length, getD, take, drop, length-map}
 use lib.Seq.{length-take-le}
-use lib.Bits.{bitXor, xor-comm, xor-self, xor-zero-r}
+use lib.Bits.{bitXor, xor-self, xor-zero-r}
 use Rattle.gf64.specs.Field.{IsElement, sum, inverse}
 use Rattle.gf64.proofs.Xor.{xor-assoc}
 use Rattle.poly.specs.Carrier.{gf64}

@@ -1,7 +1,7 @@
 -- The bases of the later layers, one after the other. Assumes nothing.
-use mathlib.Core.Path.{_≡_, refl, sym, ap, ap₂, _∙_}
+use mathlib.Core.Path.{_≡_, refl, sym, ap}
 use mathlib.Core.List.{List}
-use Prim.Native.Nat.{ℕ, zero, suc, _≤_, _<_}
+use Prim.Native.Nat.{ℕ, suc, _<_}
 use lib.ListN.{length}
 use Rattle.refusal.specs.declared.Cause.the-variants.{LaterBasisDependent}
 use Rattle.refusal.specs.declared.Outcome.the-variants.{Done, Refused}
@@ -10,7 +10,6 @@ use Rattle.refusal.proofs.Checks.{then-passed, then-refused}
 use Rattle.coset.specs.Span.{firstDependent}
 use Rattle.coset.specs.Subspace.{nextOffset, nextBasis}
 use Rattle.coset.specs.Answers.{outcomeOfLaterBasis}
-use Rattle.fri.specs.Layout.{stepAt}
 use Rattle.fri.specs.Layers.{layerBasis, layerOffset}
 use Rattle.fri.specs.Checks.{laterBasesOutcome}
 use Rattle.fri.proofs.Layouts.{step-of-round}

@@ -1,9 +1,8 @@
 -- The coset of a layer by value: equal where its three parts are, and its basis. Assumes nothing.
-use mathlib.Core.Path.{_≡_, sym, ap, ap₂, _∙_}
+use mathlib.Core.Path.{_≡_, ap, ap₂, _∙_}
 use mathlib.Core.List.{List}
-use Prim.Native.Nat.{ℕ, _-_, _≤_}
-use lib.ListN.{length, take}
-use Rattle.field.specs.declared.Element.{Element}
+use Prim.Native.Nat.{ℕ}
+use lib.ListN.{length}
 use Rattle.poly.specs.Carrier.{gf64}
 use Rattle.poly.specs.Polynomial.{padded}
 use Rattle.poly.proofs.Filling.{take-padded}

@@ -1,4 +1,4 @@
 pub mod Sizes
 pub mod LayerCosets
-mod Parts
+pub mod Parts
 pub mod LaterBases

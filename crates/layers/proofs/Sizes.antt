@@ -1,12 +1,12 @@
 -- Sizes that parameters in range allow: rounds, dimensions, and where the layers begin. Assumes nothing.
-use mathlib.Core.Path.{_≡_, refl, sym, ap, _∙_, subst}
+use mathlib.Core.Path.{_≡_, refl, sym}
 use mathlib.Core.List.{List}
-use Prim.Native.Nat.{ℕ, zero, suc, _+_, _*_, _-_, _^_, _≤_, _<_}
+use Prim.Native.Nat.{ℕ, zero, suc, _*_, _-_, _^_, _≤_, _<_}
 use native.Mathlib.Nat.{le-trans, le-of-eq, mul-one, mul-le-mul, suc-mul}
 use native.Mathlib.Omega.{arith}
 use lib.Pow.{pow-mono}
 use lib.ListN.{length}
-use Rattle.fri.specs.Layout.{stepAt, dimension, lastCount, layerStart, storeLength}
+use Rattle.fri.specs.Layout.{dimension, lastCount, layerStart, storeLength}
 use Rattle.fri.proofs.Layouts.{dimension-of-layer, rounds-fit, some-round}
 use Rattle.layers.specs.declared.Parameters.{Parameters}
 use Rattle.layers.specs.Parameters.{stepsBy, Valid}

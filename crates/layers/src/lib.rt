@@ -8,7 +8,7 @@ use refusal::Cause;
 use refusal::Outcome;
 use refusal::Position;
 ghost use mathlib.Core.Path.{_≡_};
-ghost use Prim.Native.Nat.{_^_, _≤_};
+ghost use Prim.Native.Nat.{_≤_};
 ghost use lib.ListN.{length};
 ghost use Rattle.fri.specs.Layout.{dimension, lastCount, layerStart};
 ghost use Rattle.fri.specs.Checks.{parametersOutcome, lengthsOutcome, laterBasesOutcome, basesOutcome, runOutcome};

@@ -1,7 +1,7 @@
 -- Demand 3 of what the functions return: from the theorems about the definitions, by the contracts. Assumes nothing.
-use mathlib.Core.Path.{_≡_, sym, ap, ap₂, _∙_, subst}
-use mathlib.Core.Logic.{_⊎_, inl, inr}
-use mathlib.Core.List.{List, [], _∷_, map}
+use mathlib.Core.Path.{_≡_, sym, ap, ap₂, _∙_}
+use mathlib.Core.Logic.{inl, inr}
+use mathlib.Core.List.{List, [], _∷_}
 use Prim.Native.Nat.{ℕ}
 use Rattle.poly.specs.Polynomial.{All}
 use Rattle.fri.specs.declared.Answer.the-variants as answers

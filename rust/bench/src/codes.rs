@@ -1,8 +1,8 @@
 //! Encoding and interpolation beside the same methods in Rust, over the largest coset.
 
+use crate::arithmetic::{Arithmetic, Windowed};
 use crate::clock::{table, Work};
 use crate::coset::{inputs, numbers, point, prefix_sums, stepped};
-use crate::field::{inverse, windowed as product};
 use std::hint::black_box;
 
 const DIMENSION: usize = 12;
@@ -88,38 +88,64 @@ fn by_library_interpolate(offset: u64, basis: &[u64], list: &[u64], output: &mut
 
 /// Horner at each point, the points in sequence.
 fn encode(offset: u64, basis: &[u64], coefficients: &[u64], values: &mut [u64]) {
-    let sums = prefix_sums(basis);
+    let sums = prefix_sums(Windowed, basis);
     let mut x = offset;
     for (j, value) in values.iter_mut().enumerate() {
-        *value = coefficients
-            .iter()
-            .rev()
-            .fold(0, |value, c| c ^ product(x, value));
-        x = stepped(&sums, x, j + 1);
+        *value = evaluate(Windowed, coefficients, x);
+        x = stepped(Windowed, &sums, x, j + 1);
     }
 }
 
-/// Newton's coefficients, then the polynomial from the last point to the first, all in the output.
-fn interpolate(offset: u64, basis: &[u64], word: &[u64], coefficients: &mut [u64]) {
-    for i in 0..coefficients.len() {
-        let z = point(offset, basis, i);
-        coefficients[i] = newton_coefficient(offset, basis, &coefficients[..i], z, word[i]);
+/// The value of the polynomial at x, by Horner.
+#[inline(always)]
+pub fn evaluate(arithmetic: impl Arithmetic, coefficients: &[u64], x: u64) -> u64 {
+    let mut value = 0;
+    for c in coefficients.iter().rev() {
+        value = arithmetic.sum(*c, arithmetic.product(x, value));
     }
-    for i in (0..coefficients.len()).rev() {
-        let x = point(offset, basis, i);
-        for j in i + 1..coefficients.len() {
-            coefficients[j - 1] ^= product(x, coefficients[j]);
+    value
+}
+
+fn interpolate(offset: u64, basis: &[u64], word: &[u64], coefficients: &mut [u64]) {
+    coefficients.copy_from_slice(word);
+    interpolate_in_place(Windowed, offset, basis, coefficients);
+}
+
+/// The values become Newton's coefficients, then the polynomial's, from the last point to the first.
+pub fn interpolate_in_place(
+    arithmetic: impl Arithmetic,
+    offset: u64,
+    basis: &[u64],
+    values: &mut [u64],
+) {
+    for i in 0..values.len() {
+        let z = point(arithmetic, offset, basis, i);
+        values[i] = newton_coefficient(arithmetic, offset, basis, &values[..i], z, values[i]);
+    }
+    for i in (0..values.len()).rev() {
+        let x = point(arithmetic, offset, basis, i);
+        for j in i + 1..values.len() {
+            values[j - 1] = arithmetic.sum(values[j - 1], arithmetic.product(x, values[j]));
         }
     }
 }
 
-fn newton_coefficient(offset: u64, basis: &[u64], known: &[u64], z: u64, y: u64) -> u64 {
-    let sums = prefix_sums(basis);
-    let (mut value, mut weight, mut x) = (0, 1, offset);
+/// The coefficient that gives Newton's form, of which the known ones come first, the value y at z.
+fn newton_coefficient(
+    arithmetic: impl Arithmetic,
+    offset: u64,
+    basis: &[u64],
+    known: &[u64],
+    z: u64,
+    y: u64,
+) -> u64 {
+    let sums = prefix_sums(arithmetic, basis);
+    let (mut value, mut vanishing, mut x) = (0, 1, offset);
     for (j, c) in known.iter().enumerate() {
-        value ^= product(weight, *c);
-        weight = product(weight, z ^ x);
-        x = stepped(&sums, x, j + 1);
+        value = arithmetic.sum(value, arithmetic.product(vanishing, *c));
+        vanishing = arithmetic.product(vanishing, arithmetic.sum(z, x));
+        x = stepped(arithmetic, &sums, x, j + 1);
     }
-    product(y ^ value, inverse(weight))
+    let inverse = arithmetic.inverse(vanishing);
+    arithmetic.product(arithmetic.sum(y, value), inverse)
 }

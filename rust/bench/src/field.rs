@@ -169,7 +169,9 @@ fn reduced(high: u64, low: u64) -> u64 {
 }
 
 /// The library's method: the power with exponent 2^64 - 2.
-pub fn inverse(a: u64) -> u64 {
+pub fn inverse(product: impl Fn(u64, u64) -> u64, a: u64) -> u64 {
+    // a^(2^n) · b.
+    let raised = |a, n, b| product((0..n).fold(a, |x, _| product(x, x)), b);
     let ones_2 = raised(a, 1, a);
     let ones_3 = raised(ones_2, 1, a);
     let ones_6 = raised(ones_3, 3, ones_3);
@@ -178,12 +180,7 @@ pub fn inverse(a: u64) -> u64 {
     let ones_30 = raised(ones_15, 15, ones_15);
     let ones_60 = raised(ones_30, 30, ones_30);
     let ones_63 = raised(ones_60, 3, ones_3);
-    windowed(ones_63, ones_63)
-}
-
-/// a^(2^n) · b.
-fn raised(a: u64, n: usize, b: u64) -> u64 {
-    windowed((0..n).fold(a, |x, _| windowed(x, x)), b)
+    product(ones_63, ones_63)
 }
 
 #[cfg(target_arch = "x86_64")]

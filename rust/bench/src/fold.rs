@@ -1,9 +1,9 @@
 //! The fold of a word beside the same method in Rust, with the library's product and with carry-less
 //! multiply hardware, over the largest coset.
 
+use crate::arithmetic::{sides, with_hardware, Arithmetic, Method, Windowed};
 use crate::clock::{table, Work};
-use crate::coset::{inputs, numbers, point, prefix_sums, stepped};
-use crate::field::{inverse, windowed};
+use crate::coset::{composed_maps, inputs, numbers, point, prefix_sums, step_elements, stepped};
 use razgwilh::Fold;
 use std::hint::black_box;
 
@@ -32,13 +32,7 @@ pub fn report() {
 }
 
 fn compare(given: Fold) {
-    let mut sides: Vec<(&str, Operation)> = vec![
-        ("the library", by_library),
-        ("the same method in Rust", by_window),
-    ];
-    if let Some(by_hardware) = hardware() {
-        sides.push(("carry-less multiply hardware in Rust", by_hardware));
-    }
+    let sides = sides(by_library as Operation, by_window, by_hardware);
     check(given, &sides);
     let size = 1 << given.step;
     let products = 3 * (size - 1) - 1;
@@ -87,87 +81,95 @@ fn by_library(given: Fold, values: &mut [u64], next_basis: &mut [u64]) -> u64 {
     answer.value.expect("nothing to refuse")
 }
 
-/// Calls the product, as the library does: inlined, it gains little in step 1 and loses in the others.
 fn by_window(given: Fold, values: &mut [u64], next_basis: &mut [u64]) -> u64 {
-    fold(windowed, given, values, next_basis)
+    Folding {
+        given,
+        values,
+        next_basis,
+    }
+    .by(Windowed)
 }
 
-#[cfg(target_arch = "x86_64")]
-fn hardware() -> Option<Operation> {
-    // The product is inlined only into what is compiled for the instruction too.
-    #[target_feature(enable = "pclmulqdq", enable = "sse2")]
-    unsafe fn with_instruction(given: Fold, values: &mut [u64], next_basis: &mut [u64]) -> u64 {
-        let product = |a, b| crate::field::carryless_multiply(a, b);
-        fold(product, given, values, next_basis)
-    }
-    fn by_hardware(given: Fold, values: &mut [u64], next_basis: &mut [u64]) -> u64 {
-        // SAFETY: handed out only where the processor has the instruction.
-        unsafe { with_instruction(given, values, next_basis) }
-    }
-    crate::field::hardware().map(|_| by_hardware as Operation)
-}
-
-#[cfg(not(target_arch = "x86_64"))]
-fn hardware() -> Option<Operation> {
-    None
-}
-
-/// A type of its own for each product, so that the fold is compiled for each.
-trait Product: Fn(u64, u64) -> u64 + Copy {}
-
-impl<F: Fn(u64, u64) -> u64 + Copy> Product for F {}
-
-/// The library's method. What is done once for all cosets is little beside them and has the windowed
-/// product on all sides.
-#[inline(always)]
-fn fold(product: impl Product, given: Fold, values: &mut [u64], next_basis: &mut [u64]) -> u64 {
-    let (first, others) = given.basis.split_at(given.step);
-    let elements = step_elements(first);
-    let halvings = halvings_of(&elements, given.challenge);
-    let span: Vec<u64> = (0..1 << given.step).map(|i| point(0, first, i)).collect();
-    let cosets = given.word.chunks_exact(span.len());
-    let sums = prefix_sums(others);
-    let mut x = given.offset;
-    for (j, (value, entries)) in values.iter_mut().zip(cosets).enumerate() {
-        *value = Coset::read(&span, x, entries).value_at(product, &halvings);
-        x = stepped(&sums, x, j + 1);
-    }
-    for (image, b) in next_basis.iter_mut().zip(others) {
-        *image = through(&elements, *b);
-    }
-    through(&elements, given.offset)
-}
-
-fn step_elements(basis: &[u64]) -> Vec<u64> {
-    basis.iter().fold(Vec::new(), |mut elements, b| {
-        elements.push(through(&elements, *b));
-        elements
+fn by_hardware(given: Fold, values: &mut [u64], next_basis: &mut [u64]) -> u64 {
+    with_hardware(Folding {
+        given,
+        values,
+        next_basis,
     })
+    .expect("timed only where there is such hardware")
 }
 
-/// X · (X - e) for each of the elements, one after the other.
-fn through(elements: &[u64], x: u64) -> u64 {
-    elements.iter().fold(x, |y, e| windowed(y, y ^ e))
+struct Folding<'a> {
+    given: Fold<'a>,
+    values: &'a mut [u64],
+    next_basis: &'a mut [u64],
 }
 
-/// What a halving needs in every coset: the inverse of its element, and the challenge through the earlier ones.
-struct Halving {
-    inverse: u64,
-    challenge: u64,
+impl Method for Folding<'_> {
+    type Result = u64;
+
+    #[inline(always)]
+    fn by(self, arithmetic: impl Arithmetic) -> u64 {
+        fold(arithmetic, self.given, self.values, self.next_basis)
+    }
 }
 
-fn halvings_of(elements: &[u64], challenge: u64) -> Vec<Halving> {
-    (0..elements.len())
-        .map(|t| Halving {
-            inverse: inverse(elements[t]),
-            challenge: through(&elements[..t], challenge),
-        })
-        .collect()
+/// The library's method.
+#[inline(always)]
+fn fold(
+    arithmetic: impl Arithmetic,
+    given: Fold,
+    values: &mut [u64],
+    next_basis: &mut [u64],
+) -> u64 {
+    let elements = step_elements(arithmetic, given.basis, given.step);
+    let elements = &elements[..given.step];
+    fill_values(arithmetic, elements, given, values);
+    for (image, b) in next_basis.iter_mut().zip(&given.basis[given.step..]) {
+        *image = composed_maps(arithmetic, elements, *b);
+    }
+    composed_maps(arithmetic, elements, given.offset)
 }
 
-/// Two, four or eight points with the word's entries there; behind the count are zeros.
+/// The offset is moved by the challenge once, and with it every point.
+#[inline(always)]
+pub fn fill_values(arithmetic: impl Arithmetic, elements: &[u64], given: Fold, values: &mut [u64]) {
+    let (first, upper) = given.basis.split_at(given.step);
+    let inverses = inverses_of(arithmetic, elements);
+    let span = span_of(arithmetic, first);
+    let span = &span[..1 << given.step];
+    let sums = prefix_sums(arithmetic, upper);
+    let mut moved = arithmetic.sum(given.offset, given.challenge);
+    let parts = given.word.chunks_exact(span.len());
+    for (j, (value, part)) in values.iter_mut().zip(parts).enumerate() {
+        let coset = Coset::read(arithmetic, span, moved, part);
+        *value = coset.value_at(arithmetic, &inverses[..given.step]);
+        moved = stepped(arithmetic, &sums, moved, j + 1);
+    }
+}
+
+/// The inverses of at most three elements, and zeros.
+pub fn inverses_of(arithmetic: impl Arithmetic, elements: &[u64]) -> [u64; 3] {
+    let mut inverses = [0; 3];
+    for (inverse, e) in inverses.iter_mut().zip(elements) {
+        *inverse = arithmetic.inverse(*e);
+    }
+    inverses
+}
+
+/// The span of at most three elements in point order, and zeros.
+pub fn span_of(arithmetic: impl Arithmetic, basis: &[u64]) -> [u64; 8] {
+    let mut span = [0; 8];
+    for (i, sum) in span.iter_mut().enumerate().take(1 << basis.len()) {
+        *sum = point(arithmetic, 0, basis, i);
+    }
+    span
+}
+
+/// Two, four or eight points, moved by the challenge, with the word's entries there; behind the count are
+/// zeros. Moved points halve to moved points, so that no halving needs the challenge itself.
 #[derive(Clone, Copy)]
-struct Coset {
+pub struct Coset {
     points: [u64; 8],
     entries: [u64; 8],
     count: usize,
@@ -175,12 +177,12 @@ struct Coset {
 
 impl Coset {
     #[inline(always)]
-    fn read(span: &[u64], first: u64, word: &[u64]) -> Coset {
+    pub fn read(arithmetic: impl Arithmetic, span: &[u64], moved: u64, part: &[u64]) -> Coset {
         let mut points = [0; 8];
         let mut entries = [0; 8];
         for i in 0..span.len() {
-            points[i] = first ^ span[i];
-            entries[i] = word[i];
+            points[i] = arithmetic.sum(moved, span[i]);
+            entries[i] = part[i];
         }
         Coset {
             points,
@@ -191,23 +193,24 @@ impl Coset {
 
     /// The value at the challenge of the polynomial with these entries at these points.
     #[inline(always)]
-    fn value_at(self, product: impl Product, halvings: &[Halving]) -> u64 {
-        let (last, others) = halvings.split_last().expect("a step is at least 1");
-        let halved = others
-            .iter()
-            .fold(self, |coset, halving| coset.halved(product, halving));
-        halved.line(product, 0, last)
+    pub fn value_at(self, arithmetic: impl Arithmetic, inverses: &[u64]) -> u64 {
+        let (last, others) = inverses.split_last().expect("a step is at least 1");
+        let mut coset = self;
+        for inverse in others {
+            coset = coset.halved(arithmetic, *inverse);
+        }
+        coset.line(arithmetic, 0, *last)
     }
 
     /// One entry for each two neighbours, at the product of the two.
     #[inline(always)]
-    fn halved(self, product: impl Product, halving: &Halving) -> Coset {
+    fn halved(self, arithmetic: impl Arithmetic, inverse: u64) -> Coset {
         let half = self.count / 2;
         let mut points = [0; 8];
         let mut entries = [0; 8];
         for i in 0..half {
-            points[i] = product(self.points[i * 2], self.points[i * 2 + 1]);
-            entries[i] = self.line(product, i, halving);
+            points[i] = arithmetic.product(self.points[i * 2], self.points[i * 2 + 1]);
+            entries[i] = self.line(arithmetic, i, inverse);
         }
         Coset {
             points,
@@ -216,11 +219,11 @@ impl Coset {
         }
     }
 
-    /// The value at the challenge of the line through points 2 i and 2 i + 1.
+    /// The value at the challenge, or its image, of the line through points 2 i and 2 i + 1.
     #[inline(always)]
-    fn line(&self, product: impl Product, i: usize, halving: &Halving) -> u64 {
+    fn line(&self, arithmetic: impl Arithmetic, i: usize, inverse: u64) -> u64 {
         let (u, v) = (self.entries[i * 2], self.entries[i * 2 + 1]);
-        let slope = product(u ^ v, halving.inverse);
-        u ^ product(halving.challenge ^ self.points[i * 2], slope)
+        let slope = arithmetic.product(arithmetic.sum(u, v), inverse);
+        arithmetic.sum(u, arithmetic.product(self.points[i * 2], slope))
     }
 }

@@ -1,14 +1,17 @@
 //! How long the proved library takes, as ratios to Rust in the same run. It times; it tests nothing.
 
+mod arithmetic;
 mod clock;
 mod codes;
 mod coset;
 mod field;
 mod fold;
+mod protocol;
 
 fn main() {
     println!("the least of many turns taken in rotation, and the library's time over each; both sides built for release");
     field::report();
     codes::report();
     fold::report();
+    protocol::report();
 }

@@ -1,9 +1,8 @@
 -- `cases::fill_queries` is safe and ends: i is at most the length. Assumes nothing.
-use lib.ListN.{length, length-set}
-use Prim.Native.Nat.{ℕ, _-_, _≤_}
-use mathlib.Core.Path.{_≡_, refl, _∙_}
+use lib.ListN.{length}
+use Prim.Native.Nat.{_-_, _≤_}
+use mathlib.Core.Path.{_≡_, refl}
 use borrow.Author.Needs.{needs}
-use native.Mathlib.Omega.{arith}
 use Rattle.cases.proofs.fill_queries.Statement.{statement}
 use Rattle.cases.proofs.fill_queries.Tie as tie
 

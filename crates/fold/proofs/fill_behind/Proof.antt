@@ -1,7 +1,7 @@
 -- `fold::fill_behind` meets its contract. Assumes nothing.
 use mathlib.Core.Path.{_≡_, sym, ap, ap₂, _∙_}
 use mathlib.Core.List.{List, _++_}
-use Prim.Native.Nat.{ℕ, _+_, _*_, _-_, _%_, _^_}
+use Prim.Native.Nat.{ℕ, _+_, _*_, _%_, _^_}
 use lib.Pow.{pow-mono}
 use lib.ListN.{length, take}
 use lib.Seq.{length-take-le}

@@ -1,6 +1,6 @@
 -- `fold::fill_values` meets its contract. Assumes nothing.
 use mathlib.Core.Path.{_≡_, sym, ap, _∙_}
-use Prim.Native.Nat.{ℕ, _*_, _-_, _%_, _^_}
+use Prim.Native.Nat.{ℕ, _*_, _%_, _^_}
 use lib.Pow.{pow-mono}
 use lib.ListN.{length, take}
 use lib.Seq.{length-take-le}

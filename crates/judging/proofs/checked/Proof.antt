@@ -6,7 +6,6 @@ use Rattle.refusal.proofs.Checks.{then-passed, then-refused}
 use Rattle.refusal.specs.declared.Outcome.the-variants.{Done}
 use mathlib.Core.Path.{_≡_, sym, _∙_}
 use borrow.Author.Needs.{needs}
-use native.Mathlib.Omega.{arith}
 use Rattle.judging.proofs.checked.Statement.{statement}
 use Rattle.judging.proofs.checked.Tie as tie
 

@@ -4,7 +4,6 @@ use Rattle.fri.specs.Checks.{firstOutside, outcomeOfOutside}
 use Rattle.coset.proofs.Sizes.{size-shifted}
 use Rattle.refusal.proofs.Checks.{within, passed-by}
 use Rattle.refusal.specs.declared.Position.the-variants.{Absent}
-use Rattle.refusal.specs.declared.Position.{Position}
 use Rattle.refusal.specs.declared.Cause.the-variants.{QueryCountOutOfRange}
 use borrow.Author.Tests.{ltb-true, ltb-false}
 use lib.ListN.{length}
@@ -12,7 +11,7 @@ use lib.Dec.{leb}
 use Prim.Native.Nat.{ℕ, _^_}
 use mathlib.Core.Bool.{_&&_}
 use mathlib.Core.Logic.{inl, inr, ⊎-elim}
-use mathlib.Core.Path.{_≡_, sym, ap, ap₂, _∙_}
+use mathlib.Core.Path.{_≡_, sym, ap, _∙_}
 use borrow.Author.Needs.{needs}
 use native.Mathlib.Omega.{arith}
 use Rattle.judging.proofs.checked_queries.Statement.{statement}

@@ -2,7 +2,7 @@
 use Rattle.judging.proofs.Queries.{outside-none, outside-here, outside-next}
 use Rattle.fri.specs.Checks.{firstOutside}
 use lib.ListN.{length, drop}
-use Prim.Native.Nat.{ℕ, _-_, _≤_}
+use Prim.Native.Nat.{_-_, _≤_}
 use mathlib.Core.Path.{_≡_, refl, _∙_}
 use borrow.Author.Needs.{needs}
 use native.Mathlib.Omega.{arith}

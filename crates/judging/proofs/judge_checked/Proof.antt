@@ -2,28 +2,22 @@
 use Rattle.refusal.specs.declared.Cause.the-variants.{RoundCheckFails}
 use Rattle.fri.specs.declared.Answer.the-variants as answers
 use Rattle.judging.proofs.Judged.{checked-run, BeforeQuery, BeforeRound, query-inside, count-few, cosets-few, round-passed, query-passed, accepted, refused}
-use Rattle.judging.proofs.Runs.{visitOf, visit-first, next-visit, computed-is, found-is, word-within, store-within, found-within, next-of, value-computed, value-found}
-use Rattle.judging.proofs.Tables.{Holds}
-use Rattle.judging.specs.Rounds.{noRound, roundAt, nextVisit, valueFolded, partRead, valueRead}
+use Rattle.judging.proofs.Runs.{visitOf, visit-first, next-visit, word-within, store-within, found-within, next-of, value-computed, value-found}
+use Rattle.judging.specs.Rounds.{noRound, nextVisit}
 use Rattle.judging.specs.declared.rounds.Visit.{Visit}
 use Rattle.judging.specs.declared.rounds.Round.{Round}
 use Rattle.layers.specs.Parameters.{stepsBy, runOf}
 use Rattle.fri.proofs.Verdicts.{checks-valid}
-use Rattle.fri.proofs.Cosets.{first-coset}
 use Rattle.fri.proofs.Checks.{run-valid}
-use Rattle.fri.specs.Judge.{checksOutcome}
 use Rattle.fri.specs.Layout.{indexIn}
 use Rattle.coset.proofs.Points.{all-elements}
 use borrow.Author.Tests.{ltb-true}
 use lib.ListN.{length, getD}
-use lib.Dec.{ltb}
 use native.Mathlib.Numerals.{add-one}
 use native.Mathlib.Nat.{min-le-right}
-use Prim.Native.Nat.{ℕ, suc, _+_, _*_, _-_, _/_, _%_, _^_, _≤_, _<_, min}
-use mathlib.Core.List.{List}
-use mathlib.Core.Bool.{Bool}
-use mathlib.Core.Logic.{_≢_, ⊎-elim}
-use mathlib.Core.Path.{_≡_, refl, sym, ap, ap₂, _∙_, subst}
+use Prim.Native.Nat.{ℕ, suc, _+_, _*_, _-_, _/_, _%_, _^_, _≤_, _<_}
+use mathlib.Core.Logic.{⊎-elim}
+use mathlib.Core.Path.{sym, ap, ap₂, _∙_, subst}
 use borrow.Author.Needs.{needs}
 use native.Mathlib.Omega.{arith}
 use Rattle.judging.proofs.judge_checked.Statement.{statement}

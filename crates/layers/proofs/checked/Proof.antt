@@ -7,7 +7,6 @@ use Rattle.refusal.specs.Checks.{andThen}
 use Rattle.refusal.specs.declared.Outcome.the-variants.{Done}
 use mathlib.Core.Path.{_≡_, sym, _∙_}
 use borrow.Author.Needs.{needs}
-use native.Mathlib.Omega.{arith}
 use Rattle.layers.proofs.checked.Statement.{statement}
 use Rattle.layers.proofs.checked.Tie as tie
 

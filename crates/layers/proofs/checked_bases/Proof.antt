@@ -8,7 +8,6 @@ use Rattle.refusal.specs.declared.Outcome.the-variants.{Done}
 use lib.ListN.{length}
 use mathlib.Core.Path.{_≡_, sym, _∙_}
 use borrow.Author.Needs.{needs}
-use native.Mathlib.Omega.{arith}
 use Rattle.layers.proofs.checked_bases.Statement.{statement}
 use Rattle.layers.proofs.checked_bases.Tie as tie
 

@@ -11,13 +11,12 @@ use Rattle.fri.specs.Layers.{layerBasis}
 use Rattle.fri.specs.Layout.{dimension}
 use Rattle.coset.specs.Subspace.{nextOffset, nextBasis}
 use Rattle.coset.specs.Span.{firstDependent}
-use Rattle.refusal.specs.declared.Position.the-variants.{At, Absent}
+use Rattle.refusal.specs.declared.Position.the-variants.{Absent}
 use lib.ListN.{length}
-use native.Mathlib.Nat.{le-of-eq}
 use native.Mathlib.Numerals.{add-one}
-use Prim.Native.Nat.{ℕ, suc, _+_, _-_, _≤_}
+use Prim.Native.Nat.{ℕ, suc, _-_, _≤_}
 use mathlib.Core.List.{List}
-use mathlib.Core.Path.{_≡_, refl, sym, ap, ap₂, _∙_}
+use mathlib.Core.Path.{_≡_, sym, ap, ap₂, _∙_}
 use borrow.Author.Needs.{needs}
 use native.Mathlib.Omega.{arith}
 use Rattle.layers.proofs.checked_later_bases.Statement.{statement}

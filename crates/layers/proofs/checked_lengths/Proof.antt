@@ -3,12 +3,8 @@ use Rattle.layers.proofs.Sizes.{one-round, storeLength-is}
 use Rattle.layers.specs.Parameters.{stepsBy, runOf}
 use Rattle.fri.proofs.Checks.{lengths-pass, list1-refused, list2-refused, list3-refused, list4-refused, list5-refused}
 use Rattle.fri.specs.Layout.{layerStart, storeLength}
-use Rattle.fri.specs.Run.{Run}
 use Rattle.coset.proofs.Sizes.{size-shifted}
-use lib.ListN.{length}
 use native.Mathlib.Nat.{le-of-eq}
-use Prim.Native.Nat.{ℕ, _*_, _%_, _^_}
-use mathlib.Core.Logic.{_≢_}
 use mathlib.Core.Path.{_≡_, sym, ap, _∙_}
 use borrow.Author.Needs.{needs}
 use native.Mathlib.Omega.{arith}

@@ -1,10 +1,9 @@
 -- `layers::layer` meets its contract. Assumes nothing.
 use Rattle.layers.proofs.Parts.{part-within, part-taken}
-use Rattle.layers.specs.Parts.{partOf}
 use Rattle.layers.specs.declared.Part.{Part}
 use lib.ListN.{length, take, drop}
 use Prim.Native.Nat.{ℕ, _+_, _-_, _≤_}
-use mathlib.Core.Path.{_≡_, refl, sym, ap, ap₂, _∙_, subst}
+use mathlib.Core.Path.{_≡_, sym, ap, _∙_, subst}
 use borrow.Author.Needs.{needs}
 use native.Mathlib.Omega.{arith}
 use Rattle.layers.proofs.layer.Statement.{statement}

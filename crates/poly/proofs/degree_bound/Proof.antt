@@ -1,8 +1,8 @@
 -- `poly::degree_bound` meets its contract. The loop's invariant: the degree is below the bound. Assumes nothing.
 use Rattle.poly.proofs.Degree.{bound-falls, bound-least, bound-within}
 use Rattle.poly.specs.Degree.{degreeBound}
-use lib.ListN.{length, getD}
-use Prim.Native.Nat.{ℕ, suc, _-_, _≤_}
+use lib.ListN.{length}
+use Prim.Native.Nat.{suc, _-_, _≤_}
 use mathlib.Core.Path.{_≡_, sym, _∙_}
 use borrow.Author.Needs.{needs}
 use native.Mathlib.Omega.{arith}

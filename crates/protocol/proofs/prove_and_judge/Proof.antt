@@ -2,7 +2,6 @@
 use Rattle.protocol.proofs.Theorems.{proved-accepted}
 use mathlib.Core.Path.{_∙_}
 use borrow.Author.Needs.{needs}
-use native.Mathlib.Omega.{arith}
 use Rattle.protocol.proofs.prove_and_judge.Statement.{statement}
 use Rattle.protocol.proofs.prove_and_judge.Tie as tie
 

@@ -11,7 +11,6 @@ use native.Mathlib.Nat.{le-of-eq}
 use Prim.Native.Nat.{_^_}
 use mathlib.Core.Path.{_≡_, sym, ap, _∙_}
 use borrow.Author.Needs.{needs}
-use native.Mathlib.Omega.{arith}
 use Rattle.reed_solomon.proofs.interpolate.Statement.{statement}
 use Rattle.reed_solomon.proofs.interpolate.Tie as tie
 

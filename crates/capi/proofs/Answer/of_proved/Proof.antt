@@ -1,13 +1,11 @@
 -- `capi::Answer::of_proved` meets its contract. Assumes nothing.
-use Rattle.capi.specs.Answers.{none, orNone, answerOfOutcome}
+use Rattle.capi.specs.Answers.{none, orNone}
 use Rattle.capi.specs.declared.Answer.{Answer}
 use Rattle.refusal.specs.Numbers.{numberOfOutcome, placeOfOutcome, roundOfOutcome}
 use borrow.Author.Tests.{eq-eqb, ne-eqb}
-use lib.Dec.{eqb}
 use mathlib.Core.Bool.{Bool, cond}
-use mathlib.Core.Path.{_≡_, sym, ap, _∙_}
+use mathlib.Core.Path.{sym, ap, _∙_}
 use borrow.Author.Needs.{needs}
-use native.Mathlib.Omega.{arith}
 use Rattle.capi.proofs.Answer.of_proved.Statement.{statement}
 use Rattle.capi.proofs.Answer.of_proved.Tie as tie
 

@@ -4,7 +4,6 @@ use Rattle.fri.specs.declared.Answer.the-variants as answers
 use Rattle.fri.specs.declared.Answer as judged
 use mathlib.Core.Path.{_≡_, sym, ap, _∙_}
 use borrow.Author.Needs.{needs}
-use native.Mathlib.Omega.{arith}
 use Rattle.capi.proofs.Answer.of_verdict.Statement.{statement}
 use Rattle.capi.proofs.Answer.of_verdict.Tie as tie
 

@@ -2,7 +2,6 @@
 use Rattle.judging.proofs.Tables.{start-of-word}
 use Rattle.judging.proofs.Tables.{Holds, holds-next}
 use Rattle.judging.specs.Rounds.{roundOver, roundAt}
-use Rattle.judging.specs.declared.rounds.Round.{Round}
 use Rattle.layers.proofs.LaterBases.{basis-first, basis-next}
 use Rattle.layers.proofs.LayerCosets.{basisOf-coset}
 use Rattle.layers.proofs.Sizes.{few-rounds, dimension-most, step-within}
@@ -13,9 +12,9 @@ use Rattle.fri.proofs.Cosets.{length-basis}
 use Rattle.fri.specs.Layers.{layerBasis}
 use Rattle.fri.specs.Layout.{layerStart}
 use Rattle.coset.specs.Subspace.{nextOffset, nextBasis}
-use lib.ListN.{length, getD, set, length-set, length-replicate}
+use lib.ListN.{length, getD, length-set}
 use native.Mathlib.Numerals.{add-one}
-use Prim.Native.Nat.{ℕ, suc, _+_, _-_, _≤_, _<_}
+use Prim.Native.Nat.{ℕ, suc, _-_, _≤_}
 use mathlib.Core.List.{List}
 use mathlib.Core.Path.{_≡_, refl, sym, ap, ap₂, _∙_}
 use borrow.Author.Needs.{needs}

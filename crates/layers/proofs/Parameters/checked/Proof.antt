@@ -3,7 +3,6 @@ use Rattle.fri.proofs.Checks.{parameters-pass, k-refused, rate-refused, step-re
 use borrow.Author.Tests.{ltb-true, ltb-false}
 use mathlib.Core.Logic.{inl, inr, ⊎-elim}
 use mathlib.Core.Path.{sym}
-use borrow.Author.Needs.{needs}
 use native.Mathlib.Omega.{arith}
 use Rattle.layers.proofs.Parameters.checked.Statement.{statement}
 use Rattle.layers.proofs.Parameters.checked.Tie as tie

@@ -1,7 +1,6 @@
 -- `Parameters::dimension` meets its contract. Assumes nothing.
 use Rattle.layers.proofs.Sizes.{rounds-taken, dimension-is}
 use mathlib.Core.Path.{sym}
-use borrow.Author.Needs.{needs}
 use native.Mathlib.Omega.{arith}
 use Rattle.layers.proofs.Parameters.dimension.Statement.{statement}
 use Rattle.layers.proofs.Parameters.dimension.Tie as tie

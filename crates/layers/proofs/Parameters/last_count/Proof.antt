@@ -5,7 +5,7 @@ use Rattle.fri.specs.Layout.{dimension}
 use Rattle.coset.proofs.Sizes.{size-shifted}
 use lib.ListN.{length}
 use native.Mathlib.Nat.{le-of-eq}
-use Prim.Native.Nat.{ℕ, _*_, _-_, _%_, _^_, _≤_}
+use Prim.Native.Nat.{ℕ, _-_, _^_}
 use mathlib.Core.Path.{_≡_, ap, _∙_}
 use borrow.Author.Needs.{needs}
 use native.Mathlib.Omega.{arith}

@@ -4,10 +4,9 @@ use Rattle.layers.specs.Parameters.{stepsBy}
 use Rattle.fri.proofs.Layouts.{start-next}
 use Rattle.fri.specs.Layout.{dimension, layerStart}
 use Rattle.coset.proofs.Sizes.{size-shifted}
-use lib.ListN.{length}
 use native.Mathlib.Numerals.{add-one}
-use Prim.Native.Nat.{ℕ, suc, _+_, _*_, _-_, _%_, _^_, _≤_}
-use mathlib.Core.Path.{_≡_, sym, ap, ap₂, _∙_, subst}
+use Prim.Native.Nat.{ℕ, _+_, _-_, _^_, _≤_}
+use mathlib.Core.Path.{_≡_, sym, ap, ap₂, _∙_}
 use borrow.Author.Needs.{needs}
 use native.Mathlib.Omega.{arith}
 use Rattle.layers.proofs.Parameters.layer_start.Statement.{statement}

@@ -3,7 +3,6 @@ use Rattle.layers.proofs.Parts.{has, part-where}
 use Rattle.layers.proofs.Sizes.{one-round, dimension-most, storeLength-is}
 use Rattle.layers.specs.Parts.{empty}
 use Rattle.layers.specs.Parameters.{stepsBy}
-use Rattle.layers.specs.declared.Part.{Part}
 use Rattle.fri.proofs.Checks.{parameters-valid}
 use Rattle.fri.specs.Layout.{dimension, layerStart, storeLength}
 use Rattle.coset.proofs.Sizes.{size-shifted}
@@ -13,7 +12,7 @@ use borrow.Author.Tests.{lt-leb, le-leb, le-ltb, lt-ltb, ne-eqb, eq-eqb, leb-tru
 use lib.ListN.{length}
 use lib.Dec.{leb, ltb, eqb}
 use native.Mathlib.Nat.{le-of-eq}
-use Prim.Native.Nat.{ℕ, _*_, _%_, _^_, _≤_, _<_}
+use Prim.Native.Nat.{ℕ, _*_, _%_, _^_, _<_}
 use mathlib.Core.Logic.{⊎-elim}
 use mathlib.Core.Bool.{true, false, _&&_}
 use mathlib.Core.Path.{_≡_, refl, sym, ap, ap₂, _∙_}

@@ -1,7 +1,6 @@
 -- `Parameters::rounds` meets its contract. Assumes nothing.
 use Rattle.fri.proofs.Layouts.{length-steps}
 use mathlib.Core.Path.{sym}
-use borrow.Author.Needs.{needs}
 use native.Mathlib.Omega.{arith}
 use Rattle.layers.proofs.Parameters.rounds.Statement.{statement}
 use Rattle.layers.proofs.Parameters.rounds.Tie as tie

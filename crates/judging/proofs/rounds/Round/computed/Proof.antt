@@ -2,12 +2,10 @@
 use Rattle.judging.proofs.StepSizes.{sizeOf, size-is, size-some, begin-is, begin-before}
 use Rattle.fold.proofs.Cosets.{lent-part, length-lent-part}
 use Rattle.judging.specs.Rounds.{valueFolded, partRead}
-use lib.Seq.{length-take-le}
-use lib.ListN.{length, take, drop, length-drop}
-use Prim.Native.Nat.{ℕ, _+_, _*_, _-_, _/_, _^_, _≤_}
-use mathlib.Core.List.{List}
-use mathlib.Core.Bool.{Bool, cond}
-use mathlib.Core.Path.{_≡_, refl, sym, ap, ap₂, _∙_}
+use lib.ListN.{length, take, drop}
+use Prim.Native.Nat.{ℕ, _+_, _*_, _/_, _≤_}
+use mathlib.Core.Bool.{Bool}
+use mathlib.Core.Path.{sym, ap, _∙_}
 use borrow.Author.Needs.{needs}
 use native.Mathlib.Omega.{arith}
 use Rattle.judging.proofs.rounds.Round.computed.Statement.{statement}

@@ -6,9 +6,8 @@ use Rattle.fold.specs.declared.halving.Coset.{Coset}
 use Rattle.gf64.specs.Field.{sum}
 use lib.Seq.{length-take-le}
 use lib.ListN.{length, getD, take}
-use native.Mathlib.Nat.{le-of-eq}
 use Prim.Native.Nat.{ℕ, _%_, _^_}
-use mathlib.Core.List.{List, map}
+use mathlib.Core.List.{map}
 use mathlib.Core.Path.{_≡_, sym, ap, ap₂, _∙_}
 use borrow.Author.Needs.{needs}
 use native.Mathlib.Omega.{arith}

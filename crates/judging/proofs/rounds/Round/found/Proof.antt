@@ -1,12 +1,11 @@
 -- `Round::found` meets its contract. Assumes nothing.
 use Rattle.poly.specs.Polynomial.{evaluate}
 use Rattle.poly.specs.Carrier.{gf64}
-use lib.ListN.{length, getD}
-use Prim.Native.Nat.{ℕ, _+_}
-use mathlib.Core.Bool.{Bool, true, false, cond}
-use mathlib.Core.Path.{_≡_, sym, ap, _∙_}
+use lib.ListN.{getD}
+use Prim.Native.Nat.{_+_}
+use mathlib.Core.Bool.{Bool, cond}
+use mathlib.Core.Path.{sym, ap, _∙_}
 use borrow.Author.Needs.{needs}
-use native.Mathlib.Omega.{arith}
 use Rattle.judging.proofs.rounds.Round.found.Statement.{statement}
 use Rattle.judging.proofs.rounds.Round.found.Tie as tie
 

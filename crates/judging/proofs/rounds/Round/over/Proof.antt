@@ -1,18 +1,16 @@
 -- `Round::over` meets its contract. Assumes nothing.
 use Rattle.judging.proofs.Tables.{round-equal}
-use Rattle.judging.specs.declared.rounds.Round.{Round}
 use Rattle.layers.specs.Cosets.{basisOf}
 use Rattle.coset.proofs.Subspace.{elements-taken}
-use Rattle.coset.specs.Steps.{stepElements}
 use Rattle.coset.specs.Coset.{points}
 use Rattle.poly.specs.Polynomial.{padded}
 use Rattle.poly.specs.Carrier.{gf64}
 use Rattle.gf64.specs.Field.{inverse}
 use lib.Seq.{length-take-le, take-take}
-use lib.ListN.{length, take}
-use Prim.Native.Nat.{ℕ, _≤_}
+use lib.ListN.{length}
+use Prim.Native.Nat.{ℕ}
 use mathlib.Core.List.{List, map}
-use mathlib.Core.Path.{_≡_, sym, ap, ap₂, _∙_}
+use mathlib.Core.Path.{_≡_, sym, ap, _∙_}
 use borrow.Author.Needs.{needs}
 use native.Mathlib.Omega.{arith}
 use Rattle.judging.proofs.rounds.Round.over.Statement.{statement}

@@ -3,7 +3,6 @@ use Rattle.judging.specs.declared.rounds.Visit.{Visit}
 use Prim.Native.Nat.{ℕ}
 use mathlib.Core.Path.{ap}
 use borrow.Author.Needs.{needs}
-use native.Mathlib.Omega.{arith}
 use Rattle.judging.proofs.rounds.Visit.first.Statement.{statement}
 use Rattle.judging.proofs.rounds.Visit.first.Tie as tie
 

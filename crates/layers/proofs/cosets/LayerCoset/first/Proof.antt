@@ -4,7 +4,6 @@ use Rattle.poly.proofs.Filling.{padded-front}
 use lib.ListN.{length}
 use mathlib.Core.Path.{refl, _∙_}
 use borrow.Author.Needs.{needs}
-use native.Mathlib.Omega.{arith}
 use Rattle.layers.proofs.cosets.LayerCoset.first.Statement.{statement}
 use Rattle.layers.proofs.cosets.LayerCoset.first.Tie as tie
 

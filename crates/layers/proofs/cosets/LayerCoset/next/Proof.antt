@@ -5,9 +5,8 @@ use Rattle.coset.proofs.Subspace.{elements-taken, nextOffset-through, length-ne
 use Rattle.coset.specs.Steps.{composedMaps}
 use Rattle.coset.specs.Subspace.{nextOffset, nextBasis}
 use lib.Seq.{length-take-le}
-use lib.ListN.{length, take}
-use native.Mathlib.Nat.{le-of-eq}
-use Prim.Native.Nat.{ℕ, _-_, _≤_}
+use lib.ListN.{length}
+use Prim.Native.Nat.{ℕ, _-_}
 use mathlib.Core.List.{List}
 use mathlib.Core.Path.{_≡_, sym, ap, _∙_}
 use borrow.Author.Needs.{needs}

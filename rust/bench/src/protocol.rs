@@ -1,0 +1,48 @@
+//! The prover and the judge beside the same methods in Rust, over the largest coset, and how both grow with
+//! the coset.
+
+mod inputs;
+mod judge;
+mod layers;
+mod prover;
+
+use crate::clock::{least, Work};
+use inputs::Inputs;
+use judge::Proof;
+
+const GROWTH_STEP: usize = 2;
+
+pub fn report() {
+    let growing: Vec<Inputs> = (10..=20).step_by(2).map(Inputs::new).collect();
+    if let Some(largest) = growing.last() {
+        prover::report(largest);
+        judge::report(largest);
+    }
+    report_growth(&growing);
+}
+
+/// The library's times, a column for each coset.
+fn report_growth(growing: &[Inputs]) {
+    let runs = || growing.iter().map(|inputs| inputs.run(GROWTH_STEP));
+    let dimensions: Vec<usize> = runs().map(|run| run.k).collect();
+    println!("\ngrowth with k = {dimensions:?} at step {GROWTH_STEP}, in µs:");
+    print_times("prove", runs().map(prover::library_work).collect(), 20);
+    let proved: Vec<_> = runs().map(prover::proved).collect();
+    let judges = growing.iter().zip(&proved).map(|(inputs, (store, last))| {
+        judge::library_work(Proof {
+            run: inputs.run(GROWTH_STEP),
+            queries: &inputs.queries,
+            store,
+            last,
+        })
+    });
+    print_times("judge", judges.collect(), judge::TURNS);
+}
+
+fn print_times(title: &str, mut works: Vec<Work>, turns: usize) {
+    print!("    {title:<10}");
+    for time in least(&mut works, turns) {
+        print!("{:>9.1}", time / 1e3);
+    }
+    println!();
+}

@@ -1,0 +1,40 @@
+//! Where the layers of a run lie, and the checks that the prover and the judge in Rust have in common.
+
+use crate::arithmetic::Arithmetic;
+use crate::coset::{is_independent, LayerCoset};
+use razgwilh::{Answer, Run};
+
+/// The dimension of layer i.
+pub fn dimension(run: &Run, i: usize) -> usize {
+    run.k - i * run.step
+}
+
+/// How many last coefficients there are.
+pub fn last_count(run: &Run) -> usize {
+    1 << (dimension(run, run.challenges.len()) - run.rate)
+}
+
+/// Where layer i, from 1 on, begins in the store.
+pub fn layer_start(run: &Run, i: usize) -> usize {
+    (1..i).map(|before| 1 << dimension(run, before)).sum()
+}
+
+/// The library's checks that make operations of the field; its others compare a few numbers.
+pub fn check_bases(arithmetic: impl Arithmetic, run: &Run) {
+    let mut coset = LayerCoset::first(0, run.basis);
+    assert!(is_independent(arithmetic, coset.basis()));
+    for _ in run.challenges {
+        coset = coset.next(arithmetic, run.step);
+        assert!(is_independent(arithmetic, coset.basis()));
+    }
+}
+
+pub fn done(reads: u64) -> Answer {
+    Answer {
+        number: 0,
+        place: None,
+        round: None,
+        reads,
+        value: None,
+    }
+}
