@@ -63,9 +63,8 @@ impl Round {
         requires { ⌜ (step ≤ 3) × (step ≤ coset .dimension) × (coset .dimension ≤ 20) ⌝ }
         ensures { λ r. ⌜ r ≡ roundOver step (basisOf coset) (challenge .0) start next ⌝ }
     {
+        let elements = coset.step_elements(step);
         let basis = coset.basis;
-        let dimension = coset.dimension;
-        let elements = coset::step_elements(&basis[..dimension], step);
         Round {
             elements,
             inverses: fold::inverses_of(&elements[..step]),

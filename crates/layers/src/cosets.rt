@@ -4,7 +4,10 @@ use refusal::Position;
 ghost use mathlib.Core.Path.{_≡_};
 ghost use Prim.Native.Nat.{_≤_};
 ghost use lib.ListN.{length};
+ghost use Rattle.poly.specs.Carrier.{gf64};
+ghost use Rattle.poly.specs.Polynomial.{padded};
 ghost use Rattle.coset.specs.Span.{firstDependent};
+ghost use Rattle.coset.specs.Steps.{stepElements};
 ghost use Rattle.coset.specs.Subspace.{nextOffset, nextBasis};
 ghost use Rattle.layers.specs.Cosets.{cosetOf, basisOf};
 
@@ -35,14 +38,24 @@ impl LayerCoset {
         requires { ⌜ (step ≤ 3) × (step ≤ self .dimension) × (self .dimension ≤ 20) ⌝ }
         ensures { λ r. ⌜ r ≡ cosetOf (nextOffset step (self .offset .0) (basisOf self)) (nextBasis step (basisOf self)) ⌝ }
     {
+        let elements = self.step_elements(step);
         let basis = self.basis;
         let dimension = self.dimension;
-        let elements = coset::step_elements(&basis[..dimension], step);
         LayerCoset {
             offset: coset::composed_maps(&elements[..step], self.offset),
             basis: coset::next_basis(&basis[..dimension], step),
             dimension: dimension - step,
         }
+    }
+
+    // The elements of the maps of a step, and zeros.
+    pub fn step_elements(self, step: usize) -> [u64; 3]
+        requires { ⌜ (step ≤ 3) × (step ≤ self .dimension) × (self .dimension ≤ 20) ⌝ }
+        ensures { λ r. ⌜ r ≡ padded gf64 3 (stepElements step (basisOf self)) ⌝ }
+    {
+        let basis = self.basis;
+        let dimension = self.dimension;
+        coset::step_elements(&basis[..dimension], step)
     }
 
     pub fn first_dependent(self) -> Position

@@ -207,9 +207,9 @@ fn fold_layer(coset: LayerCoset, step: usize, challenge: Element, layer: &[u64],
         × (length (now layer) ≡ 2 ^ (coset .dimension)) × (length (now next) ≡ 2 ^ (coset .dimension - step)) ⌝ }
     ensures { λ _. ⌜ now (next .exit) ≡ folded step (coset .offset .0) (basisOf coset) (now (layer .entry)) (challenge .0) ⌝ }
 {
+    let elements = coset.step_elements(step);
     let basis = coset.basis;
     let dimension = coset.dimension;
-    let elements = coset::step_elements(&basis[..dimension], step);
     fold::fill_values(
         &elements[..step],
         coset.offset,
@@ -226,9 +226,9 @@ fn fold_behind(coset: LayerCoset, step: usize, challenge: Element, joined: &mut 
         × (length (now joined) ≡ 2 ^ (coset .dimension) + 2 ^ (coset .dimension - step)) ⌝ }
     ensures { λ _. ⌜ now (joined .exit) ≡ take (2 ^ (coset .dimension)) (now (joined .entry)) ++ folded step (coset .offset .0) (basisOf coset) (take (2 ^ (coset .dimension)) (now (joined .entry))) (challenge .0) ⌝ }
 {
+    let elements = coset.step_elements(step);
     let basis = coset.basis;
     let dimension = coset.dimension;
-    let elements = coset::step_elements(&basis[..dimension], step);
     fold::fill_behind(
         &elements[..step],
         coset.offset,

@@ -13,51 +13,35 @@ use native.Mathlib.Omega.{arith}
 use Rattle.prover.proofs.fold_behind.Statement.{statement}
 use Rattle.prover.proofs.fold_behind.Tie as tie
 
-array-share-prefix-basis : tie.Need-array-share-prefix-basis
-array-share-prefix-basis c =
-    let start = c .before .before in
-    let twenty : length (start .args .coset .basis) ≡ 20 = search needs in
-    omega (arith, twenty, start .pre .3)
-
-slice-aggregate-step-elements : tie.Need-slice-aggregate-step-elements
-slice-aggregate-step-elements c =
-    let start = c .before .before .before in
-    let twenty : length (start .args .coset .basis) ≡ 20 = search needs in
-    sym (length-take-le (start .args .coset .dimension) (start .args .coset .basis) (omega (arith, twenty, start .pre .3)))
-
 step-elements-requires : tie.Need-step-elements-requires
-step-elements-requires c κs =
-    let start = c .before .before .before in
-    let twenty : length (start .args .coset .basis) ≡ 20 = search needs in
-    let whole = length-take-le (start .args .coset .dimension) (start .args .coset .basis) (omega (arith, twenty, start .pre .3)) in
-    (start .pre .1, omega (arith, whole, start .pre .2))
+step-elements-requires c κs = let start = c .before in (start .pre .1, start .pre .2, start .pre .3)
 
 array-share-prefix-elements : tie.Need-array-share-prefix-elements
 array-share-prefix-elements c = search needs
 
 slice-aggregate-fill-behind : tie.Need-slice-aggregate-fill-behind
 slice-aggregate-fill-behind c =
-    let start = c .before .before .before .before .before in
-    let three : length (c .before .step-elements .result) ≡ 3 = search needs in
-    sym (length-take-le (start .args .step) (c .before .step-elements .result) (omega (arith, three, start .pre .1)))
+    let start = c .before .before .before .before in
+    let three : length (c .before .before .step-elements .result) ≡ 3 = search needs in
+    sym (length-take-le (start .args .step) (c .before .before .step-elements .result) (omega (arith, three, start .pre .1)))
 
-array-share-prefix-basis-2 : tie.Need-array-share-prefix-basis-2
-array-share-prefix-basis-2 c =
-    let start = c .before .before .before .before .before in
+array-share-prefix-basis : tie.Need-array-share-prefix-basis
+array-share-prefix-basis c =
+    let start = c .before .before .before .before in
     let twenty : length (start .args .coset .basis) ≡ 20 = search needs in
     omega (arith, twenty, start .pre .3)
 
 slice-aggregate-fill-behind-2 : tie.Need-slice-aggregate-fill-behind-2
 slice-aggregate-fill-behind-2 c =
-    let start = c .before .before .before .before .before .before in
+    let start = c .before .before .before .before .before in
     let twenty : length (start .args .coset .basis) ≡ 20 = search needs in
     sym (length-take-le (start .args .coset .dimension) (start .args .coset .basis) (omega (arith, twenty, start .pre .3)))
 
 fill-behind-requires : tie.Need-fill-behind-requires
 fill-behind-requires c κs =
-    let start = c .before .before .before .before .before .before .before in
+    let start = c .before .before .before .before .before .before in
     let a = start .args in
-    let elements = c .before .before .before .step-elements .result in
+    let elements = c .before .before .before .before .step-elements .result in
     let three : length elements ≡ 3 = search needs in
     let count = length-take-le (a .step) elements (omega (arith, three, start .pre .1)) in
     let twenty : length (a .coset .basis) ≡ 20 = search needs in
@@ -67,7 +51,7 @@ fill-behind-requires c κs =
       omega (arith, count, start .pre .1),
       omega (arith, count, whole, start .pre .2),
       omega (arith, whole, start .pre .3),
-      elements-taken (a .step) basis elements (omega (arith, whole, start .pre .2)) (c .before .before .before .step-elements .ensures) ∙ ap (λ (n : ℕ). stepElements n basis) (sym count),
+      elements-taken (a .step) basis elements (omega (arith, whole, start .pre .2)) (c .before .before .before .before .step-elements .ensures) ∙ ap (λ (n : ℕ). stepElements n basis) (sym count),
       start .pre .4,
       start .pre .5 ∙ ap₂ (λ (m n : ℕ). 2 ^ m + 2 ^ (m - n)) (sym whole) (sym count),
     )
@@ -77,9 +61,9 @@ same-length c = search needs
 
 returns : tie.Need-returns
 returns c =
-    let start = c .before .before .before .before .before .before .before .before .before .before in
+    let start = c .before .before .before .before .before .before .before .before .before in
     let a = start .args in
-    let elements = c .before .before .before .before .before .before .step-elements .result in
+    let elements = c .before .before .before .before .before .before .before .step-elements .result in
     let three : length elements ≡ 3 = search needs in
     let count = length-take-le (a .step) elements (omega (arith, three, start .pre .1)) in
     let twenty : length (a .coset .basis) ≡ 20 = search needs in
@@ -92,12 +76,10 @@ pub fold-behind-spec : {M : Type 1} → statement M
 fold-behind-spec =
     tie.close
     (tie.spec
-    array-share-prefix-basis
-    slice-aggregate-step-elements
     step-elements-requires
     array-share-prefix-elements
     slice-aggregate-fill-behind
-    array-share-prefix-basis-2
+    array-share-prefix-basis
     slice-aggregate-fill-behind-2
     fill-behind-requires
     same-length
