@@ -10,10 +10,10 @@
  * is the offset plus the sum of all basis elements t whose bit t of j is set. A word lists 2^k values in point order. A
  * polynomial is the list of its coefficients, constant first.
  *
- * A function that can refuse writes its answer as five numbers into a lent list of length
+ * A function that can refuse, and the layer lookup, write their answer as five numbers into a lent list of length
  * RZ_ANSWER_LENGTH; where the list has another length, nothing at all is written or done. In order:
  *   number  0 when it went well, else that of the cause
- *   place   the section (numbers 1, 2), basis place (8), query (10, 11), degree (12) or list (13)
+ *   place   the section (numbers 1, 2), basis place (8), query (10, 11), degree (12) or list (13); for rz_layer, a start
  *   round   for numbers 11 and 16
  *   reads   how many entries a judge read: 0 where none were, and for every other function
  *   value   what the function gives, where it gives something and number is 0; for rz_prove, the degree on number 12
@@ -79,27 +79,28 @@ void rz_fold(size_t k, size_t step, uint64_t offset, const uint64_t *basis, size
              size_t word_length, uint64_t challenge, uint64_t *values, size_t values_length, uint64_t *next_basis,
              size_t next_basis_length, uint64_t *answer, size_t answer_length);
 
-/* The protocol over lists. k, R and the step have the ranges 2 to 20, 1 to 6 and 1 to 3, and k is at least R + step; there are r = (k - R) / step
- * rounds, rounded down. Round i, from 0, folds layer i at challenge i; layer 0 is the word, over the coset of dimension k with this offset and basis.
- * Layer i has 2^(k - i * step) entries. Layers 1 to r - 1 lie joined in the store, which is empty when r is 1. Layer r, of at most 256 entries, is
- * sent as its d = 2^(k - R - r * step) coefficients, constant first; d is 1, 2 or 4. */
+/* The protocol over lists. k is 2 to 20, the rate 1 to 6, the step 1 to 3, and k is at least rate + step; there are r = (k - rate) / step rounds,
+ * rounded down. Layer 0 is the word, over the coset of dimension k with this offset and basis. Round i, from 0, folds layer i at challenge i with
+ * the step, as rz_fold does: the fold is layer i + 1, over the next coset, with its next offset and next basis. Layer i has
+ * 2^(k - i * step) entries. Layers 1 to r - 1 lie joined in the store, which has the sum of their entries, none when r is 1. Layer r, of at most 256
+ * entries, is sent as the first d = 2^(k - rate - r * step) coefficients of its interpolant, constant first; d is 1, 2 or 4. */
 
 /* The prover: layers 1 to r - 1 into `store`, the last coefficients into `last`. Refused, in this order, with
  *   number 4   k is out of range; no place
- *   number 5   R is out of range; no place
+ *   number 5   the rate is out of range; no place
  *   number 6   the step is out of range; no place
- *   number 7   k is below R + step; no place
+ *   number 7   k is below rate + step; no place
  *   number 13  a list has the wrong length, and its place is the lowest such list: 1, `basis`, other than k; 2, `challenges`, other than r;
- *              3, `word`, other than 2^k; 4, `store`; 5, `last`, other than d
+ *              3, `word`, other than 2^k; 4, `store`, other than the sum above; 5, `last`, other than d
  *   number 8   a basis element lies in the span of earlier ones, and its place is the first such place, from 0
- *   number 16  a later layer's basis is dependent, which happens to no independent basis; no place, and the round
+ *   number 16  a later layer's basis is dependent, which happens to no independent basis; no place, and the round whose fold gives that layer
  *   number 12  layer r has degree d or more, and place and value are that degree; `store` then holds the layers, and `last` is as it was
  * All other refusals leave `store` and `last` as they were. No value but with number 12, no round but with number 16, 0 reads. */
 void rz_prove(size_t k, size_t rate, size_t step, uint64_t offset, const uint64_t *basis, size_t basis_length,
               const uint64_t *challenges, size_t challenges_length, const uint64_t *word, size_t word_length, uint64_t *store,
               size_t store_length, uint64_t *last, size_t last_length, uint64_t *answer, size_t answer_length);
 
-/* The layer lookup: layer i of a store, 1 <= i < r, is the part of `store` from place on, of value entries. It refuses nothing: parameters out of
+/* The layer lookup: layer i of a store, 1 <= i < r, is the part of `store` that starts at index place and has value entries. It refuses nothing: parameters out of
  * range, another i or a store of another length give the empty part, place 0 and value 0. No round, 0 reads. */
 void rz_layer(size_t k, size_t rate, size_t step, const uint64_t *store, size_t store_length, size_t i, uint64_t *answer,
               size_t answer_length);

@@ -22,7 +22,7 @@ use Rattle.capi.specs.declared.Answer.{Answer}
 abbrev pub none : ℕ
 none = 2 ^ 64 - 1
 
--- a place or a round is far below 2^64 - 1, being a small number or an index of a list
+-- a place or a round is far below 2^64 - 1, being a small number, a degree or an index of a list
 abbrev pub orNone : Position → ℕ
 orNone (At n) = n
 orNone Absent = none

@@ -32,7 +32,7 @@ pub struct Answer {
 // How many numbers an answer has.
 const ANSWER_LENGTH: usize = 5;
 
-// The number of a degree that is told.
+// Number 12, which tells a degree.
 const DEGREE_TOO_LARGE: u64 = 12;
 
 // Stands for a place, a round or a value that there is none of.

@@ -335,7 +335,7 @@ fn show_proved_and_judged(queries: &[u64], word: &mut [u64], store: &mut [u64]) 
     let challenges = [1u64, 2, 3, 4, 5, 6, 7, 8];
     let mut last = [0u64; 1];
     reed_solomon::encode(Element::ZERO, &basis, &[7u64, 3], word);
-    let verdict = protocol::prove_and_judge(
+    let judged = protocol::prove_and_judge(
         parameters,
         Element::ZERO,
         &basis,
@@ -345,7 +345,7 @@ fn show_proved_and_judged(queries: &[u64], word: &mut [u64], store: &mut [u64]) 
         store,
         &mut last,
     );
-    show_verdict(verdict);
+    show_verdict(judged.verdict);
 }
 
 // A query in each of the 256 first-layer cosets, and one more.

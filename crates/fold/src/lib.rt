@@ -30,7 +30,7 @@ pub enum Folded {
 
 // The fold of a word at the challenge, with the step, into `values`; the basis of the next coset into `next_basis`; its offset as the
 // answer. Refused, in this order: k outside 2..20 (4); a step outside 1..3 (6); k below the step (7); a list whose length is not the one
-// due, the lowest of 1, 3, 6 and 7 (13); a dependent basis (8); a dependent next basis (16), which no basis has that comes so far. A
+// due, the lowest of 1, 3, 6 and 7 (13); a dependent basis (8); a dependent next basis (16), which no independent basis has. A
 // refusal leaves both lists as they were.
 pub fn fold(
     k: usize,

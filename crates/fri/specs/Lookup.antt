@@ -9,7 +9,7 @@ use Rattle.refusal.specs.declared.Outcome.the-variants.{Done, Refused}
 use Rattle.fri.specs.Layout.{stepsOf, storeLength, storedLayer}
 use Rattle.fri.specs.Checks.{parametersOutcome}
 
--- the part where the checks pass, or the empty part
+-- the part if the checks pass, else the empty part
 abbrev pub partAfter : Outcome → List ℕ → List ℕ
 partAfter Done part = part
 partAfter (Refused cause) part = []

@@ -27,10 +27,10 @@ use Rattle.layers.specs.declared.Parameters.{Parameters}
 use Rattle.layers.specs.Parameters.{stepsBy, runOf}
 use Rattle.layers.proofs.Sizes.{few-rounds}
 use Rattle.judging.specs.declared.rounds.Round.{Round}
-use Rattle.judging.specs.declared.rounds.Visit.{Visit}
+use Rattle.judging.specs.declared.rounds.QueryPoint.{QueryPoint}
 use Rattle.judging.specs.Rounds.{roundAt}
 use Rattle.judging.proofs.Tables.{Holds}
-use Rattle.judging.proofs.Runs.{Checked, visitOf}
+use Rattle.judging.proofs.Runs.{Checked, queryPointOf}
 
 -- the checks before the round checks tell what the judge must know
 pub checked-run : (run : Run) (queries : List ℕ) → checksOutcome run queries ≡ Done → IsElement (run .offset) → All IsElement (run .basis) → All IsElement (run .challenges)
@@ -64,12 +64,12 @@ module _ (p : Parameters) (offset : ℕ) (basis challenges queries word store la
     pub cosets-are : cosets ≡ query * count
 
   -- before round i of a query
-  pub record BeforeRound (cosets query i : ℕ) (visit : Visit) : Type 0 where
+  pub record BeforeRound (cosets query i : ℕ) (here : QueryPoint) : Type 0 where
     pub before-query : BeforeQuery cosets query
     pub query-within : query < length queries
     pub round-most : i ≤ count
     pub rounds-passed : (n : ℕ) → n < i → valueComputed run (getD queries query 0) n ≡ valueFound run (getD queries query 0) n
-    pub visit-is : visit ≡ visitOf run (getD queries query 0) i
+    pub here-is : here ≡ queryPointOf run (getD queries query 0) i
 
   module _ (b : Prepared) where
     queries-are : ValidQueries (p .k) queries
@@ -89,7 +89,7 @@ module _ (p : Parameters) (offset : ℕ) (basis challenges queries word store la
 
     -- ---- from round to round, and from query to query
 
-    pub round-passed : {cosets query i : ℕ} {visit : Visit} → BeforeRound cosets query i visit
+    pub round-passed : {cosets query i : ℕ} {here : QueryPoint} → BeforeRound cosets query i here
         → valueComputed run (getD queries query 0) i ≡ valueFound run (getD queries query 0) i
         → (n : ℕ) → n < i + 1 → valueComputed run (getD queries query 0) n ≡ valueFound run (getD queries query 0) n
     round-passed {cosets} {query} {i} r e n h = by (eq-or-lt-of-le at-most)
@@ -101,7 +101,7 @@ module _ (p : Parameters) (offset : ℕ) (basis challenges queries word store la
         by (inl same) = subst (λ (m : ℕ). valueComputed run (getD queries query 0) m ≡ valueFound run (getD queries query 0) m) (sym same) e
         by (inr before) = r .rounds-passed n before
 
-    pub query-passed : {cosets query i : ℕ} {visit : Visit} → BeforeRound cosets query i visit → count ≤ i → BeforeQuery (cosets + count) (query + 1)
+    pub query-passed : {cosets query i : ℕ} {here : QueryPoint} → BeforeRound cosets query i here → count ≤ i → BeforeQuery (cosets + count) (query + 1)
     query-passed {cosets} {query} {i} r h =
         record {
           prepared = b;
@@ -127,7 +127,7 @@ module _ (p : Parameters) (offset : ℕ) (basis challenges queries word store la
         all : query ≡ length queries
         all = omega (arith, q .query-most)
 
-    pub refused : {cosets query i : ℕ} {visit : Visit} → BeforeRound cosets query i visit → i < count
+    pub refused : {cosets query i : ℕ} {here : QueryPoint} → BeforeRound cosets query i here → i < count
         → valueComputed run (getD queries query 0) i ≢ valueFound run (getD queries query 0) i
         → _≡_ {A = Verdict} (record { answer = answers.Refused (RoundCheckFails query i); reads = (cosets + min (i + 2) count) * 2 ^ p .step % 2 ^ 64 }) (verdictOf run queries)
     refused {cosets} {query} {i} r h fails =

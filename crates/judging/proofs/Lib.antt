@@ -1,5 +1,5 @@
 mod StepSizes
-mod Visits
+mod QueryPoints
 mod Tables
 mod Queries
 mod Runs

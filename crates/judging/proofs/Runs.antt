@@ -33,9 +33,9 @@ use Rattle.layers.specs.Parameters.{stepsBy, runOf}
 use Rattle.layers.proofs.Sizes.{storeLength-is}
 use Rattle.layers.proofs.LaterBases.{basis-next, offset-next}
 use Rattle.judging.specs.declared.rounds.Round.{Round}
-use Rattle.judging.specs.declared.rounds.Visit.{Visit}
-use Rattle.judging.specs.Rounds.{roundAt, visitAt, nextVisit, valueFolded, partRead, valueRead}
-use Rattle.judging.proofs.Visits.{folded-entry, visited-next, coset-inside}
+use Rattle.judging.specs.declared.rounds.QueryPoint.{QueryPoint}
+use Rattle.judging.specs.Rounds.{roundAt, queryPointAt, nextQueryPoint, valueFolded, partRead, valueRead}
+use Rattle.judging.proofs.QueryPoints.{folded-entry, query-point-next, coset-inside}
 
 -- what a judge knows of a run after the checks
 pub record Checked (run : Run) : Type 0 where
@@ -53,8 +53,8 @@ part-of-front (suc begin) size (suc n) [] h = refl
 part-of-front (suc begin) size (suc n) (e ∷ entries) h = part-of-front begin size n entries (omega arith)
 
 -- where a query stands in layer i
-abbrev pub visitOf : Run → ℕ → ℕ → Visit
-visitOf run j i = visitAt (offsetIn run i) (basisIn run i) (indexIn (stepsIn run) j i)
+abbrev pub queryPointOf : Run → ℕ → ℕ → QueryPoint
+queryPointOf run j i = queryPointAt (offsetIn run i) (basisIn run i) (indexIn (stepsIn run) j i)
 
 module _ (p : Parameters) (offset : ℕ) (basis challenges word store last : List ℕ) where
   abbrev run : Run
@@ -102,19 +102,19 @@ module _ (p : Parameters) (offset : ℕ) (basis challenges word store last : Lis
 
     -- ---- from layer to layer
 
-    pub next-visit : nextVisit (p .step) (round i .elements) (visitOf run j i) ≡ visitOf run j (suc i)
-    next-visit =
-        visited-next (p .step) (offsetIn run i) (basisIn run i) (layerIn run i) is-word fits index inside
-        ∙ ap₂ (λ (o : ℕ) (b : List ℕ). visitAt o b (index / 2 ^ p .step)) (offset-next p offset basis i h) (basis-next p offset basis i h)
-        ∙ ap (visitAt (offsetIn run (suc i)) (basisIn run (suc i))) index-next
+    pub next-query-point : nextQueryPoint (p .step) (round i .elements) (queryPointOf run j i) ≡ queryPointOf run j (suc i)
+    next-query-point =
+        query-point-next (p .step) (offsetIn run i) (basisIn run i) (layerIn run i) is-word fits index inside
+        ∙ ap₂ (λ (o : ℕ) (b : List ℕ). queryPointAt o b (index / 2 ^ p .step)) (offset-next p offset basis i h) (basis-next p offset basis i h)
+        ∙ ap (queryPointAt (offsetIn run (suc i)) (basisIn run (suc i))) index-next
 
     -- ---- the value computed
 
-    computed-by : partRead (p .step) (round i) (visitOf run j i) (eqb i 0) word store ≡ cosetEntries (p .step) (layerIn run i) (index / 2 ^ p .step)
-        → valueFolded (p .step) (round i) (visitOf run j i) (partRead (p .step) (round i) (visitOf run j i) (eqb i 0) word store) ≡ valueComputed run j i
+    computed-by : partRead (p .step) (round i) (queryPointOf run j i) (eqb i 0) word store ≡ cosetEntries (p .step) (layerIn run i) (index / 2 ^ p .step)
+        → valueFolded (p .step) (round i) (queryPointOf run j i) (partRead (p .step) (round i) (queryPointOf run j i) (eqb i 0) word store) ≡ valueComputed run j i
     unfolding valueComputed
     computed-by e =
-        ap (valueFolded (p .step) (round i) (visitOf run j i)) e
+        ap (valueFolded (p .step) (round i) (queryPointOf run j i)) e
         ∙ folded-entry (p .step) (offsetIn run i) (basisIn run i) (layerIn run i) is-word fits index inside (getD challenges i 0)
         (layerStart (p .k) (stepsBy p) i) (layerStart (p .k) (stepsBy p) (suc i)) (challenge-element run (ready .challenges-elements) i)
         ∙ ap₂ (λ (s m : ℕ). foldEntry s (offsetIn run i) (basisIn run i) (layerIn run i) (getD challenges i 0) m) (sym step-here) index-next
@@ -133,7 +133,7 @@ module _ (p : Parameters) (offset : ℕ) (basis challenges word store last : Lis
         ∙ getD-drop (layerStart (p .k) (stepsBy p) (suc i)) store (indexIn (stepsBy p) j (suc i)) 0)
     found-where false e = refl
 
-    pub found-is : valueRead (round i) (visitOf run j (suc i)) (ltb (suc i) (length (stepsBy p))) store last ≡ valueFound run j i
+    pub found-is : valueRead (round i) (queryPointOf run j (suc i)) (ltb (suc i) (length (stepsBy p))) store last ≡ valueFound run j i
     unfolding valueFound
     found-is = found-where (ltb (suc i) (length (stepsBy p))) refl
 
@@ -145,12 +145,12 @@ module _ (p : Parameters) (offset : ℕ) (basis challenges word store last : Lis
 
   module _ (ready : Checked run) (j : ℕ) (hj : j < 2 ^ p .k) where
     pub computed-is : (i : ℕ) → i < length (stepsBy p)
-        → valueFolded (p .step) (round i) (visitOf run j i) (partRead (p .step) (round i) (visitOf run j i) (eqb i 0) word store) ≡ valueComputed run j i
+        → valueFolded (p .step) (round i) (queryPointOf run j i) (partRead (p .step) (round i) (queryPointOf run j i) (eqb i 0) word store) ≡ valueComputed run j i
     unfolding cosetEntries layerIn storedLayer
     computed-is zero h = computed-by ready j zero hj h refl
     computed-is (suc i) h =
         computed-by ready j (suc i) hj h
-        (ap (λ (t : Bool). partRead (p .step) (round (suc i)) (visitOf run j (suc i)) t word store) (ne-eqb (suc i) 0 (λ e. omega arith))
+        (ap (λ (t : Bool). partRead (p .step) (round (suc i)) (queryPointOf run j (suc i)) t word store) (ne-eqb (suc i) 0 (λ e. omega arith))
         ∙ ap (take (2 ^ p .step)) (sym (drop-drop (begin ready j (suc i) hj h) (layerStart (p .k) (stepsBy p) (suc i)) store))
         ∙ sym (part-of-front (begin ready j (suc i) hj h) (2 ^ p .step) (2 ^ dimension (p .k) (stepsBy p) (suc i)) (drop (layerStart (p .k) (stepsBy p) (suc i)) store) (coset-ends ready j (suc i) hj h)))
 
@@ -165,30 +165,30 @@ module _ (p : Parameters) (offset : ℕ) (basis challenges word store last : Lis
     store-within (suc i) h e =
         omega (arith, coset-ends ready j (suc i) hj h, ready .fit .store, storeLength-is (p .k) (stepsBy p), layer-before (p .k) (stepsBy p) (suc i) (length (stepsBy p)) (omega arith) h)
 
-pub visit-first : (run : Run) (j : ℕ) → visitAt (run .offset) (run .basis) j ≡ visitOf run j 0
+pub query-point-first : (run : Run) (j : ℕ) → queryPointAt (run .offset) (run .basis) j ≡ queryPointOf run j 0
 unfolding indexIn layerOffset layerBasis
-visit-first run j = refl
+query-point-first run j = refl
 
--- ---- the two values, from a round and a visit as the code has them
+-- ---- the two values, from a round and a here as the code has them
 
 module _ (p : Parameters) (offset : ℕ) (basis challenges word store last : List ℕ) (ready : Checked (runOf p offset basis challenges word store last))
     (j i : ℕ) (hj : j < 2 ^ p .k) (h : i < length (stepsBy p)) (held : Round) (held-is : held ≡ roundAt p basis challenges i) where
   abbrev sent : Run
   sent = runOf p offset basis challenges word store last
 
-  pub value-computed : (visit : Visit) → visit ≡ visitOf sent j i
-      → valueFolded (p .step) held visit (partRead (p .step) held visit (eqb i 0) word store) ≡ valueComputed sent j i
-  value-computed visit e =
-      ap₂ (λ (r : Round) (v : Visit). valueFolded (p .step) r v (partRead (p .step) r v (eqb i 0) word store)) held-is e
+  pub value-computed : (here : QueryPoint) → here ≡ queryPointOf sent j i
+      → valueFolded (p .step) held here (partRead (p .step) held here (eqb i 0) word store) ≡ valueComputed sent j i
+  value-computed here e =
+      ap₂ (λ (r : Round) (v : QueryPoint). valueFolded (p .step) r v (partRead (p .step) r v (eqb i 0) word store)) held-is e
       ∙ computed-is p offset basis challenges word store last ready j hj i h
 
-  pub next-of : (visit : Visit) → visit ≡ visitOf sent j i → nextVisit (p .step) (held .elements) visit ≡ visitOf sent j (suc i)
-  next-of visit e =
-      ap₂ (λ (r : Round) (v : Visit). nextVisit (p .step) (r .elements) v) held-is e ∙ next-visit p offset basis challenges word store last ready j i hj h
+  pub next-of : (here : QueryPoint) → here ≡ queryPointOf sent j i → nextQueryPoint (p .step) (held .elements) here ≡ queryPointOf sent j (suc i)
+  next-of here e =
+      ap₂ (λ (r : Round) (v : QueryPoint). nextQueryPoint (p .step) (r .elements) v) held-is e ∙ next-query-point p offset basis challenges word store last ready j i hj h
 
-  pub value-found : (next : Visit) (count : ℕ) → next ≡ visitOf sent j (suc i) → count ≡ length (stepsBy p)
+  pub value-found : (next : QueryPoint) (count : ℕ) → next ≡ queryPointOf sent j (suc i) → count ≡ length (stepsBy p)
       → valueRead held next (ltb (i + 1) count) store last ≡ valueFound sent j i
   value-found next count e n =
-      ap₂ (λ (r : Round) (v : Visit). valueRead r v (ltb (i + 1) count) store last) held-is e
-      ∙ ap₂ (λ (m n : ℕ). valueRead (roundAt p basis challenges i) (visitOf sent j (suc i)) (ltb m n) store last) (add-one i) n
+      ap₂ (λ (r : Round) (v : QueryPoint). valueRead r v (ltb (i + 1) count) store last) held-is e
+      ∙ ap₂ (λ (m n : ℕ). valueRead (roundAt p basis challenges i) (queryPointOf sent j (suc i)) (ltb m n) store last) (add-one i) n
       ∙ found-is p offset basis challenges word store last ready j i hj h

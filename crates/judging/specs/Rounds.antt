@@ -1,4 +1,4 @@
--- What a round has of its layer for all queries, and where a query stands in a layer, as the code has them. Only inner functions cite this.
+-- What the judge computes once for each round, and a query's index and point in a layer, as the code has them. Only inner functions cite this.
 use mathlib.Core.Bool.{Bool, cond}
 use mathlib.Core.List.{List, [], map}
 use Prim.Native.Nat.{ℕ, suc, _+_, _*_, _/_, _%_, _^_}
@@ -14,9 +14,9 @@ use Rattle.fri.specs.Layers.{layerBasis}
 use Rattle.layers.specs.declared.Parameters.{Parameters}
 use Rattle.layers.specs.Parameters.{stepsBy}
 use Rattle.judging.specs.declared.rounds.Round.{Round}
-use Rattle.judging.specs.declared.rounds.Visit.{Visit}
+use Rattle.judging.specs.declared.rounds.QueryPoint.{QueryPoint}
 
--- a round over a basis, with a challenge, whose layer and the next one begin there
+-- a round over a basis, with a challenge; its layer begins at `start` in the store, and the next one at `next`
 abbrev pub roundOver : ℕ → List ℕ → ℕ → ℕ → ℕ → Round
 roundOver step basis challenge start next =
     record {
@@ -28,7 +28,7 @@ roundOver step basis challenge start next =
       next = next;
     }
 
--- in place of a round that there is none of
+-- what `getD` gives beyond the table
 abbrev pub noRound : Round
 noRound =
     record {
@@ -46,30 +46,30 @@ roundAt p basis challenges i =
     roundOver (p .step) (layerBasis (stepsBy p) basis i) (getD challenges i 0) (layerStart (p .k) (stepsBy p) i) (layerStart (p .k) (stepsBy p) (suc i))
 
 -- a query at an index of a layer over a coset
-abbrev pub visitAt : ℕ → List ℕ → ℕ → Visit
-visitAt offset basis index = record { index = index; point = record { 0 = point offset basis index } }
+abbrev pub queryPointAt : ℕ → List ℕ → ℕ → QueryPoint
+queryPointAt offset basis index = record { index = index; point = record { 0 = point offset basis index } }
 
 -- from one layer to the next
-abbrev pub nextVisit : ℕ → List ℕ → Visit → Visit
-nextVisit step elements visit =
+abbrev pub nextQueryPoint : ℕ → List ℕ → QueryPoint → QueryPoint
+nextQueryPoint step elements here =
     record {
-      index = visit .index / 2 ^ step;
-      point = record { 0 = composedMaps (take step elements) (visit .point .0) };
+      index = here .index / 2 ^ step;
+      point = record { 0 = composedMaps (take step elements) (here .point .0) };
     }
 
--- the fold of the visit's coset, with these entries
-abbrev pub valueFolded : ℕ → Round → Visit → List ℕ → ℕ
-valueFolded step round visit part =
+-- the fold of the coset that holds the query's index, with these entries
+abbrev pub valueFolded : ℕ → Round → QueryPoint → List ℕ → ℕ
+valueFolded step round here part =
     valueAt (take step (round .inverses))
-    (map (sum (sum (round .challenge .0) (sum (visit .point .0) (getD (round .span) (visit .index % 2 ^ step) 0)))) (take (2 ^ step) (round .span))) part
+    (map (sum (sum (round .challenge .0) (sum (here .point .0) (getD (round .span) (here .index % 2 ^ step) 0)))) (take (2 ^ step) (round .span))) part
 
--- the entries of the visit's coset: of the word in the first round, later of the store
-abbrev pub partRead : ℕ → Round → Visit → Bool → List ℕ → List ℕ → List ℕ
-partRead step round visit first word store =
-    let begin = visit .index / 2 ^ step * 2 ^ step in
+-- the entries of that coset: of the word in the first round, later of the store
+abbrev pub partRead : ℕ → Round → QueryPoint → Bool → List ℕ → List ℕ → List ℕ
+partRead step round here first word store =
+    let begin = here .index / 2 ^ step * 2 ^ step in
     cond first (take (2 ^ step) (drop begin word)) (take (2 ^ step) (drop (round .start + begin) store))
 
 -- the value found: an entry of the next layer or, in the last round, the last polynomial's
-abbrev pub valueRead : Round → Visit → Bool → List ℕ → List ℕ → ℕ
+abbrev pub valueRead : Round → QueryPoint → Bool → List ℕ → List ℕ → ℕ
 valueRead round next stored store last =
     cond stored (getD store (round .next + next .index) 0) (evaluate gf64 last (next .point .0))

@@ -8,7 +8,7 @@ use layers::Parameters;
 use refusal::Cause;
 use refusal::Outcome;
 use refusal::Position;
-use rounds::Visit;
+use rounds::QueryPoint;
 ghost use mathlib.Core.Path.{_≡_};
 ghost use Prim.Native.Nat.{_+_, _≤_, _<_, min};
 ghost use Rattle.fri.specs.Checks.{firstOutside, queriesOutcome};
@@ -128,18 +128,18 @@ fn judge_checked(
     let mut query: usize = 0;
     let mut i: usize = 0;
     'queries: while query < queries.len() {
-        let mut visit = Visit::first(offset, basis, queries[query] as usize);
+        let mut here = QueryPoint::first(offset, basis, queries[query] as usize);
         i = 0;
         while i < count {
             let round = table[i];
-            let next = visit.next(round, parameters.step);
-            let computed = round.computed(parameters.step, visit, i == 0, word, store);
+            let next = here.next(round, parameters.step);
+            let computed = round.computed(parameters.step, here, i == 0, word, store);
             let found = round.found(next, i + 1 < count, store, last);
             if computed.0 != found.0 {
                 cosets += read_until(i, count);
                 break 'queries;
             }
-            visit = next;
+            here = next;
             i += 1;
         }
         cosets += count;
@@ -158,7 +158,8 @@ fn judge_checked(
     }
 }
 
-// How many cosets a query has read when the check of round i fails: those up to round i and, for the value found, the next one, if there is one.
+// How many cosets a query has read when the check of round i of r, the count, fails: those up to round i and, for the value found, the next one, if
+// there is one.
 fn read_until(i: usize, count: usize) -> usize
     requires { ⌜ i < count ⌝ }
     ensures { λ r. ⌜ r ≡ min (i + 2) count ⌝ }

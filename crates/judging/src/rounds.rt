@@ -1,4 +1,4 @@
-// What a round has of its layer for all queries, and where a query stands in a layer.
+// What the judge computes once for each round, before the queries, and a query's index and point in a layer.
 use field::Element;
 use fold::halving::Coset;
 use layers::Parameters;
@@ -10,7 +10,7 @@ ghost use lib.ListN.{length, getD};
 ghost use Rattle.fri.specs.Layout.{dimension};
 ghost use Rattle.layers.specs.Parameters.{stepsBy, Valid};
 ghost use Rattle.layers.specs.Cosets.{basisOf};
-ghost use Rattle.judging.specs.Rounds.{noRound, roundOver, roundAt, visitAt, nextVisit, valueFolded, partRead, valueRead};
+ghost use Rattle.judging.specs.Rounds.{noRound, roundOver, roundAt, queryPointAt, nextQueryPoint, valueFolded, partRead, valueRead};
 
 // A round: the elements of its step's maps, their inverses, the span of the step's basis elements in point order, the challenge, and where
 // its layer and the next one begin in the store.
@@ -24,7 +24,7 @@ pub struct Round {
 }
 
 // A query's index in a layer, and the point there.
-pub struct Visit {
+pub struct QueryPoint {
     pub index: usize,
     pub point: Element,
 }
@@ -75,47 +75,47 @@ impl Round {
         }
     }
 
-    // The fold, at the challenge, of the coset that holds the visit; in the first round it is one of the word, later one of the store.
+    // The fold, at the challenge, of the coset that holds the query's index; in the first round it is one of the word, later one of the store.
     pub fn computed(
         self,
         step: usize,
-        visit: Visit,
+        here: QueryPoint,
         first: bool,
         word: &[u64],
         store: &[u64],
     ) -> Element
-        requires { ⌜ (1 ≤ step) × (step ≤ 3) × (first ≡ true → visit .index / 2 ^ step * 2 ^ step + 2 ^ step ≤ length (now word))
-            × (first ≡ false → self .start + visit .index / 2 ^ step * 2 ^ step + 2 ^ step ≤ length (now store)) ⌝ }
-        ensures { λ r. ⌜ r .0 ≡ valueFolded step self visit (partRead step self visit first (now (word .entry)) (now (store .entry))) ⌝ }
+        requires { ⌜ (1 ≤ step) × (step ≤ 3) × (first ≡ true → here .index / 2 ^ step * 2 ^ step + 2 ^ step ≤ length (now word))
+            × (first ≡ false → self .start + here .index / 2 ^ step * 2 ^ step + 2 ^ step ≤ length (now store)) ⌝ }
+        ensures { λ r. ⌜ r .0 ≡ valueFolded step self here (partRead step self here first (now (word .entry)) (now (store .entry))) ⌝ }
     {
         let size = 1 << step;
-        let begin = visit.index / size * size;
+        let begin = here.index / size * size;
         if first {
             let end = begin + size;
-            self.folded(step, visit, &word[begin..end])
+            self.folded(step, here, &word[begin..end])
         } else {
             let begin = self.start + begin;
             let end = begin + size;
-            self.folded(step, visit, &store[begin..end])
+            self.folded(step, here, &store[begin..end])
         }
     }
 
-    // The fold of a coset with these entries. Its first point is the visit's plus the span's element between the two.
-    fn folded(self, step: usize, visit: Visit, part: &[u64]) -> Element
+    // The fold of that coset, which has these entries. Its first point is the query's plus entry (index mod 2^step) of the span, the difference of the two.
+    fn folded(self, step: usize, here: QueryPoint, part: &[u64]) -> Element
         requires { ⌜ (1 ≤ step) × (step ≤ 3) × (length (now part) ≡ 2 ^ step) ⌝ }
-        ensures { λ r. ⌜ r .0 ≡ valueFolded step self visit (now (part .entry)) ⌝ }
+        ensures { λ r. ⌜ r .0 ≡ valueFolded step self here (now (part .entry)) ⌝ }
     {
         let size = 1 << step;
         let span = self.span;
         let inverses = self.inverses;
-        let between = span[visit.index % size];
-        let first = visit.point.sum(Element(between));
+        let between = span[here.index % size];
+        let first = here.point.sum(Element(between));
         let coset = Coset::read(&span[..size], self.challenge.sum(first), part);
         coset.value_at(&inverses[..step])
     }
 
-    // The value that the fold must equal: an entry of the next layer or, in the last round, the last polynomial's.
-    pub fn found(self, next: Visit, stored: bool, store: &[u64], last: &[u64]) -> Element
+    // The value that the fold must equal: an entry of the next layer, where that is stored, or, in the last round, the last polynomial's.
+    pub fn found(self, next: QueryPoint, stored: bool, store: &[u64], last: &[u64]) -> Element
         requires { ⌜ (stored ≡ true → self .next + next .index < length (now store)) ⌝ }
         ensures { λ r. ⌜ r .0 ≡ valueRead self next stored (now (store .entry)) (now (last .entry)) ⌝ }
     {
@@ -128,24 +128,24 @@ impl Round {
     }
 }
 
-impl Visit {
+impl QueryPoint {
     // In layer 0.
-    pub fn first(offset: Element, basis: &[u64], index: usize) -> Visit
-        ensures { λ r. ⌜ r ≡ visitAt (offset .0) (now (basis .entry)) index ⌝ }
+    pub fn first(offset: Element, basis: &[u64], index: usize) -> QueryPoint
+        ensures { λ r. ⌜ r ≡ queryPointAt (offset .0) (now (basis .entry)) index ⌝ }
     {
-        Visit {
+        QueryPoint {
             index,
             point: coset::point(offset, basis, index),
         }
     }
 
     // In the next layer.
-    pub fn next(self, round: Round, step: usize) -> Visit
+    pub fn next(self, round: Round, step: usize) -> QueryPoint
         requires { ⌜ step ≤ 3 ⌝ }
-        ensures { λ r. ⌜ r ≡ nextVisit step (round .elements) self ⌝ }
+        ensures { λ r. ⌜ r ≡ nextQueryPoint step (round .elements) self ⌝ }
     {
         let elements = round.elements;
-        Visit {
+        QueryPoint {
             index: self.index >> step,
             point: coset::composed_maps(&elements[..step], self.point),
         }

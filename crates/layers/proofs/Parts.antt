@@ -17,7 +17,7 @@ use Rattle.fri.proofs.Layouts.{layer-before}
 use Rattle.layers.specs.declared.Parameters.{Parameters}
 use Rattle.layers.specs.declared.Part.{Part}
 use Rattle.layers.specs.Parameters.{stepsBy}
-use Rattle.layers.specs.Parts.{empty, orEmpty, partOf}
+use Rattle.layers.specs.Parts.{empty, orEmpty, partOf, partIn}
 use Rattle.layers.proofs.Sizes.{storeLength-is}
 
 storedLayer-is : (k : ℕ) (steps store : List ℕ) (i : ℕ) → take (2 ^ dimension k steps i) (drop (layerStart k steps i) store) ≡ storedLayer k steps store i
@@ -53,7 +53,7 @@ module _ (p : Parameters) (count i : ℕ) where
 
 -- and it is the layer
 pub part-taken : (p : Parameters) (store : List ℕ) (i : ℕ)
-    → take (partOf p (length store) i .length) (drop (partOf p (length store) i .start) store) ≡ layerPart (p .k) (p .rate) (p .step) store i
+    → partIn (partOf p (length store) i) store ≡ layerPart (p .k) (p .rate) (p .step) store i
 part-taken p store i = by (parametersOutcome (p .k) (p .rate) (p .step)) (inStore (p .k) (stepsBy p) store i)
   where
     by : (outcome : Outcome) (test : Bool)

@@ -14,7 +14,7 @@ ghost use Rattle.fri.specs.Layout.{dimension, lastCount, layerStart};
 ghost use Rattle.fri.specs.Checks.{parametersOutcome, lengthsOutcome, laterBasesOutcome, basesOutcome, runOutcome};
 ghost use Rattle.fri.specs.Lookup.{layerPart};
 ghost use Rattle.layers.specs.Parameters.{stepsBy, Valid, runOf};
-ghost use Rattle.layers.specs.Parts.{partOf};
+ghost use Rattle.layers.specs.Parts.{partOf, partIn};
 
 // k, R and η.
 pub struct Parameters {
@@ -31,7 +31,8 @@ pub struct Part {
 
 // Layer i of a store, 1 ≤ i < r, or the empty part for bad parameters, another i or a store of another length.
 pub fn layer(parameters: Parameters, store: &[u64], i: usize) -> &[u64]
-    ensures { λ r. ⌜ now r ≡ layerPart (parameters .k) (parameters .rate) (parameters .step) (now (store .entry)) i ⌝ }
+    ensures layer { λ r. ⌜ now r ≡ layerPart (parameters .k) (parameters .rate) (parameters .step) (now (store .entry)) i ⌝ }
+    ensures part { λ r. ⌜ now r ≡ partIn (partOf parameters (length (now (store .entry))) i) (now (store .entry)) ⌝ }
 {
     let part = parameters.part(store.len(), i);
     let start = part.start;
@@ -130,7 +131,7 @@ impl Parameters {
     }
 }
 
-// The checks that prover and judge have in common, in the order of the papers: 4, 5, 6, 7, 13, 8, 16.
+// The checks that prover and judge have in common, in the order of the papers: 4, 5, 6, 7, 13, 8, 16. Any offset passes: it is there to name the run.
 pub fn checked(
     parameters: Parameters,
     offset: Element,
@@ -155,7 +156,7 @@ pub fn checked(
     }
 }
 
-// Refuses the lowest list whose length is not the one due (13).
+// Refuses the lowest list whose length is not the one due (13). The offset names the run.
 fn checked_lengths(
     parameters: Parameters,
     offset: Element,
@@ -199,7 +200,7 @@ fn checked_bases(parameters: Parameters, basis: &[u64]) -> Outcome
     }
 }
 
-// No independent basis has a dependent one after it.
+// Refuses a dependent basis of a later layer (16), with the round whose fold gives that layer. No independent basis has one after it.
 fn checked_later_bases(parameters: Parameters, basis: &[u64]) -> Outcome
     requires { ⌜ Valid parameters × (length (now basis) ≡ parameters .k) ⌝ }
     ensures { λ r. ⌜ r ≡ laterBasesOutcome (stepsBy parameters) (now (basis .entry)) 0 (length (stepsBy parameters)) ⌝ }

@@ -1,5 +1,6 @@
--- Demand 3 of what the functions return. The first half is a contract, that of `prove_and_judge`; the second half is stated here of any list of
--- verdicts that `judge` returned. proofs/Theorems.antt has the value.
+-- Demand 3, stated of what the functions return. The first half is a contract, that of `prove_and_judge`. The second half is stated here of any list of
+-- verdicts that are what `verdictOf` gives, as those are that `judge` returns, by its contract; there every number is a 64-bit number, which
+-- is `Elements`. proofs/Theorems.antt has the value.
 use mathlib.Core.Path.{_≡_}
 use mathlib.Core.List.{List}
 use Prim.Native.Nat.{ℕ, _*_, _-_, _^_, _<_}
@@ -34,7 +35,7 @@ pub record Judging : Type 0 where
 abbrev pub Judged : Run → Judging → Type 0
 Judged run judging = judging .verdict ≡ verdictOf run (judging .queries)
 
--- those that are accepted together visit every first-layer coset
+-- the accepted ones together visit every first-layer coset
 abbrev pub VisitedByAccepted : Run → List Judging → Type 0
 VisitedByAccepted run judgings =
     (coset : ℕ) → coset < 2 ^ (run .k - stepIn run 0)

@@ -2,13 +2,22 @@
 use field::Element;
 use fri::Verdict;
 use layers::Parameters;
+use refusal::Outcome;
 ghost use mathlib.Core.Path.{_≡_};
 ghost use Rattle.fri.specs.Judge.{verdictOf};
-ghost use Rattle.fri.specs.Prover.{storeAfter, lastAfter};
+ghost use Rattle.fri.specs.Prover.{proveOutcome, storeAfter, lastAfter};
+ghost use Rattle.refusal.specs.declared.Outcome.the-variants as outcomes;
 ghost use Rattle.layers.specs.Parameters.{runOf};
 ghost use Rattle.protocol.specs.Theorems.{Honest, accepted};
 
-// Proves, and judges what was proved: accepted, where the word has low degree and the other input is valid.
+// What the prover answered, and the verdict on what it left.
+pub struct ProvedAndJudged {
+    pub outcome: Outcome,
+    pub verdict: Verdict,
+}
+
+// Proves, and judges what the two lent lists hold then, whatever the prover answered. Where the word has low degree and the other input is
+// valid, it is proved and accepted.
 pub fn prove_and_judge(
     parameters: Parameters,
     offset: Element,
@@ -18,14 +27,15 @@ pub fn prove_and_judge(
     word: &[u64],
     store: &mut [u64],
     last: &mut [u64],
-) -> Verdict
-    ensures verdict { λ r. ⌜ r ≡ verdictOf (runOf parameters (offset .0) (now (basis .entry)) (now (challenges .entry)) (now (word .entry)) (now (store .exit)) (now (last .exit))) (now (queries .entry)) ⌝ }
+) -> ProvedAndJudged
+    ensures answer { λ r. ⌜ r .outcome ≡ proveOutcome (runOf parameters (offset .0) (now (basis .entry)) (now (challenges .entry)) (now (word .entry)) (now (store .entry)) (now (last .entry))) ⌝ }
+    ensures verdict { λ r. ⌜ r .verdict ≡ verdictOf (runOf parameters (offset .0) (now (basis .entry)) (now (challenges .entry)) (now (word .entry)) (now (store .exit)) (now (last .exit))) (now (queries .entry)) ⌝ }
     ensures store { λ _. ⌜ now (store .exit) ≡ storeAfter (runOf parameters (offset .0) (now (basis .entry)) (now (challenges .entry)) (now (word .entry)) (now (store .entry)) (now (last .entry))) ⌝ }
     ensures last { λ _. ⌜ now (last .exit) ≡ lastAfter (runOf parameters (offset .0) (now (basis .entry)) (now (challenges .entry)) (now (word .entry)) (now (store .entry)) (now (last .entry))) ⌝ }
-    ensures accepts { λ r. ⌜ (Honest (runOf parameters (offset .0) (now (basis .entry)) (now (challenges .entry)) (now (word .entry)) (now (store .entry)) (now (last .entry))) (now (queries .entry)) → r ≡ accepted (runOf parameters (offset .0) (now (basis .entry)) (now (challenges .entry)) (now (word .entry)) (now (store .entry)) (now (last .entry))) (now (queries .entry))) ⌝ }
+    ensures accepts { λ r. ⌜ (Honest (runOf parameters (offset .0) (now (basis .entry)) (now (challenges .entry)) (now (word .entry)) (now (store .entry)) (now (last .entry))) (now (queries .entry)) → (r .outcome ≡ outcomes.Done) × (r .verdict ≡ accepted (runOf parameters (offset .0) (now (basis .entry)) (now (challenges .entry)) (now (word .entry)) (now (store .entry)) (now (last .entry))) (now (queries .entry)))) ⌝ }
 {
-    prover::prove(parameters, offset, basis, challenges, word, store, last);
-    judging::judge(
+    let outcome = prover::prove(parameters, offset, basis, challenges, word, store, last);
+    let verdict = judging::judge(
         parameters,
         offset,
         basis,
@@ -34,5 +44,6 @@ pub fn prove_and_judge(
         word,
         &store[..],
         &last[..],
-    )
+    );
+    ProvedAndJudged { outcome, verdict }
 }

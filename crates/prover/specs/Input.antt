@@ -17,7 +17,7 @@ use Rattle.layers.specs.Cosets.{cosetOf}
 abbrev pub inputOf : Parameters → ℕ → List ℕ → List ℕ → List ℕ → Run
 inputOf p offset basis challenges word = runOf p offset basis challenges word [] []
 
--- what the checks leave known of it and of the number of entries in the store
+-- what is known of it, and of the number of entries in the store, after the checks
 pub record Passed (run : Run) (stored : ℕ) : Type 0 where
   pub parameters : ValidParameters (run .k) (run .rate) (run .step)
   pub basis : length (run .basis) ≡ run .k

@@ -1,4 +1,4 @@
-// The prover: it folds a word by the challenges and leaves layers 1 to r - 1 in the store, then the coefficients of layer r.
+// The prover: it folds a word at the challenges and leaves layers 1 to r - 1 in the store, then the first d coefficients of layer r's interpolant.
 use field::Element;
 use layers::Parameters;
 use layers::cosets::LayerCoset;
@@ -21,9 +21,10 @@ ghost use Rattle.layers.specs.Cosets.{basisOf};
 ghost use Rattle.prover.specs.Last.{lastOutcome, lastCoefficients};
 ghost use Rattle.prover.specs.Input.{inputOf, Passed, cosetIn, layerFrom};
 
-// The honest proof of a word at its challenges: layers 1 to r - 1, joined, into the store, and the coefficients of layer r into `last`.
+// The honest proof of a word at its challenges: layers 1 to r - 1, joined, into the store, and the first d coefficients of layer r's
+// interpolant into `last`.
 // Refused, in this order: k, R or η out of range, or k too small for them (4, 5, 6, 7); a list whose length is not the one due, the lowest
-// of 1 to 5 (13); a dependent basis (8); a dependent basis of a later layer (16), which no basis has that comes so far. These refusals
+// of 1 to 5 (13); a dependent basis (8); a dependent basis of a later layer (16), which no independent basis has. These refusals
 // leave both lists as they were. Then a layer r whose degree is not below the number of last coefficients (12), with that degree: the
 // store holds the layers, and `last` what it held.
 pub fn prove(
@@ -238,7 +239,7 @@ fn fold_behind(coset: LayerCoset, step: usize, challenge: Element, joined: &mut 
     );
 }
 
-// The first coefficients of the interpolant, unless its degree is as large as their number (12).
+// The first coefficients of the interpolant, unless its degree is their number or more (12).
 fn last_coefficients(interpolant: &[u64], last: &mut [u64]) -> Outcome
     requires { ⌜ length (now last) ≤ length (now interpolant) ⌝ }
     ensures answer { λ r. ⌜ r ≡ lastOutcome (now (interpolant .entry)) (length (now (last .entry))) ⌝ }

@@ -2,9 +2,9 @@
 use Rattle.refusal.specs.declared.Cause.the-variants.{RoundCheckFails}
 use Rattle.fri.specs.declared.Answer.the-variants as answers
 use Rattle.judging.proofs.Judged.{checked-run, BeforeQuery, BeforeRound, query-inside, count-few, cosets-few, round-passed, query-passed, accepted, refused}
-use Rattle.judging.proofs.Runs.{visitOf, visit-first, next-visit, word-within, store-within, found-within, next-of, value-computed, value-found}
-use Rattle.judging.specs.Rounds.{noRound, nextVisit}
-use Rattle.judging.specs.declared.rounds.Visit.{Visit}
+use Rattle.judging.proofs.Runs.{queryPointOf, query-point-first, next-query-point, word-within, store-within, found-within, next-of, value-computed, value-found}
+use Rattle.judging.specs.Rounds.{noRound, nextQueryPoint}
+use Rattle.judging.specs.declared.rounds.QueryPoint.{QueryPoint}
 use Rattle.judging.specs.declared.rounds.Round.{Round}
 use Rattle.layers.specs.Parameters.{stepsBy, runOf}
 use Rattle.fri.proofs.Verdicts.{checks-valid}
@@ -24,11 +24,11 @@ use Rattle.judging.proofs.judge_checked.Statement.{statement}
 use Rattle.judging.proofs.judge_checked.Tie as tie
 
 abbrev Inv-loop : tie.InvT-loop
-Inv-loop parameters offset basis challenges queries word store last count table cosets₀ query i₀ visit₀ cosets i visit =
-    BeforeRound parameters (offset .0) basis challenges queries word store last count table cosets query i visit
+Inv-loop parameters offset basis challenges queries word store last count table cosets₀ query i₀ here₀ cosets i here =
+    BeforeRound parameters (offset .0) basis challenges queries word store last count table cosets query i here
 
 abbrev μ-loop : tie.MeasureT-loop
-μ-loop parameters offset basis challenges queries word store last count table cosets₀ query i₀ visit₀ cosets i visit = count - i
+μ-loop parameters offset basis challenges queries word store last count table cosets₀ query i₀ here₀ cosets i here = count - i
 
 abbrev Inv-queries : tie.InvT-queries
 Inv-queries parameters offset basis challenges queries word store last count table cosets₀ query₀ i₀ cosets query i =
@@ -92,7 +92,7 @@ loop-holds c =
       query-within = omega arith;
       round-most = omega arith;
       rounds-passed = λ n h. absurd (omega arith);
-      visit-is = c .first .ensures ∙ visit-first run (getD (a .queries .now) (c .before .before .before .queries .query) 0);
+      here-is = c .first .ensures ∙ query-point-first run (getD (a .queries .now) (c .before .before .before .queries .query) 0);
     }
 
 mul-round : tie.Need-mul-round Inv-loop μ-loop Inv-queries μ-queries
@@ -113,7 +113,7 @@ computed-requires c κs =
     let j = getD (a .queries .now) (c .before .before .before .before .before .before .before .queries .query) 0 in
     let inside : l .i < length (stepsBy p) = omega (arith, b .count-is) in
     let hj = query-inside p (a .offset .0) (a .basis .now) (a .challenges .now) (a .queries .now) (a .word .now) (a .store .now) (a .last .now) (c .before .before .before .before .before .before .before .before .before .rounds .result) (c .before .before .before .before .before .before .before .before .set-up .result) b (c .before .before .before .before .before .before .before .queries .query) in
-    let here = ap (λ (v : Visit). v .index) (l .inv .visit-is) in (
+    let here = ap (λ (v : QueryPoint). v .index) (l .inv .here-is) in (
       b .ready .coset .parameters .step-least,
       b .ready .coset .parameters .step-most,
       λ t. subst (λ (n : ℕ). n / 2 ^ p .step * 2 ^ p .step + 2 ^ p .step ≤ length (a .word .now)) (sym here)
@@ -137,9 +137,9 @@ found-requires c κs =
     let hj = query-inside p (a .offset .0) (a .basis .now) (a .challenges .now) (a .queries .now) (a .word .now) (a .store .now) (a .last .now) (c .before .before .before .before .before .before .before .before .before .before .rounds .result) (c .before .before .before .before .before .before .before .before .before .set-up .result) b (c .before .before .before .before .before .before .before .before .queries .query) in
     let held = b .held (l .i) (omega arith) in
     let next = c .before .next .ensures
-    ∙ ap₂ (λ (r : Round) (v : Visit). nextVisit (p .step) (r .elements) v) held (l .inv .visit-is)
-    ∙ next-visit p (a .offset .0) (a .basis .now) (a .challenges .now) (a .word .now) (a .store .now) (a .last .now) (b .ready) j (l .i) hj inside in
-    λ t. subst (λ (v : Visit). getD (c .before .before .before .before .before .before .before .before .before .set-up .result) (l .i) noRound .next + v .index < length (a .store .now)) (sym next)
+    ∙ ap₂ (λ (r : Round) (v : QueryPoint). nextQueryPoint (p .step) (r .elements) v) held (l .inv .here-is)
+    ∙ next-query-point p (a .offset .0) (a .basis .now) (a .challenges .now) (a .word .now) (a .store .now) (a .last .now) (b .ready) j (l .i) hj inside in
+    λ t. subst (λ (v : QueryPoint). getD (c .before .before .before .before .before .before .before .before .before .set-up .result) (l .i) noRound .next + v .index < length (a .store .now)) (sym next)
     (subst (λ (r : Round). r .next + indexIn (stepsBy p) j (suc (l .i)) < length (a .store .now)) (sym held)
     (found-within p (a .offset .0) (a .basis .now) (a .challenges .now) (a .word .now) (a .store .now) (a .last .now) (b .ready) j (l .i) hj inside
     (omega (arith, ltb-true (l .i + 1) (c .before .before .before .before .before .before .before .before .before .before .rounds .result) t, b .count-is))))
@@ -175,8 +175,8 @@ loop-again c =
     let inside : l .i < length (stepsBy p) = omega (arith, b .count-is) in
     let hj = query-inside p (a .offset .0) (a .basis .now) (a .challenges .now) (a .queries .now) (a .word .now) (a .store .now) (a .last .now) count table b query in
     let held = b .held (l .i) (omega arith) in
-    let next = c .before .before .before .before .before .next .ensures ∙ next-of p (a .offset .0) (a .basis .now) (a .challenges .now) (a .word .now) (a .store .now) (a .last .now) (b .ready) j (l .i) hj inside (getD table (l .i) noRound) held (l .visit) (l .inv .visit-is) in
-    let computed = c .before .before .before .before .computed .ensures ∙ value-computed p (a .offset .0) (a .basis .now) (a .challenges .now) (a .word .now) (a .store .now) (a .last .now) (b .ready) j (l .i) hj inside (getD table (l .i) noRound) held (l .visit) (l .inv .visit-is) in
+    let next = c .before .before .before .before .before .next .ensures ∙ next-of p (a .offset .0) (a .basis .now) (a .challenges .now) (a .word .now) (a .store .now) (a .last .now) (b .ready) j (l .i) hj inside (getD table (l .i) noRound) held (l .here) (l .inv .here-is) in
+    let computed = c .before .before .before .before .computed .ensures ∙ value-computed p (a .offset .0) (a .basis .now) (a .challenges .now) (a .word .now) (a .store .now) (a .last .now) (b .ready) j (l .i) hj inside (getD table (l .i) noRound) held (l .here) (l .inv .here-is) in
     let found = c .before .before .before .found .ensures ∙ value-found p (a .offset .0) (a .basis .now) (a .challenges .now) (a .word .now) (a .store .now) (a .last .now) (b .ready) j (l .i) hj inside (getD table (l .i) noRound) held (c .before .before .before .before .before .next .result) count next (b .count-is) in
     record {
       before-query = l .inv .before-query;
@@ -185,7 +185,7 @@ loop-again c =
       rounds-passed =
           round-passed p (a .offset .0) (a .basis .now) (a .challenges .now) (a .queries .now) (a .word .now) (a .store .now) (a .last .now) count table b (l .inv)
           (sym computed ∙ c .if1 .left ∙ found);
-      visit-is = next ∙ ap (visitOf (runOf p (a .offset .0) (a .basis .now) (a .challenges .now) (a .word .now) (a .store .now) (a .last .now)) j) (sym (add-one (l .i)));
+      here-is = next ∙ ap (queryPointOf (runOf p (a .offset .0) (a .basis .now) (a .challenges .now) (a .word .now) (a .store .now) (a .last .now)) j) (sym (add-one (l .i)));
     }
 
 add-cosets-2 : tie.Need-add-cosets-2 Inv-loop μ-loop Inv-queries μ-queries
@@ -230,8 +230,8 @@ returns c =
     let within : l .i < count = t .4 .taken in
     let inside : l .i < length (stepsBy p) = subst (λ (n : ℕ). l .i < n) (b .count-is) within in
     let held = b .held (l .i) within in
-    let next = t .6 .ensures ∙ next-of p (a .offset .0) (a .basis .now) (a .challenges .now) (a .word .now) (a .store .now) (a .last .now) (b .ready) j (l .i) hj inside (getD table (l .i) noRound) held (l .visit) (l .inv .visit-is) in
-    let computed = t .7 .ensures ∙ value-computed p (a .offset .0) (a .basis .now) (a .challenges .now) (a .word .now) (a .store .now) (a .last .now) (b .ready) j (l .i) hj inside (getD table (l .i) noRound) held (l .visit) (l .inv .visit-is) in
+    let next = t .6 .ensures ∙ next-of p (a .offset .0) (a .basis .now) (a .challenges .now) (a .word .now) (a .store .now) (a .last .now) (b .ready) j (l .i) hj inside (getD table (l .i) noRound) held (l .here) (l .inv .here-is) in
+    let computed = t .7 .ensures ∙ value-computed p (a .offset .0) (a .basis .now) (a .challenges .now) (a .word .now) (a .store .now) (a .last .now) (b .ready) j (l .i) hj inside (getD table (l .i) noRound) held (l .here) (l .inv .here-is) in
     let found = t .8 .ensures ∙ value-found p (a .offset .0) (a .basis .now) (a .challenges .now) (a .word .now) (a .store .now) (a .last .now) (b .ready) j (l .i) hj inside (getD table (l .i) noRound) held (t .6 .result) count next (b .count-is) in
     ap₂ (λ (m n : ℕ). record { answer = answers.Refused (RoundCheckFails query m); reads = n * 2 ^ p .step % 2 ^ 64 }) (t .14) (t .13 ∙ ap (λ (n : ℕ). l .cosets + n) (t .12 .ensures))
     ∙ refused p (a .offset .0) (a .basis .now) (a .challenges .now) (a .queries .now) (a .word .now) (a .store .now) (a .last .now) count table b (l .inv) within

@@ -1,6 +1,7 @@
 -- `layers::layer` meets its contract. Assumes nothing.
 use Rattle.layers.proofs.Parts.{part-within, part-taken}
 use Rattle.layers.specs.declared.Part.{Part}
+use Rattle.layers.specs.Parts.{partIn}
 use lib.ListN.{length, take, drop}
 use Prim.Native.Nat.{ℕ, _+_, _-_, _≤_}
 use mathlib.Core.Path.{_≡_, sym, ap, _∙_, subst}
@@ -41,9 +42,9 @@ returns c =
     let a = c .before .before .before .before .args in
     let r = c .before .before .part .result in
     let back : r .start + r .length - r .start ≡ r .length = omega arith in
-    ap (λ (n : ℕ). take n (drop (r .start) (a .store .now))) back
-    ∙ ap (λ (p : Part). take (p .length) (drop (p .start) (a .store .now))) (c .before .before .part .ensures)
-    ∙ part-taken (a .parameters) (a .store .now) (a .i)
+    let part =
+    ap (λ (n : ℕ). take n (drop (r .start) (a .store .now))) back ∙ ap (λ (p : Part). partIn p (a .store .now)) (c .before .before .part .ensures) in
+    (part ∙ part-taken (a .parameters) (a .store .now) (a .i), part)
 
 pub layer-spec : {M : Type 1} → statement M
 layer-spec =

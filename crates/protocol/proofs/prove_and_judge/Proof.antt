@@ -1,7 +1,8 @@
 -- `protocol::prove_and_judge` meets its contract. Assumes nothing.
 use Rattle.protocol.proofs.Theorems.{proved-accepted}
-use mathlib.Core.Path.{_∙_}
+use mathlib.Core.Path.{_≡_, ap, _∙_}
 use borrow.Author.Needs.{needs}
+use native.Mathlib.Omega.{arith}
 use Rattle.protocol.proofs.prove_and_judge.Statement.{statement}
 use Rattle.protocol.proofs.prove_and_judge.Tie as tie
 
@@ -23,13 +24,17 @@ returns c =
     let f = c .before .before .before .before .before .before .before .prove in
     let store = f .last .1 .1 .1 .1 .1 .0 in
     let last = f .last .1 .1 .1 .1 .1 .1 .0 in (
-      c .judge .ensures,
+      f .ensures .0,
       (
-        f .ensures .1 .0,
+        c .judge .ensures,
         (
-          f .ensures .1 .1,
-          λ h. c .judge .ensures
-              ∙ proved-accepted (a .parameters) (a .offset .0) (a .basis .now) (a .challenges .now) (a .queries .now) (a .word .now) (a .store .now) (a .last .now) store last (f .ensures .1 .0) (f .ensures .1 .1) h,
+          f .ensures .1 .0,
+          (
+            f .ensures .1 .1,
+            λ h.
+                let both = proved-accepted (a .parameters) (a .offset .0) (a .basis .now) (a .challenges .now) (a .queries .now) (a .word .now) (a .store .now) (a .last .now) store last (f .ensures .1 .0) (f .ensures .1 .1) h in
+                (f .ensures .0 ∙ both .0, c .judge .ensures ∙ both .1),
+          ),
         ),
       ),
     )

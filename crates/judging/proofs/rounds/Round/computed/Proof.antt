@@ -18,18 +18,18 @@ div-begin : tie.Need-div-begin
 div-begin c = let start = c .before .before .before in omega (arith, size-some (start .args .step) (start .pre .1))
 
 mul-begin : tie.Need-mul-begin
-mul-begin c = let start = c .before .before .before in search (needs, begin-before (start .args .step) (start .pre .1) (start .args .visit .index))
+mul-begin c = let start = c .before .before .before in search (needs, begin-before (start .args .step) (start .pre .1) (start .args .here .index))
 
 add-end : tie.Need-add-end
 add-end c =
     let start = c .before .before .before .before in
-    let within : start .args .visit .index / sizeOf (start .args .step) * sizeOf (start .args .step) + sizeOf (start .args .step) ≤ length (start .args .word .now) = omega (arith, begin-is (start .args .step) (start .pre .1) (start .args .visit .index), size-is (start .args .step) (start .pre .1), start .pre .2 (c .if1 .taken)) in
+    let within : start .args .here .index / sizeOf (start .args .step) * sizeOf (start .args .step) + sizeOf (start .args .step) ≤ length (start .args .word .now) = omega (arith, begin-is (start .args .step) (start .pre .1) (start .args .here .index), size-is (start .args .step) (start .pre .1), start .pre .2 (c .if1 .taken)) in
     search (needs, within)
 
 mul-folded : tie.Need-mul-folded
 mul-folded c =
     let start = c .before .before .before .before in
-    let within : start .args .visit .index / sizeOf (start .args .step) * sizeOf (start .args .step) + sizeOf (start .args .step) ≤ length (start .args .word .now) = omega (arith, begin-is (start .args .step) (start .pre .1) (start .args .visit .index), size-is (start .args .step) (start .pre .1), start .pre .2 (c .if1 .taken)) in
+    let within : start .args .here .index / sizeOf (start .args .step) * sizeOf (start .args .step) + sizeOf (start .args .step) ≤ length (start .args .word .now) = omega (arith, begin-is (start .args .step) (start .pre .1) (start .args .here .index), size-is (start .args .step) (start .pre .1), start .pre .2 (c .if1 .taken)) in
     search (needs, within)
 
 sub-folded : tie.Need-sub-folded
@@ -41,14 +41,14 @@ part-folded-start c = search needs
 part-folded-end : tie.Need-part-folded-end
 part-folded-end c =
     let start = c .before .before .before .before in
-    let within : start .args .visit .index / sizeOf (start .args .step) * sizeOf (start .args .step) + sizeOf (start .args .step) ≤ length (start .args .word .now) = omega (arith, begin-is (start .args .step) (start .pre .1) (start .args .visit .index), size-is (start .args .step) (start .pre .1), start .pre .2 (c .if1 .taken)) in
+    let within : start .args .here .index / sizeOf (start .args .step) * sizeOf (start .args .step) + sizeOf (start .args .step) ≤ length (start .args .word .now) = omega (arith, begin-is (start .args .step) (start .pre .1) (start .args .here .index), size-is (start .args .step) (start .pre .1), start .pre .2 (c .if1 .taken)) in
     search (needs, within)
 
 folded-requires : tie.Need-folded-requires
 folded-requires c κs =
     let start = c .before .before .before .before .before in
     let step = start .args .step in
-    let index = start .args .visit .index in
+    let index = start .args .here .index in
     let begin = index / sizeOf step * sizeOf step in
     let within : begin + sizeOf step ≤ length (start .args .word .now) = omega (arith, begin-is step (start .pre .1) index, size-is step (start .pre .1), start .pre .2 (c .before .if1 .taken)) in
     (start .pre .0, start .pre .1, length-lent-part begin (sizeOf step) (start .args .word .now) within ∙ size-is step (start .pre .1))
@@ -57,7 +57,7 @@ add-begin : tie.Need-add-begin
 add-begin c =
     let start = c .before .before .before .before .before in
     let step = start .args .step in
-    let index = start .args .visit .index in
+    let index = start .args .here .index in
     let within : start .args .self .start + index / sizeOf step * sizeOf step + sizeOf step ≤ length (start .args .store .now) = omega (arith, begin-is step (start .pre .1) index, size-is step (start .pre .1), start .pre .3 (c .before .if1 .left)) in
     search (needs, within)
 
@@ -65,7 +65,7 @@ add-end-2 : tie.Need-add-end-2
 add-end-2 c =
     let start = c .before .before .before .before .before in
     let step = start .args .step in
-    let index = start .args .visit .index in
+    let index = start .args .here .index in
     let within : start .args .self .start + index / sizeOf step * sizeOf step + sizeOf step ≤ length (start .args .store .now) = omega (arith, begin-is step (start .pre .1) index, size-is step (start .pre .1), start .pre .3 (c .before .if1 .left)) in
     search (needs, within)
 
@@ -73,7 +73,7 @@ mul-folded-2 : tie.Need-mul-folded-2
 mul-folded-2 c =
     let start = c .before .before .before .before .before in
     let step = start .args .step in
-    let index = start .args .visit .index in
+    let index = start .args .here .index in
     let within : start .args .self .start + index / sizeOf step * sizeOf step + sizeOf step ≤ length (start .args .store .now) = omega (arith, begin-is step (start .pre .1) index, size-is step (start .pre .1), start .pre .3 (c .before .if1 .left)) in
     search (needs, within)
 
@@ -87,7 +87,7 @@ part-folded-end-2 : tie.Need-part-folded-end-2
 part-folded-end-2 c =
     let start = c .before .before .before .before .before in
     let step = start .args .step in
-    let index = start .args .visit .index in
+    let index = start .args .here .index in
     let within : start .args .self .start + index / sizeOf step * sizeOf step + sizeOf step ≤ length (start .args .store .now) = omega (arith, begin-is step (start .pre .1) index, size-is step (start .pre .1), start .pre .3 (c .before .if1 .left)) in
     search (needs, within)
 
@@ -95,7 +95,7 @@ folded-requires-2 : tie.Need-folded-requires-2
 folded-requires-2 c κs =
     let start = c .before .before .before .before .before .before in
     let step = start .args .step in
-    let index = start .args .visit .index in
+    let index = start .args .here .index in
     let begin = start .args .self .start + index / sizeOf step * sizeOf step in
     let within : begin + sizeOf step ≤ length (start .args .store .now) = omega (arith, begin-is step (start .pre .1) index, size-is step (start .pre .1), start .pre .3 (c .before .before .if1 .left)) in
     (start .pre .0, start .pre .1, length-lent-part begin (sizeOf step) (start .args .store .now) within ∙ size-is step (start .pre .1))
@@ -105,26 +105,26 @@ returns c =
     let start = c .before .before .before .before .before .before in
     let a = start .args in
     let step = a .step in
-    let index = a .visit .index in
+    let index = a .here .index in
     let begin = index / sizeOf step * sizeOf step in
     c .folded .ensures
-    ∙ ap (valueFolded step (a .self) (a .visit))
+    ∙ ap (valueFolded step (a .self) (a .here))
     (lent-part begin (sizeOf step) (a .word .now)
     ∙ ap (λ (n : ℕ). take n (drop (index / n * n) (a .word .now))) (size-is step (start .pre .1))
-    ∙ sym (ap (λ (t : Bool). partRead step (a .self) (a .visit) t (a .word .now) (a .store .now)) (c .before .before .if1 .taken)))
+    ∙ sym (ap (λ (t : Bool). partRead step (a .self) (a .here) t (a .word .now) (a .store .now)) (c .before .before .if1 .taken)))
 
 returns-2 : tie.Need-returns-2
 returns-2 c =
     let start = c .before .before .before .before .before .before .before in
     let a = start .args in
     let step = a .step in
-    let index = a .visit .index in
+    let index = a .here .index in
     let begin = a .self .start + index / sizeOf step * sizeOf step in
     c .folded2 .ensures
-    ∙ ap (valueFolded step (a .self) (a .visit))
+    ∙ ap (valueFolded step (a .self) (a .here))
     (lent-part begin (sizeOf step) (a .store .now)
     ∙ ap (λ (n : ℕ). take n (drop (a .self .start + index / n * n) (a .store .now))) (size-is step (start .pre .1))
-    ∙ sym (ap (λ (t : Bool). partRead step (a .self) (a .visit) t (a .word .now) (a .store .now)) (c .before .before .before .if1 .left)))
+    ∙ sym (ap (λ (t : Bool). partRead step (a .self) (a .here) t (a .word .now) (a .store .now)) (c .before .before .before .if1 .left)))
 
 pub computed-spec : {M : Type 1} → statement M
 computed-spec =

@@ -21,10 +21,10 @@ rem-between : tie.Need-rem-between
 rem-between c = let start = c .before .before .before .before in omega (arith, size-some (start .args .step) (start .pre .1))
 
 mul-between : tie.Need-mul-between
-mul-between c = let start = c .before .before .before .before in omega (arith, between-within (start .args .step) (start .pre .1) (start .args .visit .index))
+mul-between c = let start = c .before .before .before .before in omega (arith, between-within (start .args .step) (start .pre .1) (start .args .here .index))
 
 array-read-between : tie.Need-array-read-between
-array-read-between c = let start = c .before .before .before .before in omega (arith, between-within (start .args .step) (start .pre .1) (start .args .visit .index))
+array-read-between c = let start = c .before .before .before .before in omega (arith, between-within (start .args .step) (start .pre .1) (start .args .here .index))
 
 sum-requires : tie.Need-sum-requires
 sum-requires c κs = search needs
@@ -86,7 +86,7 @@ returns c =
     ∙ ap (λ (r : Coset). valueAt inverses (r .points) (r .entries)) (c .before .before .read .ensures)
     ∙ value-padded inverses 8 (map (sum (c .before .before .before .sum2 .result .0)) (take (sizeOf step) span)) (a .part .now)
     ∙ ap₂ (λ (x n : ℕ). valueAt inverses (map (sum x) (take n span)) (a .part .now))
-    (c .before .before .before .sum2 .ensures ∙ ap (sum (a .self .challenge .0)) (c .before .before .before .before .before .sum .ensures ∙ ap (λ (n : ℕ). sum (a .visit .point .0) (getD span (a .visit .index % n) 0)) size)) size
+    (c .before .before .before .sum2 .ensures ∙ ap (sum (a .self .challenge .0)) (c .before .before .before .before .before .sum .ensures ∙ ap (λ (n : ℕ). sum (a .here .point .0) (getD span (a .here .index % n) 0)) size)) size
 
 pub folded-spec : {M : Type 1} → statement M
 folded-spec =

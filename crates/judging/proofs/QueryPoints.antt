@@ -23,8 +23,8 @@ use Rattle.fold.specs.Fold.{cosetEntries, foldEntry}
 use Rattle.fold.specs.Halving.{valueAt}
 use Rattle.fold.specs.Theorems.{IsWord}
 use Rattle.fold.proofs.AllCosets.{length-span, entry-of-moved}
-use Rattle.judging.specs.declared.rounds.Visit.{Visit}
-use Rattle.judging.specs.Rounds.{roundOver, visitAt, nextVisit, valueFolded}
+use Rattle.judging.specs.declared.rounds.QueryPoint.{QueryPoint}
+use Rattle.judging.specs.Rounds.{roundOver, queryPointAt, nextQueryPoint, valueFolded}
 
 -- a + b + b is a
 sum-back : (a b : ℕ) → sum (sum a b) b ≡ a
@@ -62,7 +62,7 @@ module _ (step offset : ℕ) (basis word : List ℕ) (w : IsWord offset basis wo
 
   -- what is computed is the entry of the fold
   pub folded-entry : (x start next : ℕ) → IsElement x
-      → valueFolded step (roundOver step basis x start next) (visitAt offset basis index) (cosetEntries step word coset) ≡ foldEntry step offset basis word x coset
+      → valueFolded step (roundOver step basis x start next) (queryPointAt offset basis index) (cosetEntries step word coset) ≡ foldEntry step offset basis word x coset
   folded-entry x start next hx =
       ap₂ (λ (is ps : List ℕ). valueAt is (map (sum (sum x (sum (point offset basis index) (getD (padded gf64 8 span) between 0)))) ps) (cosetEntries step word coset))
       (padded-taken 3 step (map inverse (stepElements step basis)) (padded gf64 3 (map inverse (stepElements step basis))) refl
@@ -71,9 +71,9 @@ module _ (step offset : ℕ) (basis word : List ℕ) (w : IsWord offset basis wo
       ∙ ap (λ (p : ℕ). valueAt (map inverse (stepElements step basis)) (map (sum (sum x p)) span) (cosetEntries step word coset)) first-point
       ∙ entry-of-moved step offset basis word x w hx fits coset coset-inside
 
-  pub visited-next : nextVisit step (padded gf64 3 (stepElements step basis)) (visitAt offset basis index) ≡ visitAt (nextOffset step offset basis) (nextBasis step basis) coset
-  visited-next =
-      ap {B = Visit} (λ (p : ℕ). record { index = coset; point = record { 0 = p } })
+  pub query-point-next : nextQueryPoint step (padded gf64 3 (stepElements step basis)) (queryPointAt offset basis index) ≡ queryPointAt (nextOffset step offset basis) (nextBasis step basis) coset
+  query-point-next =
+      ap {B = QueryPoint} (λ (p : ℕ). record { index = coset; point = record { 0 = p } })
       (ap (λ (es : List ℕ). composedMaps es (point offset basis index)) (elements-taken step basis (padded gf64 3 (stepElements step basis)) fits refl)
       ∙ sym (image-through step basis (point offset basis index) (point-element offset basis index (w .offset-element) (w .basis-elements)))
       ∙ ap (λ (n : ℕ). image step basis (point offset basis n)) (sym (div-add-mod' index (2 ^ step)))

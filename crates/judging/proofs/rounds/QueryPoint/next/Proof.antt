@@ -1,13 +1,13 @@
--- `Visit::next` meets its contract. Assumes nothing.
-use Rattle.judging.specs.declared.rounds.Visit.{Visit}
+-- `QueryPoint::next` meets its contract. Assumes nothing.
+use Rattle.judging.specs.declared.rounds.QueryPoint.{QueryPoint}
 use lib.Seq.{length-take-le}
 use lib.ListN.{length}
 use Prim.Native.Nat.{ℕ, _/_, _^_}
 use mathlib.Core.Path.{_≡_, sym, ap}
 use borrow.Author.Needs.{needs}
 use native.Mathlib.Omega.{arith}
-use Rattle.judging.proofs.rounds.Visit.next.Statement.{statement}
-use Rattle.judging.proofs.rounds.Visit.next.Tie as tie
+use Rattle.judging.proofs.rounds.QueryPoint.next.Statement.{statement}
+use Rattle.judging.proofs.rounds.QueryPoint.next.Tie as tie
 
 shr-t5 : tie.Need-shr-t5
 shr-t5 c = search needs
@@ -28,7 +28,7 @@ composed-maps-requires : tie.Need-composed-maps-requires
 composed-maps-requires c κs = search needs
 
 returns : tie.Need-returns
-returns c = ap {B = Visit} (λ (x : ℕ). record { index = c .before .before .before .before .args .self .index / 2 ^ c .before .before .before .before .args .step; point = record { 0 = x } }) (c .composed-maps .ensures)
+returns c = ap {B = QueryPoint} (λ (x : ℕ). record { index = c .before .before .before .before .args .self .index / 2 ^ c .before .before .before .before .args .step; point = record { 0 = x } }) (c .composed-maps .ensures)
 
 pub next-spec : {M : Type 1} → statement M
 next-spec =
