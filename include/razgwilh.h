@@ -83,7 +83,8 @@ void rz_fold(size_t k, size_t step, uint64_t offset, const uint64_t *basis, size
  * rounded down. Layer 0 is the word, over the coset of dimension k with this offset and basis. Round i, from 0, folds layer i at challenge i with
  * the step, as rz_fold does: the fold is layer i + 1, over the next coset, with its next offset and next basis. Layer i has
  * 2^(k - i * step) entries. Layers 1 to r - 1 lie joined in the store, which has the sum of their entries, none when r is 1. Layer r, of at most 256
- * entries, is sent as the first d = 2^(k - rate - r * step) coefficients of its interpolant, constant first; d is 1, 2 or 4. */
+ * entries, is sent as the last coefficients: the first d = 2^(k - rate - r * step) coefficients of its interpolant, constant first; d is 1, 2 or 4. They
+ * are those of the last polynomial. A coset of a layer's fold is the 2^step points that q sends to one point, as rz_fold has it. */
 
 /* The prover: layers 1 to r - 1 into `store`, the last coefficients into `last`. Refused, in this order, with
  *   number 4   k is out of range; no place
@@ -100,19 +101,20 @@ void rz_prove(size_t k, size_t rate, size_t step, uint64_t offset, const uint64_
               const uint64_t *challenges, size_t challenges_length, const uint64_t *word, size_t word_length, uint64_t *store,
               size_t store_length, uint64_t *last, size_t last_length, uint64_t *answer, size_t answer_length);
 
-/* The layer lookup: layer i of a store, 1 <= i < r, is the part of `store` that starts at index place and has value entries. It refuses nothing: parameters out of
+/* The layer lookup: layer i of a store, 1 <= i < r, is the part of `store` that starts at the answer's place and has as many entries as its value says. It refuses nothing: parameters out of
  * range, another i or a store of another length give the empty part, place 0 and value 0. No round, 0 reads. */
 void rz_layer(size_t k, size_t rate, size_t step, const uint64_t *store, size_t store_length, size_t i, uint64_t *answer,
               size_t answer_length);
 
-/* The judge: for each query, an index below 2^k, and each round i, the fold at challenge i of the coset of layer i that holds index
- * query / 2^(step * i) must equal the entry of layer i + 1 at index query / 2^(step * (i + 1)) or, in the last round, the last polynomial at the point of
- * layer r with that index, all rounded down. Number 0 where all are equal. Refused as rz_prove is by 4, 5, 6, 7, 13, 8 and 16, then with
+/* The judge: for each entry j of `queries`, an index below 2^k, and each round i, the fold at challenge i of the coset of layer i that holds index
+ * j / 2^(step * i) must equal the entry of layer i + 1 at index j / 2^(step * (i + 1)) or, in the last round, the last polynomial at the point of
+ * layer r with that index; divisions are rounded down. Number 0 where all are equal. Refused as rz_prove is by 4, 5, 6, 7, 13, 8 and 16, then with
  *   number 9   no query, or over 256; no place
- *   number 10  a query's index is 2^k or more, and its place is the first such query, from 0
- *   number 11  a round check fails: the first one, lowest query first, then lowest round; place and round are its query and its round
- * reads: queries * r * 2^step where number is 0; t * r * 2^step + min(i + 2, r) * 2^step for number 11 at query t and round i; else 0. No list is
- * written. The answer has no value, and no round but with numbers 11 and 16. */
+ *   number 10  an entry of `queries` is 2^k or more, and its place is the first such position, from 0
+ *   number 11  a round check fails: the first one, lowest query first, then lowest round; place is its position
+ *              in `queries`, from 0, and round its round
+ * reads: queries * r * 2^step where number is 0; t * r * 2^step + min(i + 2, r) * 2^step for number 11 at position t and round i; else 0. No other
+ * list is written. The answer has no value, and no round but with numbers 11 and 16. */
 void rz_judge(size_t k, size_t rate, size_t step, uint64_t offset, const uint64_t *basis, size_t basis_length,
               const uint64_t *challenges, size_t challenges_length, const uint64_t *queries, size_t queries_length,
               const uint64_t *word, size_t word_length, const uint64_t *store, size_t store_length, const uint64_t *last,

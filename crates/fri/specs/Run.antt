@@ -1,5 +1,5 @@
 -- A run of the protocol over lists, without its queries. For a judge it is what anybody sent; for a prover it is what it is given, and store and last
--- coefficients are what the two lent lists held before. Only `stepsIn` knows that all steps are alike.
+-- coefficients are what the two lent lists held before. That all steps are alike is known to `stepsOf` alone.
 use mathlib.Core.List.{List}
 use Prim.Native.Nat.{ℕ, zero, suc}
 use lib.ListN.{length, getD}

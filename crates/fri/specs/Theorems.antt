@@ -131,7 +131,7 @@ BothRefuse run number place =
     × (numberOfOutcome (proveOutcome run) ≡ number) × (placeOfOutcome (proveOutcome run) ≡ place) × (roundOfOutcome (proveOutcome run) ≡ Absent)
     × (storeAfter run ≡ run .store) × (lastAfter run ≡ run .last)
 
--- the refusals before the round checks, by the first check that fails; 16 is never given, by `HonestProofs.never16`
+-- the refusals before the round checks, by the first check that fails; 16 is never given to a basis of 64-bit numbers, by `HonestProofs.never16`
 pub record Refusals : Type 0 where
   pub dimension : (run : Run) → (run .k < 2) ⊎ (20 < run .k) → BothRefuse run 4 Absent
   pub rate : (run : Run) → 2 ≤ run .k → run .k ≤ 20 → (run .rate < 1) ⊎ (6 < run .rate) → BothRefuse run 5 Absent

@@ -16,7 +16,7 @@ use Rattle.layers.specs.Parameters.{stepsBy}
 use Rattle.judging.specs.declared.rounds.Round.{Round}
 use Rattle.judging.specs.declared.rounds.QueryPoint.{QueryPoint}
 
--- a round over a basis, with a challenge; its layer begins at `start` in the store, and the next one at `next`
+-- a round over a basis, with a challenge; its layer, if it is stored, begins at `start` in the store, and the next one at `next`
 abbrev pub roundOver : ℕ → List ℕ → ℕ → ℕ → ℕ → Round
 roundOver step basis challenge start next =
     record {

@@ -158,8 +158,8 @@ fn judge_checked(
     }
 }
 
-// How many cosets a query has read when the check of round i of r, the count, fails: those up to round i and, for the value found, the next one, if
-// there is one.
+// Where `count` is r: how many cosets a query has read when the check of round i fails, those up to round i and, for the value found, the next one,
+// if there is one.
 fn read_until(i: usize, count: usize) -> usize
     requires { ⌜ i < count ⌝ }
     ensures { λ r. ⌜ r ≡ min (i + 2) count ⌝ }

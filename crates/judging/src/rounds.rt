@@ -13,7 +13,7 @@ ghost use Rattle.layers.specs.Cosets.{basisOf};
 ghost use Rattle.judging.specs.Rounds.{noRound, roundOver, roundAt, queryPointAt, nextQueryPoint, valueFolded, partRead, valueRead};
 
 // A round: the elements of its step's maps, their inverses, the span of the step's basis elements in point order, the challenge, and where
-// its layer and the next one begin in the store.
+// its layer and the next one begin in the store: the word, layer 0, is not there, and where layer r would begin the store ends.
 pub struct Round {
     pub elements: [u64; 3],
     pub inverses: [u64; 3],
@@ -29,7 +29,7 @@ pub struct QueryPoint {
     pub point: Element,
 }
 
-// All rounds. What is inverted is inverted here, once a layer.
+// All rounds. What is inverted is inverted here, before the queries: the elements of each round's maps.
 pub fn set_up(parameters: Parameters, basis: &[u64], challenges: &[u64]) -> [Round; 19]
     requires { ⌜ Valid parameters × (length (now basis) ≡ parameters .k) × (length (now challenges) ≡ length (stepsBy parameters)) ⌝ }
     ensures { λ r. ⌜ ((i : ℕ) → i < length (stepsBy parameters) → getD r i noRound ≡ roundAt parameters (now (basis .entry)) (now (challenges .entry)) i) ⌝ }
@@ -100,7 +100,8 @@ impl Round {
         }
     }
 
-    // The fold of that coset, which has these entries. Its first point is the query's plus entry (index mod 2^step) of the span, the difference of the two.
+    // The fold of that coset, which has these entries. Its first point is the query's plus entry (index mod 2^step) of the span,
+    // by which the query's point differs from it.
     fn folded(self, step: usize, here: QueryPoint, part: &[u64]) -> Element
         requires { ⌜ (1 ≤ step) × (step ≤ 3) × (length (now part) ≡ 2 ^ step) ⌝ }
         ensures { λ r. ⌜ r .0 ≡ valueFolded step self here (now (part .entry)) ⌝ }

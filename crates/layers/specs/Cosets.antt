@@ -10,6 +10,6 @@ use Rattle.layers.specs.declared.cosets.LayerCoset.{LayerCoset}
 abbrev pub cosetOf : ℕ → List ℕ → LayerCoset
 cosetOf offset basis = record { offset = record { 0 = offset }; basis = padded gf64 20 basis; dimension = length basis }
 
--- its basis, without the zeros
+-- its basis, without the zeros after it
 abbrev pub basisOf : LayerCoset → List ℕ
 basisOf coset = take (coset .dimension) (coset .basis)

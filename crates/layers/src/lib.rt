@@ -98,7 +98,7 @@ impl Parameters {
         start
     }
 
-    // Where layer i lies in a store of that length; the empty part as `layer` has it.
+    // Where layer i lies in a store of that length; the empty part, from 0, where `layer` hands it back.
     pub fn part(self, store_length: usize, i: usize) -> Part
         ensures { λ r. ⌜ r ≡ partOf self «store_length» i ⌝ }
     {
@@ -131,7 +131,7 @@ impl Parameters {
     }
 }
 
-// The checks that prover and judge have in common, in the order of the papers: 4, 5, 6, 7, 13, 8, 16. Any offset passes: it is there to name the run.
+// The checks that prover and judge have in common, in the order of the papers: 4, 5, 6, 7, 13, 8, 16. Any offset passes; the contract's run has it.
 pub fn checked(
     parameters: Parameters,
     offset: Element,
@@ -156,7 +156,7 @@ pub fn checked(
     }
 }
 
-// Refuses the lowest list whose length is not the one due (13). The offset names the run.
+// Refuses the lowest list whose length is not the one due (13). The contract's run has the offset.
 fn checked_lengths(
     parameters: Parameters,
     offset: Element,
@@ -200,7 +200,7 @@ fn checked_bases(parameters: Parameters, basis: &[u64]) -> Outcome
     }
 }
 
-// Refuses a dependent basis of a later layer (16), with the round whose fold gives that layer. No independent basis has one after it.
+// Refuses a dependent basis of a later layer (16), with the round whose fold gives that layer. After an independent basis there is none.
 fn checked_later_bases(parameters: Parameters, basis: &[u64]) -> Outcome
     requires { ⌜ Valid parameters × (length (now basis) ≡ parameters .k) ⌝ }
     ensures { λ r. ⌜ r ≡ laterBasesOutcome (stepsBy parameters) (now (basis .entry)) 0 (length (stepsBy parameters)) ⌝ }

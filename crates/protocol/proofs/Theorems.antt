@@ -8,26 +8,19 @@ use Rattle.fri.specs.declared.Answer.the-variants as answers
 use Rattle.fri.specs.declared.Verdict.{Verdict}
 use Rattle.fri.specs.Run.{Run}
 use Rattle.fri.specs.Judge.{verdictOf}
-use Rattle.fri.specs.Prover.{proveOutcome, storeAfter, lastAfter}
-use Rattle.refusal.specs.declared.Outcome.the-variants.{Done}
 use Rattle.fri.specs.Demand.{Any, Accepted, Visits}
 use Rattle.fri.proofs.Soundness.{soundness}
 use Rattle.fri.proofs.Completeness.{completeness, honest-proofs}
-use Rattle.layers.specs.declared.Parameters.{Parameters}
 use Rattle.layers.specs.Parameters.{runOf}
-use Rattle.protocol.specs.Theorems.{Honest, accepted, Judging, Judged, JudgedSoundness}
+use Rattle.protocol.specs.Theorems.{Judging, Judged, ProvedIsAccepted, JudgedSoundness}
 
--- an honest input is proved, and what the prover leaves is accepted
-pub proved-accepted : (p : Parameters) (offset : ℕ) (basis challenges queries word store last store′ last′ : List ℕ)
-    → store′ ≡ storeAfter (runOf p offset basis challenges word store last) → last′ ≡ lastAfter (runOf p offset basis challenges word store last)
-    → Honest (runOf p offset basis challenges word store last) queries
-    → (proveOutcome (runOf p offset basis challenges word store last) ≡ Done)
-    × (verdictOf (runOf p offset basis challenges word store′ last′) queries ≡ accepted (runOf p offset basis challenges word store last) queries)
-proved-accepted p offset basis challenges queries word store last store′ last′ s l h =
+pub proved-is-accepted : ProvedIsAccepted
+proved-is-accepted p offset basis challenges queries word store last outcome store′ last′ verdict h proved v =
     let run = runOf p offset basis challenges word store last in
-    let proved = honest-proofs .proves run (h .coset) (h .input) (h .low) (h .store-fits) (h .last-fits) in (
-      proved .0,
-      ap₂ (λ (x y : List ℕ). verdictOf (runOf p offset basis challenges word x y) queries) (s ∙ proved .1) (l ∙ proved .2)
+    let honest = honest-proofs .proves run (h .coset) (h .input) (h .low) (h .store-fits) (h .last-fits) in (
+      proved .outcome-is ∙ honest .0,
+      v
+          ∙ ap₂ (λ (x y : List ℕ). verdictOf (runOf p offset basis challenges word x y) queries) (proved .store-is ∙ honest .1) (proved .last-is ∙ honest .2)
           ∙ completeness run queries (h .coset) (h .input) (h .low) (h .queries-valid),
     )
 

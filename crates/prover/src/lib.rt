@@ -1,4 +1,5 @@
-// The prover: it folds a word at the challenges and leaves layers 1 to r - 1 in the store, then the first d coefficients of layer r's interpolant.
+// The prover: it folds a word at the challenges and leaves layers 1 to r - 1 in the store and, in a list of their own, the first d
+// coefficients of layer r's interpolant.
 use field::Element;
 use layers::Parameters;
 use layers::cosets::LayerCoset;

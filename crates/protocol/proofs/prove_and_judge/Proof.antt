@@ -1,8 +1,7 @@
 -- `protocol::prove_and_judge` meets its contract. Assumes nothing.
-use Rattle.protocol.proofs.Theorems.{proved-accepted}
-use mathlib.Core.Path.{_≡_, ap, _∙_}
+use Rattle.protocol.proofs.Theorems.{proved-is-accepted}
+use mathlib.Core.Path.{_∙_}
 use borrow.Author.Needs.{needs}
-use native.Mathlib.Omega.{arith}
 use Rattle.protocol.proofs.prove_and_judge.Statement.{statement}
 use Rattle.protocol.proofs.prove_and_judge.Tie as tie
 
@@ -32,8 +31,8 @@ returns c =
           (
             f .ensures .1 .1,
             λ h.
-                let both = proved-accepted (a .parameters) (a .offset .0) (a .basis .now) (a .challenges .now) (a .queries .now) (a .word .now) (a .store .now) (a .last .now) store last (f .ensures .1 .0) (f .ensures .1 .1) h in
-                (f .ensures .0 ∙ both .0, c .judge .ensures ∙ both .1),
+                proved-is-accepted (a .parameters) (a .offset .0) (a .basis .now) (a .challenges .now) (a .queries .now) (a .word .now) (a .store .now) (a .last .now) (f .result) store last (c .judge .result) h
+                (record { outcome-is = f .ensures .0; store-is = f .ensures .1 .0; last-is = f .ensures .1 .1 }) (c .judge .ensures),
           ),
         ),
       ),
