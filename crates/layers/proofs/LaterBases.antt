@@ -1,5 +1,5 @@
 -- The bases of the later layers, one after the other. Assumes nothing.
-use mathlib.Core.Path.{_≡_, refl, sym, ap}
+use mathlib.Core.Path.{_≡_, refl, sym, ap, _∙_}
 use mathlib.Core.List.{List}
 use Prim.Native.Nat.{ℕ, suc, _<_}
 use lib.ListN.{length}
@@ -14,7 +14,10 @@ use Rattle.fri.specs.Layers.{layerBasis, layerOffset}
 use Rattle.fri.specs.Checks.{laterBasesOutcome}
 use Rattle.fri.proofs.Layouts.{step-of-round}
 use Rattle.layers.specs.declared.Parameters.{Parameters}
+use Rattle.layers.specs.declared.cosets.LayerCoset.{LayerCoset}
 use Rattle.layers.specs.Parameters.{stepsBy}
+use Rattle.layers.specs.Cosets.{cosetOf, basisOf}
+use Rattle.layers.proofs.LayerCosets.{basisOf-coset}
 
 module _ (steps basis : List ℕ) where
   pub later-none : (round : ℕ) → Done ≡ laterBasesOutcome steps basis round 0
@@ -52,3 +55,19 @@ module _ (p : Parameters) (offset : ℕ) (basis : List ℕ) (i : ℕ) (h : i < l
   pub offset-next : nextOffset (p .step) (layerOffset (stepsBy p) offset basis i) (layerBasis (stepsBy p) basis i) ≡ layerOffset (stepsBy p) offset basis (suc i)
   unfolding layerOffset
   offset-next = ap (λ (s : ℕ). nextOffset s (layerOffset (stepsBy p) offset basis i) (layerBasis (stepsBy p) basis i)) (sym (step-of-round (p .k) (p .rate) (p .step) i h))
+
+-- a coset by value that has layer i's basis is followed by one that has the next layer's
+pub coset-next : (p : Parameters) (basis : List ℕ) (i : ℕ) (coset next : LayerCoset) → i < length (stepsBy p)
+    → coset ≡ cosetOf (coset .offset .0) (layerBasis (stepsBy p) basis i)
+    → next ≡ cosetOf (nextOffset (p .step) (coset .offset .0) (basisOf coset)) (nextBasis (p .step) (basisOf coset))
+    → next ≡ cosetOf (next .offset .0) (layerBasis (stepsBy p) basis (suc i))
+coset-next p basis i coset next h e n =
+    whole ∙ ap (λ (o : ℕ). cosetOf o (layerBasis (stepsBy p) basis (suc i))) (sym (ap (λ (r : LayerCoset). r .offset .0) whole))
+  where
+    here : basisOf coset ≡ layerBasis (stepsBy p) basis i
+    here = ap basisOf e ∙ basisOf-coset (coset .offset .0) (layerBasis (stepsBy p) basis i)
+
+    whole : next ≡ cosetOf (nextOffset (p .step) (coset .offset .0) (basisOf coset)) (layerBasis (stepsBy p) basis (suc i))
+    whole =
+        n
+        ∙ ap (cosetOf (nextOffset (p .step) (coset .offset .0) (basisOf coset))) (ap (nextBasis (p .step)) here ∙ basis-next p 0 basis i h)

@@ -1,5 +1,5 @@
 -- `layers::checked_later_bases` meets its contract. The loop's invariant: the coset has the round's basis, and the bases still to come decide. Assumes
-use Rattle.layers.proofs.LaterBases.{basis-first, later-none, later-passed, later-refused, basis-next}
+use Rattle.layers.proofs.LaterBases.{basis-first, later-none, later-passed, later-refused, coset-next}
 use Rattle.layers.proofs.LayerCosets.{basisOf-coset}
 use Rattle.layers.proofs.Sizes.{dimension-most, step-within}
 use Rattle.layers.specs.Cosets.{cosetOf, basisOf}
@@ -9,7 +9,6 @@ use Rattle.fri.proofs.Cosets.{length-basis}
 use Rattle.fri.specs.Checks.{laterBasesOutcome}
 use Rattle.fri.specs.Layers.{layerBasis}
 use Rattle.fri.specs.Layout.{dimension}
-use Rattle.coset.specs.Subspace.{nextOffset, nextBasis}
 use Rattle.coset.specs.Span.{firstDependent}
 use Rattle.refusal.specs.declared.Position.the-variants.{Absent}
 use lib.ListN.{length}
@@ -61,7 +60,7 @@ first-dependent-requires c κs =
     let l = c .before .before .loop in
     let p = start .args .parameters in
     let inside : suc (l .round) ≤ length (stepsBy p) = omega (arith, l .inv .0) in
-    let next = c .next .ensures ∙ ap (cosetOf (nextOffset (p .step) (l .coset .offset .0) (basisOf (l .coset)))) (ap (nextBasis (p .step)) (ap basisOf (l .inv .2) ∙ basisOf-coset (l .coset .offset .0) (layerBasis (stepsBy p) (start .args .basis .now) (l .round))) ∙ basis-next p 0 (start .args .basis .now) (l .round) inside) in
+    let next = coset-next p (start .args .basis .now) (l .round) (l .coset) (c .next .result) inside (l .inv .2) (c .next .ensures) in
     let dim = ap (λ (r : LayerCoset). r .dimension) next ∙ length-basis (p .k) (stepsBy p) (start .args .basis .now) (start .pre .1) (suc (l .round)) in
     omega (arith, dim, dimension-most p (start .pre .0) (suc (l .round)))
 
@@ -74,12 +73,12 @@ returns c =
     let l = c .before .before .before .before .before .loop in
     let p = start .args .parameters in
     let basis = start .args .basis .now in
+    let left = c .before .before .before .before .before .before .before .rounds .result - suc (l .round) in
     let inside : suc (l .round) ≤ length (stepsBy p) = omega (arith, l .inv .0) in
-    let one-more : (c .before .before .before .before .before .before .before .rounds .result) - l .round ≡ suc ((c .before .before .before .before .before .before .before .rounds .result) - suc (l .round)) = omega (arith, l .inv .0) in
-    let o = nextOffset (p .step) (l .coset .offset .0) (basisOf (l .coset)) in
-    let next = c .before .before .before .next .ensures ∙ ap (cosetOf o) (ap (nextBasis (p .step)) (ap basisOf (l .inv .2) ∙ basisOf-coset (l .coset .offset .0) (layerBasis (stepsBy p) basis (l .round))) ∙ basis-next p 0 basis (l .round) inside) in
-    let first = c .before .before .first-dependent .ensures ∙ ap firstDependent (ap basisOf next ∙ basisOf-coset o (layerBasis (stepsBy p) basis (suc (l .round)))) in
-    later-refused (stepsBy p) basis (l .round) ((c .before .before .before .before .before .before .before .rounds .result) - suc (l .round)) (c .enum-told .given .0 .0) (sym first ∙ c .enum-told .given .1)
+    let one-more : c .before .before .before .before .before .before .before .rounds .result - l .round ≡ suc left = omega (arith, l .inv .0) in
+    let next = coset-next p basis (l .round) (l .coset) (c .before .before .before .next .result) inside (l .inv .2) (c .before .before .before .next .ensures) in
+    let first = c .before .before .first-dependent .ensures ∙ ap firstDependent (ap basisOf next ∙ basisOf-coset (c .before .before .before .next .result .offset .0) (layerBasis (stepsBy p) basis (suc (l .round)))) in
+    later-refused (stepsBy p) basis (l .round) left (c .enum-told .given .0 .0) (sym first ∙ c .enum-told .given .1)
     ∙ ap (laterBasesOutcome (stepsBy p) basis (l .round)) (sym one-more) ∙ l .inv .3
 
 enum-told-2 : tie.Need-enum-told-2 Inv-loop μ-loop
@@ -97,17 +96,17 @@ loop-again c =
     let l = c .before .before .before .before .before .loop in
     let p = start .args .parameters in
     let basis = start .args .basis .now in
+    let left = c .before .before .before .before .before .before .before .rounds .result - suc (l .round) in
     let inside : suc (l .round) ≤ length (stepsBy p) = omega (arith, l .inv .0) in
-    let one-more : (c .before .before .before .before .before .before .before .rounds .result) - l .round ≡ suc ((c .before .before .before .before .before .before .before .rounds .result) - suc (l .round)) = omega (arith, l .inv .0) in
-    let o = nextOffset (p .step) (l .coset .offset .0) (basisOf (l .coset)) in
-    let next = c .before .before .before .next .ensures ∙ ap (cosetOf o) (ap (nextBasis (p .step)) (ap basisOf (l .inv .2) ∙ basisOf-coset (l .coset .offset .0) (layerBasis (stepsBy p) basis (l .round))) ∙ basis-next p 0 basis (l .round) inside) in
-    let first = c .before .before .first-dependent .ensures ∙ ap firstDependent (ap basisOf next ∙ basisOf-coset o (layerBasis (stepsBy p) basis (suc (l .round)))) in
+    let one-more : c .before .before .before .before .before .before .before .rounds .result - l .round ≡ suc left = omega (arith, l .inv .0) in
+    let next = coset-next p basis (l .round) (l .coset) (c .before .before .before .next .result) inside (l .inv .2) (c .before .before .before .next .ensures) in
+    let first = c .before .before .first-dependent .ensures ∙ ap firstDependent (ap basisOf next ∙ basisOf-coset (c .before .before .before .next .result .offset .0) (layerBasis (stepsBy p) basis (suc (l .round)))) in
     let absent : c .before .before .first-dependent .result ≡ Absent = search needs in (
       l .inv .0,
       search needs,
-      next ∙ ap₂ (λ (x : ℕ) (n : ℕ). cosetOf x (layerBasis (stepsBy p) basis n)) (sym (ap (λ (r : LayerCoset). r .offset .0) next)) (sym (add-one (l .round))),
-      ap₂ (λ (n left : ℕ). laterBasesOutcome (stepsBy p) basis n left) (add-one (l .round)) (ap (λ (n : ℕ). (c .before .before .before .before .before .before .before .rounds .result) - n) (add-one (l .round)))
-          ∙ later-passed (stepsBy p) basis (l .round) ((c .before .before .before .before .before .before .before .rounds .result) - suc (l .round)) (sym first ∙ absent)
+      next ∙ ap (λ (n : ℕ). cosetOf (c .before .before .before .next .result .offset .0) (layerBasis (stepsBy p) basis n)) (sym (add-one (l .round))),
+      ap₂ (λ (n m : ℕ). laterBasesOutcome (stepsBy p) basis n m) (add-one (l .round)) (ap (λ (n : ℕ). c .before .before .before .before .before .before .before .rounds .result - n) (add-one (l .round)))
+          ∙ later-passed (stepsBy p) basis (l .round) left (sym first ∙ absent)
           ∙ ap (laterBasesOutcome (stepsBy p) basis (l .round)) (sym one-more) ∙ l .inv .3,
     )
 

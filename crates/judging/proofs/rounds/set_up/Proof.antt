@@ -2,7 +2,7 @@
 use Rattle.judging.proofs.Tables.{start-of-word}
 use Rattle.judging.proofs.Tables.{Holds, holds-next}
 use Rattle.judging.specs.Rounds.{roundOver, roundAt}
-use Rattle.layers.proofs.LaterBases.{basis-first, basis-next}
+use Rattle.layers.proofs.LaterBases.{basis-first, coset-next}
 use Rattle.layers.proofs.LayerCosets.{basisOf-coset}
 use Rattle.layers.proofs.Sizes.{few-rounds, dimension-most, step-within}
 use Rattle.layers.specs.Cosets.{cosetOf, basisOf}
@@ -11,7 +11,6 @@ use Rattle.layers.specs.declared.cosets.LayerCoset.{LayerCoset}
 use Rattle.fri.proofs.Cosets.{length-basis}
 use Rattle.fri.specs.Layers.{layerBasis}
 use Rattle.fri.specs.Layout.{layerStart}
-use Rattle.coset.specs.Subspace.{nextOffset, nextBasis}
 use lib.ListN.{length, getD, length-set}
 use native.Mathlib.Numerals.{add-one}
 use Prim.Native.Nat.{ℕ, suc, _-_, _≤_}
@@ -113,8 +112,7 @@ loop-again c =
     let basis = a .basis .now in
     let inside : suc (l .i) ≤ length (stepsBy p) = omega (arith, l .inv .0) in
     let here = ap basisOf (l .inv .4) ∙ basisOf-coset (l .coset .offset .0) (layerBasis (stepsBy p) basis (l .i)) in
-    let o = nextOffset (p .step) (l .coset .offset .0) (basisOf (l .coset)) in
-    let next = c .next .ensures ∙ ap (cosetOf o) (ap (nextBasis (p .step)) here ∙ basis-next p 0 basis (l .i) inside) in
+    let next = coset-next p basis (l .i) (l .coset) (c .next .result) inside (l .inv .4) (c .next .ensures) in
     let after = c .before .before .before .layer-start .ensures ∙ ap (layerStart (p .k) (stepsBy p)) (add-one (l .i)) in
     let value = c .before .over .ensures ∙ ap₂ (λ (b : List ℕ) (n : ℕ). roundOver (p .step) b (getD (a .challenges .now) (l .i) 0) (l .start) n) here after
     ∙ ap (λ (n : ℕ). roundOver (p .step) (layerBasis (stepsBy p) basis (l .i)) (getD (a .challenges .now) (l .i) 0) n (layerStart (p .k) (stepsBy p) (suc (l .i)))) (l .inv .5) in (
@@ -122,7 +120,7 @@ loop-again c =
       search needs,
       length-set (l .table) (l .i) (c .before .over .result) ∙ l .inv .2,
       holds-next (l .table) (roundAt p basis (a .challenges .now)) (l .i) (c .before .over .result) (omega (arith, few-rounds p (start .pre .0), l .inv .0, l .inv .2)) (l .inv .3) value,
-      next ∙ ap₂ (λ (x : ℕ) (n : ℕ). cosetOf x (layerBasis (stepsBy p) basis n)) (sym (ap (λ (r : LayerCoset). r .offset .0) next)) (sym (add-one (l .i))),
+      next ∙ ap (λ (n : ℕ). cosetOf (c .next .result .offset .0) (layerBasis (stepsBy p) basis n)) (sym (add-one (l .i))),
       c .before .before .before .layer-start .ensures,
     )
 
