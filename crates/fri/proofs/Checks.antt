@@ -286,27 +286,28 @@ outside-refused k queries query l m e =
 -- ---- which numbers there are
 
 -- an independent basis gives 0, a dependent one 8, so that 16 does not come
-bases-number : (P : ℕ → Type 0) → P 0 → P 8 → (run : Run) → All IsElement (run .basis) → P (numberOfOutcome (basesOutcome (stepsIn run) (run .basis)))
+pub bases-number : (P : ℕ → Type 0) → P 0 → P 8 → (run : Run) → All IsElement (run .basis) → P (numberOfOutcome (basesOutcome (stepsIn run) (run .basis)))
 bases-number P p0 p8 run h = by (firstDependent (run .basis)) refl
   where
     by : (p : Position) → firstDependent (run .basis) ≡ p → P (numberOfOutcome (basesOutcome (stepsIn run) (run .basis)))
     by (At place) e = subst (λ (o : Outcome). P (numberOfOutcome o)) (sym (bases-refused run place e)) p8
     by Absent e = subst (λ (o : Outcome). P (numberOfOutcome o)) (sym (bases-pass run h e)) p0
 
+pub parameters-number : (P : ℕ → Type 0) → P 0 → ((n : ℕ) → 4 ≤ n → n ≤ 7 → P n) → (k rate step : ℕ) → P (numberOfOutcome (parametersOutcome k rate step))
+parameters-number P p0 low k rate step =
+    number-unless P (leb 2 k && leb k 20) DimensionOutOfRange (after-k k rate step) (low 4 (omega arith) (omega arith))
+    (number-unless P (leb 1 rate && leb rate 6) RateOutOfRange (after-rate k rate step) (low 5 (omega arith) (omega arith))
+    (number-unless P (leb 1 step && leb step 3) StepOutOfRange (after-step k rate step) (low 6 (omega arith) (omega arith))
+    (number-unless P (leb (rate + step) k) DimensionTooSmall Done (low 7 (omega arith) (omega arith)) p0)))
+
 -- what holds of 0, of 4 to 8, of 13 and of the bases' number holds of a run's
 run-number-by : (P : ℕ → Type 0) → P 0 → ((n : ℕ) → 4 ≤ n → n ≤ 8 → P n) → P 13 → (run : Run) → P (numberOfOutcome (basesOutcome (stepsIn run) (run .basis)))
     → P (numberOfOutcome (runOutcome run))
 run-number-by P p0 low p13 run bases =
-    number-then P (parametersOutcome (run .k) (run .rate) (run .step)) (andThen (lengthsOutcome run) (basesOutcome (stepsIn run) (run .basis))) parameters-number
+    number-then P (parametersOutcome (run .k) (run .rate) (run .step)) (andThen (lengthsOutcome run) (basesOutcome (stepsIn run) (run .basis)))
+    (parameters-number P p0 (λ n l u. low n l (omega arith)) (run .k) (run .rate) (run .step))
     (number-then P (lengthsOutcome run) (basesOutcome (stepsIn run) (run .basis)) lengths-number bases)
   where
-    parameters-number : P (numberOfOutcome (parametersOutcome (run .k) (run .rate) (run .step)))
-    parameters-number =
-        number-unless P (leb 2 (run .k) && leb (run .k) 20) DimensionOutOfRange (after-k (run .k) (run .rate) (run .step)) (low 4 (omega arith) (omega arith))
-        (number-unless P (leb 1 (run .rate) && leb (run .rate) 6) RateOutOfRange (after-rate (run .k) (run .rate) (run .step)) (low 5 (omega arith) (omega arith))
-        (number-unless P (leb 1 (run .step) && leb (run .step) 3) StepOutOfRange (after-step (run .k) (run .rate) (run .step)) (low 6 (omega arith) (omega arith))
-        (number-unless P (leb (run .rate + run .step) (run .k)) DimensionTooSmall Done (low 7 (omega arith) (omega arith)) p0)))
-
     lengths-number : P (numberOfOutcome (lengthsOutcome run))
     lengths-number =
         number-unless P (eqb (length (run .basis)) (run .k)) (WrongLength 1) (after1 run) p13
@@ -338,7 +339,7 @@ later-bases-early run round (suc left) =
     by (At place) = inr (omega arith)
     by Absent = inl (omega arith)
 
-bases-early : (run : Run) → Early (numberOfOutcome (basesOutcome (stepsIn run) (run .basis)))
+pub bases-early : (run : Run) → Early (numberOfOutcome (basesOutcome (stepsIn run) (run .basis)))
 bases-early run =
     number-then Early (outcomeOfBasis (firstDependent (run .basis))) (laterBasesOutcome (stepsIn run) (run .basis) 0 (roundsIn run)) (by (firstDependent (run .basis)))
     (later-bases-early run 0 (roundsIn run))
@@ -350,11 +351,11 @@ bases-early run =
 pub run-early : (run : Run) → Early (numberOfOutcome (runOutcome run))
 run-early run = run-number-by Early (inl (omega arith)) (λ n l u. inl (omega arith)) (inr (omega arith)) run (bases-early run)
 
+pub outside-number : (P : ℕ → Type 0) → P 0 → P 10 → (p : Position) → P (numberOfOutcome (outcomeOfOutside p))
+outside-number P p0 p10 (At query) = p10
+outside-number P p0 p10 Absent = p0
+
 pub queries-number : (P : ℕ → Type 0) → P 0 → P 9 → P 10 → (k : ℕ) (queries : List ℕ) → P (numberOfOutcome (queriesOutcome k queries))
 queries-number P p0 p9 p10 k queries =
     number-unless P (counted queries) QueryCountOutOfRange (outcomeOfOutside (firstOutside (2 ^ k) queries 0)) p9
-    (by (firstOutside (2 ^ k) queries 0))
-  where
-    by : (p : Position) → P (numberOfOutcome (outcomeOfOutside p))
-    by (At query) = p10
-    by Absent = p0
+    (outside-number P p0 p10 (firstOutside (2 ^ k) queries 0))

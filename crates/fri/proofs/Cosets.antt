@@ -1,12 +1,10 @@
 -- The cosets of the layers of a valid run, and its honest layers: words over these cosets, joined in the store. Assumes nothing.
-use mathlib.Core.Path.{_≡_, refl, sym, ap, ap₂, _∙_, subst}
-use mathlib.Core.Logic.{⊎-elim}
+use mathlib.Core.Path.{_≡_, refl, sym, ap, _∙_, subst}
 use mathlib.Core.List.{List}
 use Prim.Native.Nat.{ℕ, zero, suc, _+_, _*_, _-_, _^_, _≤_, _<_}
-use native.Mathlib.Nat.{sub-right-comm, le-of-eq, eq-or-lt-of-le}
+use native.Mathlib.Nat.{sub-right-comm}
 use native.Mathlib.Omega.{arith}
-use lib.ListN.{length, take, drop, length-append, length-drop}
-use lib.Seq.{take-all, take-append-le, drop-append-le, drop-at}
+use lib.ListN.{length, drop}
 use Rattle.gf64.specs.Field.{IsElement}
 use Rattle.poly.specs.Polynomial.{All}
 use Rattle.poly.proofs.Entries.{all-getD, all-take, all-drop}
@@ -19,9 +17,10 @@ use Rattle.fold.specs.Theorems.{IsWord}
 use Rattle.fold.proofs.Folding.{length-folded, fold-is-word, fold-keeps-degree}
 use Rattle.fri.specs.Layout.{stepAt, dimension, layerStart, storeLength, storedLayer}
 use Rattle.fri.specs.Run.{Run, stepsIn, roundsIn, challengeIn, layerIn, stepIn}
-use Rattle.fri.specs.Layers.{layerBasis, layerOffset, basisIn, offsetIn, foldOf, honestLayer, honestJoined, honestStore, honest}
+use Rattle.fri.specs.Layers.{layerBasis, layerOffset, basisIn, offsetIn, foldOf, honestLayer, honestStore, honest}
+use Rattle.fri.specs.Layout.{joined}
 use Rattle.fri.specs.Demand.{ValidCoset, ProverInput, LowDegree}
-use Rattle.fri.proofs.Layouts.{StepsFit, step-fits, length-storedLayer, layer-before, some-round}
+use Rattle.fri.proofs.Layouts.{StepsFit, step-fits, length-storedLayer, joined-length, joined-found, some-round}
 
 pub challenge-element : (run : Run) → All IsElement (run .challenges) → (i : ℕ) → IsElement (challengeIn run i)
 challenge-element run h i = all-getD IsElement (run .challenges) i 0 (omega arith) h
@@ -163,38 +162,8 @@ module _ (run : Run) (v : ValidCoset run) where
 
   -- ---- the honest store
 
-  pub length-joined : length (run .word) ≡ 2 ^ run .k → (n : ℕ) → length (honestJoined run n) ≡ layerStart (run .k) (stepsIn run) (suc n)
-  unfolding honestJoined layerStart
-  length-joined l zero = refl
-  length-joined l (suc n) =
-      length-append (honestJoined run n) (honestLayer run (suc n)) ∙ ap₂ _+_ (length-joined l n) (length-honest l (suc n))
-
-  joined-last : length (run .word) ≡ 2 ^ run .k → (n : ℕ) → storedLayer (run .k) (stepsIn run) (honestJoined run (suc n)) (suc n) ≡ honestLayer run (suc n)
-  unfolding storedLayer honestJoined
-  joined-last l n =
-      ap (take (2 ^ dimension (run .k) (stepsIn run) (suc n)))
-      (drop-at (honestJoined run n) (honestLayer run (suc n)) (layerStart (run .k) (stepsIn run) (suc n)) (length-joined l n))
-      ∙ take-all (2 ^ dimension (run .k) (stepsIn run) (suc n)) (honestLayer run (suc n)) (le-of-eq (length-honest l (suc n)))
-
-  joined-earlier : length (run .word) ≡ 2 ^ run .k → (n i : ℕ) → 1 ≤ i → i ≤ n
-      → storedLayer (run .k) (stepsIn run) (honestJoined run (suc n)) i ≡ storedLayer (run .k) (stepsIn run) (honestJoined run n) i
-  unfolding storedLayer honestJoined
-  joined-earlier l n i least most =
-      let start : ℕ = layerStart (run .k) (stepsIn run) i in
-      let size : ℕ = 2 ^ dimension (run .k) (stepsIn run) i in
-      let ends : start + size ≤ layerStart (run .k) (stepsIn run) (suc n) = layer-before (run .k) (stepsIn run) i (suc n) least (omega arith) in
-      ap (take size) (drop-append-le start (honestJoined run n) (honestLayer run (suc n)) (omega (arith, ends, length-joined l n)))
-      ∙ take-append-le size (drop start (honestJoined run n)) (honestLayer run (suc n))
-      (omega (arith, ends, length-joined l n, length-drop start (honestJoined run n)))
-
-  -- a layer that is joined is found where it begins
-  found-joined : length (run .word) ≡ 2 ^ run .k → (n i : ℕ) → 1 ≤ i → i ≤ n → storedLayer (run .k) (stepsIn run) (honestJoined run n) i ≡ honestLayer run i
-  found-joined l zero i least most = absurd (omega arith)
-  found-joined l (suc n) i least most =
-      ⊎-elim
-      (λ (e : i ≡ suc n). subst (λ (m : ℕ). storedLayer (run .k) (stepsIn run) (honestJoined run (suc n)) m ≡ honestLayer run m) (sym e) (joined-last l n))
-      (λ (h : i < suc n). joined-earlier l n i least (omega arith) ∙ found-joined l n i least (omega arith))
-      (eq-or-lt-of-le most)
+  pub length-joined : length (run .word) ≡ 2 ^ run .k → (n : ℕ) → length (joined (honestLayer run) n) ≡ layerStart (run .k) (stepsIn run) (suc n)
+  length-joined l n = joined-length (run .k) (stepsIn run) (honestLayer run) n (λ i least most. length-honest l i)
 
   pub length-honestStore : length (run .word) ≡ 2 ^ run .k → length (honestStore run) ≡ storeLength (run .k) (stepsIn run)
   unfolding honestStore storeLength
@@ -206,4 +175,5 @@ module _ (run : Run) (v : ValidCoset run) where
   pub honest-layers : length (run .word) ≡ 2 ^ run .k → (i : ℕ) → i < roundsIn run → layerIn (honest run) i ≡ honestLayer run i
   unfolding layerIn honestLayer honestStore
   honest-layers l zero h = refl
-  honest-layers l (suc i) h = found-joined l (roundsIn run - 1) (suc i) (omega arith) (omega arith)
+  honest-layers l (suc i) h =
+      joined-found (run .k) (stepsIn run) (honestLayer run) (roundsIn run - 1) (λ j least most. length-honest l j) (suc i) (omega arith) (omega arith)

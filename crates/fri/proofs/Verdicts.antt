@@ -27,11 +27,11 @@ use Rattle.fri.proofs.Checks.{queries-valid, queries-pass}
 
 -- ---- an outcome as an answer
 
-done-of : (o : Outcome) → answerOf o ≡ answers.Accepted → o ≡ Done
+pub done-of : (o : Outcome) → answerOf o ≡ answers.Accepted → o ≡ Done
 done-of Done e = refl
 done-of (Refused cause) e = absurd (let impossible : _≡_ {A = ℕ} 0 1 = cc in omega arith)
 
-refused-of : (o : Outcome) (cause : Cause) → answerOf o ≡ answers.Refused cause → o ≡ Refused cause
+pub refused-of : (o : Outcome) (cause : Cause) → answerOf o ≡ answers.Refused cause → o ≡ Refused cause
 refused-of Done cause e = absurd (let impossible : _≡_ {A = ℕ} 0 1 = cc in omega arith)
 refused-of (Refused other) cause e = let same : other ≡ cause = cc in ap Refused same
 

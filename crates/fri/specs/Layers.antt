@@ -1,11 +1,11 @@
 -- The cosets of all layers, and the honest layers, store and last coefficients for a word and its challenges.
-use mathlib.Core.List.{List, [], _++_}
+use mathlib.Core.List.{List}
 use Prim.Native.Nat.{ℕ, zero, suc, _-_}
 use lib.ListN.{take}
 use Rattle.coset.specs.Subspace.{nextOffset, nextBasis}
 use Rattle.reed_solomon.specs.Codes.{interpolated}
 use Rattle.fold.specs.Fold.{folded}
-use Rattle.fri.specs.Layout.{stepAt, lastCount}
+use Rattle.fri.specs.Layout.{stepAt, lastCount, joined}
 use Rattle.fri.specs.Run.{Run, stepsIn, roundsIn, challengeIn, stepIn}
 
 -- the basis of layer i: that of the coset after layer i - 1's
@@ -34,14 +34,9 @@ unfoldable pub honestLayer : Run → ℕ → List ℕ
 honestLayer run zero = run .word
 honestLayer run (suc i) = foldOf run i (honestLayer run i)
 
--- honest layers 1 to n, joined
-unfoldable pub honestJoined : Run → ℕ → List ℕ
-honestJoined run zero = []
-honestJoined run (suc n) = honestJoined run n ++ honestLayer run (suc n)
-
 -- the honest store: layers 1 to r - 1
 unfoldable pub honestStore : Run → List ℕ
-honestStore run = honestJoined run (roundsIn run - 1)
+honestStore run = joined (honestLayer run) (roundsIn run - 1)
 
 -- layer r's interpolant
 unfoldable pub lastInterpolant : Run → List ℕ

@@ -1,5 +1,5 @@
 -- Rounds, dimensions, the store and the indices of a query, over a list of steps with one step for each round.
-use mathlib.Core.List.{List}
+use mathlib.Core.List.{List, [], _++_}
 use Prim.Native.Nat.{ℕ, zero, suc, _+_, _-_, _/_, _^_}
 use lib.ListN.{length, getD, take, drop, replicate}
 
@@ -33,6 +33,11 @@ layerStart k steps (suc (suc i)) = layerStart k steps (suc i) + 2 ^ dimension k 
 -- the length of the store: it ends where layer r would begin
 unfoldable pub storeLength : ℕ → List ℕ → ℕ
 storeLength k steps = layerStart k steps (length steps)
+
+-- layers 1 to n, joined
+unfoldable pub joined : (ℕ → List ℕ) → ℕ → List ℕ
+joined layer zero = []
+joined layer (suc n) = joined layer n ++ layer (suc n)
 
 -- layer i of a store, 1 ≤ i < r
 unfoldable pub storedLayer : ℕ → List ℕ → List ℕ → ℕ → List ℕ

@@ -1,6 +1,4 @@
 // The judge over lists: all checks in order, then the round checks query by query, and the verdict with the entries read.
-mod rounds;
-
 use field::Element;
 use fri::Answer;
 use fri::Verdict;
@@ -10,8 +8,8 @@ use refusal::Outcome;
 use refusal::Position;
 use rounds::QueryPoint;
 ghost use mathlib.Core.Path.{_≡_};
-ghost use Prim.Native.Nat.{_+_, _≤_, _<_, min};
-ghost use Rattle.fri.specs.Checks.{firstOutside, queriesOutcome};
+ghost use Prim.Native.Nat.{_≤_};
+ghost use Rattle.fri.specs.Checks.{queriesOutcome};
 ghost use Rattle.fri.specs.Judge.{checksOutcome, verdictOf};
 ghost use Rattle.layers.specs.Parameters.{runOf};
 ghost use Rattle.refusal.specs.declared.Outcome.the-variants as outcomes;
@@ -87,25 +85,11 @@ fn checked_queries(k: usize, queries: &[u64]) -> Outcome
     if queries.len() < 1 || queries.len() > 256 {
         return Outcome::Refused(Cause::QueryCountOutOfRange);
     }
-    let outside = first_outside(1 << k, queries);
+    let outside = rounds::first_outside(1 << k, queries);
     match outside {
         Position::At(query) => Outcome::Refused(Cause::QueryOutOfRange { query }),
         Position::Absent => Outcome::Done,
     }
-}
-
-// The first query whose index is not below the size.
-fn first_outside(size: usize, queries: &[u64]) -> Position
-    ensures { λ r. ⌜ r ≡ firstOutside size (now (queries .entry)) 0 ⌝ }
-{
-    let mut query: usize = 0;
-    while query < queries.len() {
-        if queries[query] as usize >= size {
-            return Position::At(query);
-        }
-        query += 1;
-    }
-    Position::Absent
 }
 
 // The round checks, lowest query first, then lowest round, up to the first that fails.
@@ -136,7 +120,7 @@ fn judge_checked(
             let computed = round.computed(parameters.step, here, i == 0, word, store);
             let found = round.found(next, i + 1 < count, store, last);
             if computed.0 != found.0 {
-                cosets += read_until(i, count);
+                cosets += rounds::read_until(i, count);
                 break 'queries;
             }
             here = next;
@@ -156,13 +140,4 @@ fn judge_checked(
         answer: Answer::Accepted,
         reads,
     }
-}
-
-// Where `count` is r: how many cosets a query has read when the check of round i fails, those up to round i and, for the value found, the next one,
-// if there is one.
-fn read_until(i: usize, count: usize) -> usize
-    requires { ⌜ i < count ⌝ }
-    ensures { λ r. ⌜ r ≡ min (i + 2) count ⌝ }
-{
-    if i + 1 < count { i + 2 } else { count }
 }

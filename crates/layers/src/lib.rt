@@ -189,7 +189,7 @@ fn checked_lengths(
 }
 
 // Refuses a dependent basis (8), then a dependent one of a later layer (16).
-fn checked_bases(parameters: Parameters, basis: &[u64]) -> Outcome
+pub fn checked_bases(parameters: Parameters, basis: &[u64]) -> Outcome
     requires { ⌜ Valid parameters × (length (now basis) ≡ parameters .k) ⌝ }
     ensures { λ r. ⌜ r ≡ basesOutcome (stepsBy parameters) (now (basis .entry)) ⌝ }
 {

@@ -19,7 +19,8 @@ use Rattle.refusal.proofs.Checks.{le-of-test}
 use Rattle.reed_solomon.specs.Codes.{interpolated}
 use Rattle.fri.specs.Layout.{dimension, lastCount}
 use Rattle.fri.specs.Run.{Run, stepsIn, roundsIn}
-use Rattle.fri.specs.Layers.{basisIn, offsetIn, foldOf, honestLayer, honestJoined, honestStore, lastInterpolant, honestLast}
+use Rattle.fri.specs.Layers.{basisIn, offsetIn, foldOf, honestLayer, honestStore, lastInterpolant, honestLast}
+use Rattle.fri.specs.Layout.{joined}
 use Rattle.fri.specs.Checks.{runOutcome}
 use Rattle.fri.specs.Prover.{degreeOutcome}
 use Rattle.fri.specs.Demand.{ValidCoset}
@@ -100,8 +101,8 @@ module _ (called : Run) where
   same-layer zero = refl
   same-layer (suc i) = ap (foldOf called i) (same-layer i)
 
-  same-joined : (n : ℕ) → honestJoined given n ≡ honestJoined called n
-  unfolding honestJoined
+  same-joined : (n : ℕ) → joined (honestLayer given) n ≡ joined (honestLayer called) n
+  unfolding joined
   same-joined zero = refl
   same-joined (suc n) = ap₂ {B = List ℕ} (λ (front layer : List ℕ). front ++ layer) (same-joined n) (same-layer (suc n))
 

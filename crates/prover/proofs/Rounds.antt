@@ -11,7 +11,8 @@ use Rattle.coset.specs.Subspace.{nextOffset, nextBasis}
 use Rattle.fold.specs.Fold.{folded}
 use Rattle.fri.specs.Layout.{dimension, layerStart, storeLength, storedLayer}
 use Rattle.fri.specs.Run.{Run, stepsIn, roundsIn, challengeIn, layerIn}
-use Rattle.fri.specs.Layers.{basisIn, offsetIn, honestLayer, honestJoined, honestStore}
+use Rattle.fri.specs.Layers.{basisIn, offsetIn, honestLayer, honestStore}
+use Rattle.fri.specs.Layout.{joined}
 use Rattle.fri.specs.Demand.{ValidCoset}
 use Rattle.fri.proofs.Cosets.{first-coset, some-rounds, length-layerBasis, layerBasis-independent, length-joined}
 use Rattle.fri.proofs.Layouts.{start-next}
@@ -36,7 +37,7 @@ module _ (run : Run) where
     pub count : rounds ≡ roundsIn run
     pub within : suc i ≤ rounds
     pub coset-is : coset ≡ cosetIn run i
-    pub joined : take (layerStart (run .k) (stepsIn run) (suc i)) store ≡ honestJoined run i
+    pub joined-so-far : take (layerStart (run .k) (stepsIn run) (suc i)) store ≡ joined (honestLayer run) i
     pub kept : length store ≡ storeLength (run .k) (stepsIn run)
 
   -- ---- the cosets
@@ -72,29 +73,29 @@ module _ (run : Run) where
 
   -- ---- the layers in the store
 
-  pub joined-first : (store : List ℕ) → take (start 1) store ≡ honestJoined run 0
-  unfolding honestJoined
+  pub joined-first : (store : List ℕ) → take (start 1) store ≡ joined (honestLayer run) 0
+  unfolding joined
   joined-first store = ap (λ (n : ℕ). take n store) (sym (start-of-first (run .k) (stepsIn run)))
 
-  joined-next : (i : ℕ) → honestJoined run i ++ honestLayer run (suc i) ≡ honestJoined run (suc i)
-  unfolding honestJoined
+  joined-next : (i : ℕ) → joined (honestLayer run) i ++ honestLayer run (suc i) ≡ joined (honestLayer run) (suc i)
+  unfolding joined
   joined-next i = refl
 
-  store-is : honestJoined run (roundsIn run - 1) ≡ honestStore run
+  store-is : joined (honestLayer run) (roundsIn run - 1) ≡ honestStore run
   unfolding honestStore
   store-is = refl
 
   -- the store is whole when layer r - 1 is joined
   pub store-whole : (store : List ℕ) (i : ℕ) → suc i ≡ roundsIn run → length store ≡ storeLength (run .k) (stepsIn run)
-      → take (start (suc i)) store ≡ honestJoined run i → store ≡ honestStore run
-  store-whole store i e fits joined =
+      → take (start (suc i)) store ≡ joined (honestLayer run) i → store ≡ honestStore run
+  store-whole store i e fits so-far =
       let ends : start (suc i) ≡ length store = ap start e ∙ storeLength-is (run .k) (stepsIn run) ∙ sym fits in
       let last : i ≡ roundsIn run - 1 = omega (arith, e) in
-      sym (take-all (start (suc i)) store (le-of-eq (sym ends))) ∙ joined ∙ ap (honestJoined run) last ∙ store-is
+      sym (take-all (start (suc i)) store (le-of-eq (sym ends))) ∙ so-far ∙ ap (joined (honestLayer run)) last ∙ store-is
 
   module _ (v : ValidCoset run) (whole : length (run .word) ≡ 2 ^ run .k) where
     -- a layer that is joined is the one that word and store have
-    layer-found : (i : ℕ) (store : List ℕ) → start (suc i) ≤ length store → take (start (suc i)) store ≡ honestJoined run i
+    layer-found : (i : ℕ) (store : List ℕ) → start (suc i) ≤ length store → take (start (suc i)) store ≡ joined (honestLayer run) i
         → layerFrom p (run .word) store i ≡ honestLayer run i
     unfolding layerIn honestLayer storedLayer
     layer-found zero store h e = refl
@@ -103,7 +104,7 @@ module _ (run : Run) where
         let after = start-next (run .k) (stepsIn run) (suc i) (omega arith) in
         sym (drop-at (take (start (suc i)) store) (take size (drop (start (suc i)) store)) (start (suc i)) (length-take-le (start (suc i)) store (omega (arith, h, after))))
         ∙ ap (drop (start (suc i))) (sym (take-add (start (suc i)) size store) ∙ ap (λ (n : ℕ). take n store) (sym after) ∙ e ∙ sym (joined-next i))
-        ∙ drop-at (honestJoined run i) (honestLayer run (suc i)) (start (suc i)) (length-joined run v whole i)
+        ∙ drop-at (joined (honestLayer run) i) (honestLayer run (suc i)) (start (suc i)) (length-joined run v whole i)
 
     -- layer r - 1 is the word or in the honest store
     pub last-found : (store : List ℕ) → store ≡ honestStore run → length store ≡ storeLength (run .k) (stepsIn run)
@@ -115,11 +116,11 @@ module _ (run : Run) where
 
     -- one more layer in the store
     pub round-joined : (i : ℕ) (coset : LayerCoset) → coset ≡ cosetIn run i → i < roundsIn run → (store store′ : List ℕ)
-        → start (suc i) ≤ length store → take (start (suc i)) store ≡ honestJoined run i
+        → start (suc i) ≤ length store → take (start (suc i)) store ≡ joined (honestLayer run) i
         → take (start (suc (suc i))) store′
         ≡ take (start (suc i)) store ++ folded (run .step) (coset .offset .0) (basisOf coset) (layerFrom p (run .word) store i) (challengeIn run i)
-        → take (start (suc (suc i))) store′ ≡ honestJoined run (suc i)
-    round-joined i coset is h store store′ fits joined written =
+        → take (start (suc (suc i))) store′ ≡ joined (honestLayer run) (suc i)
+    round-joined i coset is h store store′ fits so-far written =
         written
-        ∙ ap₂ {B = List ℕ} (λ (front layer : List ℕ). front ++ folded (run .step) (coset .offset .0) (basisOf coset) layer (challengeIn run i)) joined (layer-found i store fits joined)
-        ∙ ap (λ (l : List ℕ). honestJoined run i ++ l) (honest-folded i coset is h) ∙ joined-next i
+        ∙ ap₂ {B = List ℕ} (λ (front layer : List ℕ). front ++ folded (run .step) (coset .offset .0) (basisOf coset) layer (challengeIn run i)) so-far (layer-found i store fits so-far)
+        ∙ ap (λ (l : List ℕ). joined (honestLayer run) i ++ l) (honest-folded i coset is h) ∙ joined-next i

@@ -12,7 +12,8 @@ use Rattle.reed_solomon.specs.Codes.{interpolated}
 use Rattle.fold.specs.Fold.{folded, foldEntry, cosetPoints, cosetEntries}
 use Rattle.fri.specs.Layout.{dimension, lastCount, layerStart, storeLength, storedLayer, indexIn}
 use Rattle.fri.specs.Run.{layerIn}
-use Rattle.fri.specs.Layers.{layerBasis, layerOffset, foldOf, honestLayer, honestJoined, honestStore, lastInterpolant, honestLast}
+use Rattle.fri.specs.Layers.{layerBasis, layerOffset, foldOf, honestLayer, honestStore, lastInterpolant, honestLast}
+use Rattle.fri.specs.Layout.{joined}
 use Rattle.fri.specs.Checks.{laterBasesOutcome, firstOutside}
 use Rattle.fri.specs.Rounds.{valueComputed, valueFound, firstFailingRound, roundsOutcome}
 use Rattle.fri.specs.Reads.{entryCount, entriesRead}
@@ -61,15 +62,15 @@ unfolding product inverse power powerIn timesWhere carryless carrylessIn remaind
 judged-refused = refl
 
 proved-well : every provedAgrees rows.provedWell ≡ true
-unfolding product inverse power powerIn timesWhere carryless carrylessIn remainder remainderIn timesT evaluate interpolant plus scale timesLinear dividedDifferences vanishingPolynomial point points tabulated inSpan firstDependentAfter firstDependent nextOffset nextBasis image subspacePolynomial folded foldEntry cosetPoints cosetEntries dimension lastCount layerStart storeLength storedLayer indexIn layerIn layerBasis layerOffset laterBasesOutcome firstOutside interpolated foldOf honestLayer honestJoined honestStore lastInterpolant honestLast degreeBound every same
+unfolding product inverse power powerIn timesWhere carryless carrylessIn remainder remainderIn timesT evaluate interpolant plus scale timesLinear dividedDifferences vanishingPolynomial point points tabulated inSpan firstDependentAfter firstDependent nextOffset nextBasis image subspacePolynomial folded foldEntry cosetPoints cosetEntries dimension lastCount layerStart storeLength storedLayer indexIn layerIn layerBasis layerOffset laterBasesOutcome firstOutside interpolated foldOf honestLayer joined honestStore lastInterpolant honestLast degreeBound every same
 proved-well = refl
 
 proved-at-high-degree : every provedAgrees rows.provedAtHighDegree ≡ true
-unfolding product inverse power powerIn timesWhere carryless carrylessIn remainder remainderIn timesT evaluate interpolant plus scale timesLinear dividedDifferences vanishingPolynomial point points tabulated inSpan firstDependentAfter firstDependent nextOffset nextBasis image subspacePolynomial folded foldEntry cosetPoints cosetEntries dimension lastCount layerStart storeLength storedLayer indexIn layerIn layerBasis layerOffset laterBasesOutcome firstOutside interpolated foldOf honestLayer honestJoined honestStore lastInterpolant honestLast degreeBound every same
+unfolding product inverse power powerIn timesWhere carryless carrylessIn remainder remainderIn timesT evaluate interpolant plus scale timesLinear dividedDifferences vanishingPolynomial point points tabulated inSpan firstDependentAfter firstDependent nextOffset nextBasis image subspacePolynomial folded foldEntry cosetPoints cosetEntries dimension lastCount layerStart storeLength storedLayer indexIn layerIn layerBasis layerOffset laterBasesOutcome firstOutside interpolated foldOf honestLayer joined honestStore lastInterpolant honestLast degreeBound every same
 proved-at-high-degree = refl
 
 proved-refused : every provedAgrees rows.provedRefused ≡ true
-unfolding product inverse power powerIn timesWhere carryless carrylessIn remainder remainderIn timesT evaluate interpolant plus scale timesLinear dividedDifferences vanishingPolynomial point points tabulated inSpan firstDependentAfter firstDependent nextOffset nextBasis image subspacePolynomial folded foldEntry cosetPoints cosetEntries dimension lastCount layerStart storeLength storedLayer indexIn layerIn layerBasis layerOffset laterBasesOutcome firstOutside interpolated foldOf honestLayer honestJoined honestStore lastInterpolant honestLast degreeBound every same
+unfolding product inverse power powerIn timesWhere carryless carrylessIn remainder remainderIn timesT evaluate interpolant plus scale timesLinear dividedDifferences vanishingPolynomial point points tabulated inSpan firstDependentAfter firstDependent nextOffset nextBasis image subspacePolynomial folded foldEntry cosetPoints cosetEntries dimension lastCount layerStart storeLength storedLayer indexIn layerIn layerBasis layerOffset laterBasesOutcome firstOutside interpolated foldOf honestLayer joined honestStore lastInterpolant honestLast degreeBound every same
 proved-refused = refl
 
 pub agreement : Agreement

@@ -1,11 +1,11 @@
 -- `judging::judge_checked` meets its contract. What holds before a query and before a round is BeforeQuery and BeforeRound of Judged.antt. Assumes
 use Rattle.refusal.specs.declared.Cause.the-variants.{RoundCheckFails}
 use Rattle.fri.specs.declared.Answer.the-variants as answers
-use Rattle.judging.proofs.Judged.{checked-run, BeforeQuery, BeforeRound, query-inside, count-few, cosets-few, round-passed, query-passed, accepted, refused}
-use Rattle.judging.proofs.Runs.{queryPointOf, query-point-first, next-query-point, word-within, store-within, found-within, next-of, value-computed, value-found}
-use Rattle.judging.specs.Rounds.{noRound, nextQueryPoint}
-use Rattle.judging.specs.declared.rounds.QueryPoint.{QueryPoint}
-use Rattle.judging.specs.declared.rounds.Round.{Round}
+use Rattle.rounds.proofs.Judged.{checked-run, BeforeQuery, BeforeRound, query-inside, count-few, cosets-few, round-passed, query-passed, accepted, refused}
+use Rattle.rounds.proofs.Runs.{queryPointOf, query-point-first, next-query-point, word-within, store-within, found-within, next-of, value-computed, value-found}
+use Rattle.rounds.specs.Rounds.{noRound, nextQueryPoint}
+use Rattle.rounds.specs.declared.QueryPoint.{QueryPoint}
+use Rattle.rounds.specs.declared.Round.{Round}
 use Rattle.layers.specs.Parameters.{stepsBy, runOf}
 use Rattle.fri.proofs.Verdicts.{checks-valid}
 use Rattle.fri.proofs.Checks.{run-valid}

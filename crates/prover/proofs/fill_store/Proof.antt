@@ -8,7 +8,8 @@ use lib.ListN.{length, take}
 use Rattle.coset.proofs.Points.{all-elements}
 use Rattle.fri.specs.Demand.{ValidCoset}
 use Rattle.fri.specs.Layout.{layerStart}
-use Rattle.fri.specs.Layers.{honestJoined, honestStore}
+use Rattle.fri.specs.Layers.{honestLayer, honestStore}
+use Rattle.fri.specs.Layout.{joined}
 use Rattle.fri.proofs.Layouts.{start-next}
 use Rattle.layers.specs.declared.cosets.LayerCoset.{LayerCoset}
 use Rattle.layers.specs.Parameters.{stepsBy}
@@ -69,7 +70,7 @@ loop-holds c =
       count = c .before .rounds .ensures;
       within = omega (arith, c .before .rounds .ensures, one-round p (start .pre .parameters));
       coset-is = c .first .ensures ∙ ap (λ (o : ℕ). cosetOf o (a .basis .now)) (sym (offset-is c)) ∙ coset-first run;
-      joined = joined-first run (a .store .now);
+      joined-so-far = joined-first run (a .store .now);
       kept = start .pre .store;
     }
 
@@ -128,8 +129,8 @@ loop-again c =
       count = l .inv .count;
       within = omega arith;
       coset-is = c .next .ensures ∙ coset-next run (l .i) (l .coset) (l .inv .coset-is) inside ∙ ap (cosetIn run) (sym (add-one (l .i)));
-      joined = subst (λ (n : ℕ). take (layerStart (p .k) (stepsBy p) (suc n)) held ≡ honestJoined run n) (sym (add-one (l .i)))
-          (round-joined run (valid (c .before .before .before .before .before .before .before)) (start .pre .word) (l .i) (l .coset) (l .inv .coset-is) inside (l .store) held begun (l .inv .joined) (c .before .before .before .fold-round .ensures));
+      joined-so-far = subst (λ (n : ℕ). take (layerStart (p .k) (stepsBy p) (suc n)) held ≡ joined (honestLayer run) n) (sym (add-one (l .i)))
+          (round-joined run (valid (c .before .before .before .before .before .before .before)) (start .pre .word) (l .i) (l .coset) (l .inv .coset-is) inside (l .store) held begun (l .inv .joined-so-far) (c .before .before .before .fold-round .ensures));
       kept = same ∙ l .inv .kept;
     }
 
@@ -146,7 +147,7 @@ returns c =
     let given = ap (λ (o : ℕ). inputOf p o (a .basis .now) (a .challenges .now) (a .word .now)) (offset-is (c .before .before)) in
     let last : suc (l .i) ≡ length (stepsBy p) = omega (arith, l .inv .count, l .inv .within) in
     let before : l .i ≡ length (stepsBy p) - 1 = omega (arith, last) in
-    (l .inv .coset-is ∙ ap₂ (λ (r : Run) (n : ℕ). cosetIn r n) given before, store-whole run (l .store) (l .i) last (l .inv .kept) (l .inv .joined) ∙ ap honestStore given)
+    (l .inv .coset-is ∙ ap₂ (λ (r : Run) (n : ℕ). cosetIn r n) given before, store-whole run (l .store) (l .i) last (l .inv .kept) (l .inv .joined-so-far) ∙ ap honestStore given)
 
 pub fill-store-spec : {M : Type 1} → statement M
 fill-store-spec =

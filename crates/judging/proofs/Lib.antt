@@ -1,6 +1,0 @@
-mod StepSizes
-mod QueryPoints
-mod Tables
-mod Queries
-mod Runs
-mod Judged

@@ -1,0 +1,6 @@
+mod StepSizes
+mod QueryPoints
+pub mod Tables
+mod Queries
+pub mod Runs
+pub mod Judged

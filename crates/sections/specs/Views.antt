@@ -1,0 +1,20 @@
+-- What the code has of a transcript by value.
+use mathlib.Core.List.{List}
+use Prim.Native.Nat.{ℕ}
+use Rattle.layers.specs.declared.Parameters.{Parameters}
+use Rattle.transcript.specs.Sections.{sectionStart, kIn, rateIn, stepIn}
+use Rattle.sections.specs.declared.Sections.{Sections}
+
+-- where sections 2 to 5 begin
+abbrev pub sectionsIn : List ℕ → Sections
+sectionsIn bytes =
+    record {
+      coset = sectionStart bytes 2;
+      challenges = sectionStart bytes 3;
+      queries = sectionStart bytes 4;
+      layers = sectionStart bytes 5;
+    }
+
+-- k, R and η
+abbrev pub parametersIn : List ℕ → Parameters
+parametersIn bytes = record { k = kIn bytes; rate = rateIn bytes; step = stepIn bytes }

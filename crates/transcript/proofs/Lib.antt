@@ -1,0 +1,6 @@
+pub mod Numerals
+pub mod Sections
+pub mod Checks
+pub mod Carried
+mod Refusals
+mod Theorems

@@ -1,0 +1,188 @@
+-- Judging bytes is judging the lists that they carry, and demand 3 of those lists. Assumes nothing.
+use mathlib.Core.Path.{_≡_, refl, sym, ap, _∙_, subst}
+use mathlib.Core.Logic.{_≢_, _⊎_, inl, inr}
+use mathlib.Core.Bool.{Bool, true, false, cond}
+use mathlib.Core.List.{List, [], _∷_}
+use Prim.Native.Nat.{ℕ, _-_, _≤_, _<_}
+use native.Mathlib.Omega.{arith}
+use lib.Dec.{leb}
+use lib.Pow.{pow-pos}
+use lib.ListN.{length}
+use borrow.Author.Tests.{le-leb, lt-leb}
+use Rattle.poly.specs.Polynomial.{All}
+use Rattle.refusal.specs.declared.Cause.the-variants.{RoundCheckFails, InputTooLong}
+use Rattle.refusal.specs.declared.Outcome.{Outcome}
+use Rattle.refusal.specs.declared.Outcome.the-variants.{Done, Refused}
+use Rattle.refusal.specs.Checks.{andThen}
+use Rattle.refusal.specs.Numbers.{numberOfOutcome}
+use Rattle.refusal.specs.declared.Position.the-variants.{At, Absent}
+use Rattle.refusal.proofs.Checks.{then-done, number-then}
+use Rattle.fri.specs.declared.Answer.the-variants as answers
+use Rattle.fri.specs.declared.Verdict.{Verdict}
+use Rattle.fri.specs.Run.{Run}
+use Rattle.fri.specs.Run as run
+use Rattle.fri.specs.Rounds.{roundsOutcome}
+use Rattle.fri.specs.Reads.{entriesRead}
+use Rattle.fri.specs.Judge.{answerOf, readsAfter, verdictOf, numberOfAnswer, placeOfAnswer, roundOfAnswer}
+use Rattle.fri.specs.Demand.{Any, Accepted, Visits, Elements}
+use Rattle.fri.specs.Checks.{basesOutcome}
+use Rattle.fri.specs.Theorems.{Tells}
+use Rattle.fri.proofs.Checks.{early-not, bases-number, bases-early}
+use Rattle.fri.proofs.Rounds.{refused-by-round}
+use Rattle.fri.proofs.Verdicts.{done-of, refused-of, same-number, Either, which}
+use Rattle.fri.proofs.Soundness.{soundness}
+use Rattle.fri.proofs.Completeness.{completeness}
+use Rattle.transcript.specs.Numerals.{AreBytes}
+use Rattle.transcript.specs.Sections.{sectionStart, stepsIn, runIn, queriesIn}
+use Rattle.transcript.specs.Checks.{transcriptOutcome}
+use Rattle.transcript.specs.Judge.{transcriptVerdict, inputVerdict}
+use Rattle.transcript.specs.Theorems.{Carries, JudgingBytes, TranscriptCompleteness, OfRun, TranscriptSoundness, TranscriptNumbers}
+use Rattle.transcript.proofs.Sections.{run-fits}
+use Rattle.transcript.proofs.Refusals.{transcript-number}
+use Rattle.transcript.proofs.Carried.{fit, checks-are, passed-carries}
+
+abbrev too-long : Verdict
+too-long = record { answer = answers.Refused InputTooLong; reads = 0 }
+
+-- ---- where they carry lists
+
+carried : (bytes : List ℕ) → Carries bytes → transcriptVerdict bytes ≡ verdictOf (runIn bytes) (queriesIn bytes)
+unfolding transcriptVerdict
+carried bytes c =
+    ap {B = Verdict}
+    (λ (o : Outcome).
+    record {
+      answer = answerOf (andThen o (roundsOutcome (runIn bytes) (queriesIn bytes) 0));
+      reads = readsAfter o (entriesRead (runIn bytes) (queriesIn bytes));
+    })
+    (checks-are bytes c)
+
+-- ---- which bytes do
+
+accepted-carries : (bytes : List ℕ) → transcriptVerdict bytes .answer ≡ answers.Accepted → Carries bytes
+unfolding transcriptVerdict
+accepted-carries bytes e =
+    let rounds = roundsOutcome (runIn bytes) (queriesIn bytes) 0 in
+    passed-carries bytes (then-done (transcriptOutcome bytes) rounds (done-of (andThen (transcriptOutcome bytes) rounds) e) .0)
+
+refused-carries : (bytes : List ℕ) (query round : ℕ) → transcriptVerdict bytes .answer ≡ answers.Refused (RoundCheckFails query round) → Carries bytes
+unfolding transcriptVerdict
+refused-carries bytes query round e =
+    let rounds = roundsOutcome (runIn bytes) (queriesIn bytes) 0 in
+    by (which (transcriptOutcome bytes) rounds (RoundCheckFails query round) (refused-of (andThen (transcriptOutcome bytes) rounds) (RoundCheckFails query round) e))
+  where
+    by : Either (transcriptOutcome bytes) (roundsOutcome (runIn bytes) (queriesIn bytes) 0) (RoundCheckFails query round) → Carries bytes
+    by (inl early) =
+        absurd
+        (transcript-number (λ n. n ≢ 11) (λ n l e. omega arith) bytes (early-not 11 (numberOfOutcome (basesOutcome (stepsIn bytes) (runIn bytes .basis))) (omega arith) (omega arith) (bases-early (runIn bytes)))
+        (ap numberOfOutcome early))
+    by (inr (passed, late)) = passed-carries bytes passed
+
+-- ---- demand 3
+
+transcript-completeness : TranscriptCompleteness
+transcript-completeness bytes h c independent low is valid =
+    carried bytes c ∙ ap (λ (r : Run). verdictOf r (queriesIn bytes)) is
+    ∙ completeness (runIn bytes) (queriesIn bytes)
+    (record {
+      parameters = c .parameters;
+      offset-element = run-fits bytes h .offset;
+      basis-elements = run-fits bytes h .basis;
+      basis-count = fit bytes c .basis;
+      independent = independent;
+    })
+    (record {
+      word-elements = run-fits bytes h .word;
+      word-count = fit bytes c .word;
+      challenges-elements = run-fits bytes h .challenges;
+      challenges-count = fit bytes c .challenges;
+    })
+    low valid
+
+queries-of : List (List ℕ) → List (List ℕ)
+queries-of [] = []
+queries-of (bytes ∷ transcripts) = queriesIn bytes ∷ queries-of transcripts
+
+-- what is accepted as bytes is accepted as lists
+visited : (sent : Run) (coset : ℕ) (transcripts : List (List ℕ)) → All (OfRun sent) transcripts
+    → Any (λ bytes. (transcriptVerdict bytes .answer ≡ answers.Accepted) × Visits sent (queriesIn bytes) coset) transcripts
+    → Any (λ queries. Accepted sent queries × Visits sent queries coset) (queries-of transcripts)
+unfolding queries-of
+visited sent coset (bytes ∷ transcripts) of-run (inl (a, v)) =
+    inl
+    (sym (ap (λ (x : Verdict). x .answer) (carried bytes (accepted-carries bytes a) ∙ ap (λ (r : Run). verdictOf r (queriesIn bytes)) (of-run .0 .1))) ∙ a, v)
+visited sent coset (bytes ∷ transcripts) of-run (inr rest) = inr (visited sent coset transcripts (of-run .1) rest)
+visited sent coset [] of-run none = none
+
+-- there is a transcript, so that the run has 64-bit numbers
+sent-fits : (sent : Run) (P : List ℕ → Type 0) (transcripts : List (List ℕ)) → All (OfRun sent) transcripts → Any P transcripts → Elements sent
+sent-fits sent P [] of-run none = absurd none
+sent-fits sent P (bytes ∷ transcripts) of-run some = subst Elements (of-run .0 .1) (run-fits bytes (of-run .0 .0))
+
+transcript-soundness : TranscriptSoundness
+transcript-soundness sent transcripts of-run covers =
+    soundness sent (queries-of transcripts)
+    (sent-fits sent (λ bytes. (transcriptVerdict bytes .answer ≡ answers.Accepted) × Visits sent (queriesIn bytes) 0) transcripts of-run
+    (covers 0 (pow-pos (sent .k - run.stepIn sent 0))))
+    (λ coset h. visited sent coset transcripts of-run (covers coset h))
+
+-- ---- the program's answer
+
+short : (bytes : List ℕ) → length bytes ≤ 65536 → inputVerdict bytes ≡ transcriptVerdict bytes
+unfolding inputVerdict
+short bytes h = ap (λ (t : Bool). cond t (transcriptVerdict bytes) too-long) (le-leb (length bytes) 65536 h)
+
+long : (bytes : List ℕ) → 65536 < length bytes → inputVerdict bytes ≡ too-long
+unfolding inputVerdict
+long bytes h = ap (λ (t : Bool). cond t (transcriptVerdict bytes) too-long) (lt-leb (length bytes) 65536 h)
+
+told : (verdict : Verdict) → verdict ≡ too-long → Tells verdict 14 Absent Absent 0
+told verdict e = (
+  ap (λ (v : Verdict). numberOfAnswer (v .answer)) e,
+  ap (λ (v : Verdict). placeOfAnswer (v .answer)) e,
+  ap (λ (v : Verdict). roundOfAnswer (v .answer)) e,
+  ap (λ (v : Verdict). v .reads) e,
+)
+
+judging-bytes : JudgingBytes
+judging-bytes =
+    record {
+      carried = carried;
+      accepted = accepted-carries;
+      refused = refused-carries;
+      short = short;
+      long = λ bytes h. told (inputVerdict bytes) (long bytes h);
+    }
+
+-- ---- numbers
+
+rounds-number : (bytes : List ℕ) (o : Outcome) → roundsOutcome (runIn bytes) (queriesIn bytes) 0 ≡ o → numberOfOutcome o ≤ 11
+rounds-number bytes Done e = omega arith
+rounds-number bytes (Refused cause) e = omega (arith, refused-by-round (runIn bytes) (queriesIn bytes) cause e)
+
+library-number : (bytes : List ℕ) → AreBytes bytes → numberOfAnswer (transcriptVerdict bytes .answer) ≤ 11
+unfolding transcriptVerdict
+library-number bytes h =
+    let rounds = roundsOutcome (runIn bytes) (queriesIn bytes) 0 in
+    subst (λ (n : ℕ). n ≤ 11) (sym (same-number (andThen (transcriptOutcome bytes) rounds)))
+    (number-then (λ n. n ≤ 11) (transcriptOutcome bytes) rounds
+    (transcript-number (λ n. n ≤ 11) (λ n l. omega arith) bytes (bases-number (λ n. n ≤ 11) (omega arith) (omega arith) (runIn bytes) (run-fits bytes h .basis)))
+    (rounds-number bytes rounds refl))
+
+abbrev ProgramNumber : Verdict → Type 0
+ProgramNumber verdict = (numberOfAnswer (verdict .answer) ≤ 11) ⊎ (numberOfAnswer (verdict .answer) ≡ 14)
+
+either-number : (test : Bool) (verdict : Verdict) → numberOfAnswer (verdict .answer) ≤ 11 → ProgramNumber (cond test verdict too-long)
+either-number true verdict h = inl h
+either-number false verdict h = inr refl
+
+program-number : (bytes : List ℕ) → AreBytes bytes → ProgramNumber (inputVerdict bytes)
+unfolding inputVerdict
+program-number bytes h = either-number (leb (length bytes) 65536) (transcriptVerdict bytes) (library-number bytes h)
+
+empty : Tells (inputVerdict []) 1 (At 1) Absent 0
+unfolding inputVerdict transcriptVerdict sectionStart
+empty = (refl, refl, refl, refl)
+
+transcript-numbers : TranscriptNumbers
+transcript-numbers = record { library = library-number; program = program-number; empty = empty }

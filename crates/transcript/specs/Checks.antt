@@ -1,0 +1,69 @@
+-- The refusals of a transcript before the round checks, in the order of document 01: section by section; in each the count's bytes (1), its value
+-- (2, or 9 in section 4), the entries' bytes (1), their values; then bytes after the last section (3).
+use mathlib.Core.Bool.{Bool, _&&_}
+use mathlib.Core.List.{List}
+use Prim.Native.Nat.{ℕ, zero, suc, _+_, _^_}
+use lib.Dec.{leb, eqb}
+use lib.ListN.{length}
+use Rattle.refusal.specs.declared.Cause.{Cause}
+use Rattle.refusal.specs.declared.Cause.the-variants.{BytesEnd, CountDiffers, TrailingBytes, QueryCountOutOfRange}
+use Rattle.refusal.specs.declared.Outcome.{Outcome}
+use Rattle.refusal.specs.declared.Outcome.the-variants.{Done}
+use Rattle.refusal.specs.Checks.{refusedUnless, andThen}
+use Rattle.fri.specs.Layout.{dimension, lastCount}
+use Rattle.fri.specs.Checks.{parametersOutcome, basesOutcome, firstOutside, outcomeOfOutside}
+use Rattle.transcript.specs.Sections.{sectionStart, sectionCount, layerSection, kIn, rateIn, stepIn, stepsIn, roundsIn, runIn, queriesIn}
+
+-- section s: its count's bytes (1), its count, which must pass the test, its entries' bytes (1)
+abbrev pub sectionOutcome : List ℕ → ℕ → Bool → Cause → Outcome
+sectionOutcome bytes s test cause =
+    refusedUnless (leb (sectionStart bytes s + 4) (length bytes)) (BytesEnd s)
+    (refusedUnless test cause
+    (refusedUnless (leb (sectionStart bytes (suc s)) (length bytes)) (BytesEnd s)
+    Done))
+
+-- a section whose count must be the one due (2)
+abbrev pub dueOutcome : List ℕ → ℕ → ℕ → Outcome
+dueOutcome bytes s due = sectionOutcome bytes s (eqb (sectionCount bytes s) due) (CountDiffers s)
+
+-- section 1, and the ranges (4 to 7)
+abbrev pub parametersSection : List ℕ → Outcome
+parametersSection bytes = andThen (dueOutcome bytes 1 3) (parametersOutcome (kIn bytes) (rateIn bytes) (stepIn bytes))
+
+-- section 2, and the bases (8, then 16)
+abbrev pub cosetSection : List ℕ → Outcome
+cosetSection bytes = andThen (dueOutcome bytes 2 (kIn bytes + 1)) (basesOutcome (stepsIn bytes) (runIn bytes .basis))
+
+-- section 3
+abbrev pub challengesSection : List ℕ → Outcome
+challengesSection bytes = dueOutcome bytes 3 (roundsIn bytes)
+
+-- section 4: 1 to 256 queries (9), each below 2^k (10)
+abbrev pub queriesSection : List ℕ → Outcome
+queriesSection bytes =
+    andThen (sectionOutcome bytes 4 (leb 1 (sectionCount bytes 4) && leb (sectionCount bytes 4) 256) QueryCountOutOfRange)
+    (outcomeOfOutside (firstOutside (2 ^ kIn bytes) (queriesIn bytes) 0))
+
+-- sections 1 to 4
+abbrev pub frontOutcome : List ℕ → Outcome
+frontOutcome bytes = andThen (parametersSection bytes) (andThen (cosetSection bytes) (andThen (challengesSection bytes) (queriesSection bytes)))
+
+-- the sections of layer i and of those after it, `left` of them
+unfoldable pub layersFrom : List ℕ → ℕ → ℕ → Outcome
+layersFrom bytes i zero = Done
+layersFrom bytes i (suc left) =
+    andThen (dueOutcome bytes (layerSection i) (2 ^ dimension (kIn bytes) (stepsIn bytes) i)) (layersFrom bytes (suc i) left)
+
+-- the last coefficients, after which nothing follows (3)
+abbrev pub endOutcome : List ℕ → Outcome
+endOutcome bytes =
+    andThen (dueOutcome bytes (layerSection (roundsIn bytes)) (lastCount (kIn bytes) (rateIn bytes) (stepsIn bytes)))
+    (refusedUnless (eqb (sectionStart bytes (suc (layerSection (roundsIn bytes)))) (length bytes)) TrailingBytes Done)
+
+-- the sections of the layers and the last one
+abbrev pub layersOutcome : List ℕ → Outcome
+layersOutcome bytes = andThen (layersFrom bytes 0 (roundsIn bytes)) (endOutcome bytes)
+
+-- all sections
+abbrev pub transcriptOutcome : List ℕ → Outcome
+transcriptOutcome bytes = andThen (frontOutcome bytes) (layersOutcome bytes)

@@ -1,0 +1,27 @@
+-- The judge over the bytes of a transcript, and the answer of the program `judge`.
+use mathlib.Core.Bool.{cond}
+use mathlib.Core.List.{List}
+use Prim.Native.Nat.{ℕ}
+use lib.Dec.{leb}
+use lib.ListN.{length}
+use Rattle.refusal.specs.declared.Cause.the-variants.{InputTooLong}
+use Rattle.refusal.specs.Checks.{andThen}
+use Rattle.fri.specs.declared.Answer.the-variants as answers
+use Rattle.fri.specs.declared.Verdict.{Verdict}
+use Rattle.fri.specs.Rounds.{roundsOutcome}
+use Rattle.fri.specs.Reads.{entriesRead}
+use Rattle.fri.specs.Judge.{answerOf, readsAfter}
+use Rattle.transcript.specs.Sections.{runIn, queriesIn}
+use Rattle.transcript.specs.Checks.{transcriptOutcome}
+
+-- the verdict: the sections in order, then the round checks (11) of the run that they carry, with the entries read
+unfoldable pub transcriptVerdict : List ℕ → Verdict
+transcriptVerdict bytes =
+    record {
+      answer = answerOf (andThen (transcriptOutcome bytes) (roundsOutcome (runIn bytes) (queriesIn bytes) 0));
+      reads = readsAfter (transcriptOutcome bytes) (entriesRead (runIn bytes) (queriesIn bytes));
+    }
+
+-- the program's answer: an input of over 65,536 bytes is refused first (14)
+unfoldable pub inputVerdict : List ℕ → Verdict
+inputVerdict bytes = cond (leb (length bytes) 65536) (transcriptVerdict bytes) (record { answer = answers.Refused InputTooLong; reads = 0 })

@@ -1,0 +1,5 @@
+pub mod Numerals
+pub mod Sections
+pub mod Checks
+pub mod Judge
+pub mod Theorems

@@ -1,0 +1,73 @@
+-- What is proved of judging bytes: where they carry lists, the verdict is that of the judge over those lists; so that both halves of demand 3 hold of the
+-- lists that they carry. proofs/Theorems.antt has the values.
+use mathlib.Core.Path.{_≡_}
+use mathlib.Core.Logic.{_⊎_}
+use mathlib.Core.List.{List, []}
+use Prim.Native.Nat.{ℕ, suc, _+_, _*_, _-_, _^_, _≤_, _<_}
+use lib.ListN.{length}
+use Rattle.poly.specs.Polynomial.{All}
+use Rattle.refusal.specs.declared.Cause.the-variants.{RoundCheckFails}
+use Rattle.refusal.specs.declared.Position.the-variants.{At, Absent}
+use Rattle.coset.specs.Span.{Independent}
+use Rattle.fri.specs.declared.Answer.the-variants as answers
+use Rattle.fri.specs.Layout.{dimension, lastCount}
+use Rattle.fri.specs.Run.{Run}
+use Rattle.fri.specs.Run as run
+use Rattle.fri.specs.Layers.{honest}
+use Rattle.fri.specs.Judge.{numberOfAnswer, verdictOf}
+use Rattle.fri.specs.Demand.{ValidParameters, LowDegree, ValidQueries, Any, Visits, Sound}
+use Rattle.fri.specs.Theorems.{Tells}
+use Rattle.transcript.specs.Numerals.{AreBytes}
+use Rattle.transcript.specs.Sections.{sectionStart, sectionCount, layerSection, kIn, rateIn, stepIn, stepsIn, roundsIn, runIn, queriesIn}
+use Rattle.transcript.specs.Judge.{transcriptVerdict, inputVerdict}
+
+-- the bytes carry lists: parameters in range, the counts due but for the queries', and nothing follows the last section
+pub record Carries (bytes : List ℕ) : Type 0 where
+  pub parameters-count : sectionCount bytes 1 ≡ 3
+  pub parameters : ValidParameters (kIn bytes) (rateIn bytes) (stepIn bytes)
+  pub coset-count : sectionCount bytes 2 ≡ kIn bytes + 1
+  pub challenges-count : sectionCount bytes 3 ≡ roundsIn bytes
+  pub layer-counts : (i : ℕ) → i < roundsIn bytes → sectionCount bytes (layerSection i) ≡ 2 ^ dimension (kIn bytes) (stepsIn bytes) i
+  pub last-count : sectionCount bytes (layerSection (roundsIn bytes)) ≡ lastCount (kIn bytes) (rateIn bytes) (stepsIn bytes)
+  pub ends : sectionStart bytes (suc (layerSection (roundsIn bytes))) ≡ length bytes
+
+-- judging bytes is judging the lists that they carry
+pub record JudgingBytes : Type 0 where
+  -- where they carry lists, the verdict is that of the judge over those lists
+  pub carried : (bytes : List ℕ) → Carries bytes → transcriptVerdict bytes ≡ verdictOf (runIn bytes) (queriesIn bytes)
+  -- and they do where they are accepted or refused by a round check
+  pub accepted : (bytes : List ℕ) → transcriptVerdict bytes .answer ≡ answers.Accepted → Carries bytes
+  pub refused : (bytes : List ℕ) (query round : ℕ) → transcriptVerdict bytes .answer ≡ answers.Refused (RoundCheckFails query round) → Carries bytes
+  -- the program's answer: the same, unless there are over 65,536 bytes (14)
+  pub short : (bytes : List ℕ) → length bytes ≤ 65536 → inputVerdict bytes ≡ transcriptVerdict bytes
+  pub long : (bytes : List ℕ) → 65536 < length bytes → Tells (inputVerdict bytes) 14 Absent Absent 0
+
+-- demand 3, first half: bytes that carry an honest run of a word of low degree over an independent basis are accepted with every valid query list,
+-- whatever the offset and the challenges, and queries · r · 2^η entries are read
+abbrev pub TranscriptCompleteness : Type 0
+TranscriptCompleteness =
+    (bytes : List ℕ) → AreBytes bytes → Carries bytes → Independent (runIn bytes .basis) → LowDegree (runIn bytes) → runIn bytes ≡ honest (runIn bytes)
+    → ValidQueries (kIn bytes) (queriesIn bytes)
+    → transcriptVerdict bytes ≡ record { answer = answers.Accepted; reads = length (queriesIn bytes) * roundsIn bytes * 2 ^ stepIn bytes }
+
+-- the bytes carry this run
+abbrev pub OfRun : Run → List ℕ → Type 0
+OfRun sent bytes = AreBytes bytes × (runIn bytes ≡ sent)
+
+-- the accepted ones together visit every first-layer coset
+abbrev pub VisitedByTranscripts : Run → List (List ℕ) → Type 0
+VisitedByTranscripts sent transcripts =
+    (coset : ℕ) → coset < 2 ^ (sent .k - run.stepIn sent 0)
+    → Any (λ bytes. (transcriptVerdict bytes .answer ≡ answers.Accepted) × Visits sent (queriesIn bytes) coset) transcripts
+
+-- demand 3, second half: one claim over any list of transcripts of the same layers from anybody
+abbrev pub TranscriptSoundness : Type 0
+TranscriptSoundness = (sent : Run) (transcripts : List (List ℕ)) → All (OfRun sent) transcripts → VisitedByTranscripts sent transcripts → Sound sent
+
+-- no number is given otherwise: over bytes 0 to 11, and 14 by the program
+pub record TranscriptNumbers : Type 0 where
+  pub library : (bytes : List ℕ) → AreBytes bytes → numberOfAnswer (transcriptVerdict bytes .answer) ≤ 11
+  pub program : (bytes : List ℕ) → AreBytes bytes
+      → (numberOfAnswer (inputVerdict bytes .answer) ≤ 11) ⊎ (numberOfAnswer (inputVerdict bytes .answer) ≡ 14)
+  -- case N: no bytes at all
+  pub empty : Tells (inputVerdict []) 1 (At 1) Absent 0
