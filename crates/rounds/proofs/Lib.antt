@@ -1,4 +1,4 @@
-mod StepSizes
+pub mod StepSizes
 mod QueryPoints
 pub mod Tables
 mod Queries

@@ -1,5 +1,5 @@
 -- Bytes that carry lists: the checks of their sections are those of the lists. Assumes nothing.
-use mathlib.Core.Path.{_≡_, refl, sym, ap, ap₂, _∙_}
+use mathlib.Core.Path.{_≡_, refl, sym, ap, ap₂, _∙_, subst}
 use mathlib.Core.Bool.{Bool, true, false, _&&_}
 use mathlib.Core.List.{List}
 use Prim.Native.Nat.{ℕ, zero, suc, _+_, _-_, _^_, _≤_, _<_}
@@ -19,7 +19,7 @@ use Rattle.fri.specs.Run.{layerIn}
 use Rattle.fri.specs.Checks.{parametersOutcome, lengthsOutcome, basesOutcome, runOutcome, firstOutside, outcomeOfOutside, queriesOutcome}
 use Rattle.fri.specs.Judge.{checksOutcome}
 use Rattle.fri.specs.Theorems.{Fit}
-use Rattle.fri.proofs.Checks.{parameters-pass, lengths-pass}
+use Rattle.fri.proofs.Checks.{parameters-pass, lengths-pass, queries-valid}
 use Rattle.fri.proofs.Layouts.{joined-length, joined-found, some-round}
 use Rattle.transcript.specs.Sections.{sectionStart, sectionCount, sectionEntries, layerSection, kIn, rateIn, stepIn, stepsIn, roundsIn, runIn, queriesIn}
 use Rattle.transcript.specs.Checks.{dueOutcome, parametersSection, cosetSection, challengesSection, queriesSection, frontOutcome, layersFrom, endOutcome, layersOutcome, transcriptOutcome}
@@ -169,3 +169,10 @@ module _ (bytes : List ℕ) where
             equal-of-test (sectionStart bytes (suc (layerSection r))) (length bytes)
             (unless-done (eqb (sectionStart bytes (suc (layerSection r))) (length bytes)) TrailingBytes Done (last .1) .0);
       }
+
+  -- and 1 to 256 queries
+  pub queries-few : transcriptOutcome bytes ≡ Done → sectionCount bytes 4 ≤ 256
+  queries-few done =
+      let carries = passed-carries done in
+      let queries = then-done (runOutcome (runIn bytes)) (queriesOutcome (kIn bytes) (queriesIn bytes)) (sym (checks-are carries) ∙ done) .1 in
+      subst (λ (n : ℕ). n ≤ 256) (length-entries bytes (sectionStart bytes 4 + 4) (sectionCount bytes 4)) (queries-valid (kIn bytes) (queriesIn bytes) queries .most)

@@ -3,4 +3,4 @@ pub mod Sections
 pub mod Checks
 pub mod Carried
 mod Refusals
-mod Theorems
+pub mod Theorems

@@ -10,6 +10,7 @@ use lib.Pow.{pow-pos}
 use lib.ListN.{length}
 use borrow.Author.Tests.{le-leb, lt-leb}
 use Rattle.poly.specs.Polynomial.{All}
+use Rattle.refusal.specs.declared.Cause.{Cause}
 use Rattle.refusal.specs.declared.Cause.the-variants.{RoundCheckFails, InputTooLong}
 use Rattle.refusal.specs.declared.Outcome.{Outcome}
 use Rattle.refusal.specs.declared.Outcome.the-variants.{Done, Refused}
@@ -56,6 +57,19 @@ carried bytes c =
       reads = readsAfter o (entriesRead (runIn bytes) (queriesIn bytes));
     })
     (checks-are bytes c)
+
+-- a section's refusal is the answer, and nothing is read
+pub refused-verdict : (bytes : List ℕ) (cause : Cause) → transcriptOutcome bytes ≡ Refused cause
+    → transcriptVerdict bytes ≡ record { answer = answers.Refused cause; reads = 0 }
+unfolding transcriptVerdict
+refused-verdict bytes cause e =
+    ap {B = Verdict}
+    (λ (o : Outcome).
+    record {
+      answer = answerOf (andThen o (roundsOutcome (runIn bytes) (queriesIn bytes) 0));
+      reads = readsAfter o (entriesRead (runIn bytes) (queriesIn bytes));
+    })
+    e
 
 -- ---- which bytes do
 
@@ -128,11 +142,11 @@ transcript-soundness sent transcripts of-run covers =
 
 -- ---- the program's answer
 
-short : (bytes : List ℕ) → length bytes ≤ 65536 → inputVerdict bytes ≡ transcriptVerdict bytes
+pub short : (bytes : List ℕ) → length bytes ≤ 65536 → inputVerdict bytes ≡ transcriptVerdict bytes
 unfolding inputVerdict
 short bytes h = ap (λ (t : Bool). cond t (transcriptVerdict bytes) too-long) (le-leb (length bytes) 65536 h)
 
-long : (bytes : List ℕ) → 65536 < length bytes → inputVerdict bytes ≡ too-long
+pub long : (bytes : List ℕ) → 65536 < length bytes → inputVerdict bytes ≡ too-long
 unfolding inputVerdict
 long bytes h = ap (λ (t : Bool). cond t (transcriptVerdict bytes) too-long) (lt-leb (length bytes) 65536 h)
 
@@ -144,7 +158,7 @@ told verdict e = (
   ap (λ (v : Verdict). v .reads) e,
 )
 
-judging-bytes : JudgingBytes
+pub judging-bytes : JudgingBytes
 judging-bytes =
     record {
       carried = carried;
