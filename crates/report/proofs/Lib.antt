@@ -1,0 +1,4 @@
+mod Placing
+mod Filling
+mod Decimals
+pub mod Theorems

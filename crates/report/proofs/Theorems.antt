@@ -1,0 +1,22 @@
+-- The statements of specs/Theorems.antt, proved. Assumes nothing.
+use mathlib.Core.Path.{refl}
+use Prim.Native.Nat.{_-_}
+use Rattle.report.specs.Digits.{bytes, digits, placesWithin, decimal}
+use Rattle.report.specs.Lines.{orHyphen, wordOf, numbersOf, lineOf, linesOf}
+use Rattle.report.specs.Theorems.{Examples, Decimals}
+use Rattle.report.proofs.Decimals as laws
+
+pub examples : Examples
+unfolding linesOf lineOf numbersOf wordOf orHyphen decimal digits placesWithin bytes
+examples = record { accepted = refl; refused = refl }
+
+pub decimals : Decimals
+unfolding decimal digits placesWithin bytes
+decimals =
+    record {
+      value = λ n h. laws.value 19 n (laws.below-20-digits h);
+      ascii = λ n. laws.digits-decimal (placesWithin 19 n) n;
+      leading = λ n h. laws.leading 19 n (laws.below-20-digits h);
+      zero = refl;
+      largest = refl;
+    }

@@ -1,0 +1,50 @@
+-- `report::put_numbers` meets its contract: one text after the other. Assumes nothing.
+use borrow.Author.Needs.{needs}
+use Rattle.report.specs.Digits.{bytes}
+use Rattle.report.specs.Lines.{numbersOf}
+use Rattle.report.proofs.Placing.{put-append}
+use Rattle.report.proofs.put_numbers.Statement.{statement}
+use Rattle.report.proofs.put_numbers.Tie as tie
+
+put-number-requires : tie.Need-put-number-requires
+put-number-requires c κs = search needs
+
+put-position-requires : tie.Need-put-position-requires
+put-position-requires c κs = search needs
+
+put-position-requires-2 : tie.Need-put-position-requires-2
+put-position-requires-2 c κs = search needs
+
+put-number-requires-2 : tie.Need-put-number-requires-2
+put-number-requires-2 c κs = search needs
+
+slice-aggregate-put : tie.Need-slice-aggregate-put
+slice-aggregate-put c = search needs
+
+put-requires : tie.Need-put-requires
+put-requires c κs = search needs
+
+same-length : tie.Need-same-length
+same-length c = search needs
+
+returns : tie.Need-returns
+unfolding bytes numbersOf
+returns c =
+    let number = c .before .before .before .before .before .before .before .before .before .before .before .before .before .before .before .before .before .before .before .put-number .ensures .0 in
+    let place = c .before .before .before .before .before .before .before .before .before .before .before .before .before .before .before .put-position .ensures .0 in
+    let round = c .before .before .before .before .before .before .before .before .before .before .before .put-position2 .ensures .0 in
+    let reads = c .before .before .before .before .before .before .before .put-number2 .ensures .0 in
+    put-append (put-append (put-append (put-append number place) round) reads) (c .before .before .put .ensures)
+
+pub put-numbers-spec : {M : Type 1} → statement M
+put-numbers-spec =
+    tie.close
+    (tie.spec
+    put-number-requires
+    put-position-requires
+    put-position-requires-2
+    put-number-requires-2
+    slice-aggregate-put
+    put-requires
+    same-length
+    returns)

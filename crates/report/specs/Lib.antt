@@ -1,0 +1,4 @@
+pub mod Digits
+pub mod Put
+pub mod Lines
+pub mod Theorems

@@ -1,0 +1,37 @@
+-- The two lines that the program prints of a verdict, as document 01 gives them, by their bytes.
+use mathlib.Core.List.{List, _++_}
+use Prim.Native.Nat.{ℕ}
+use Rattle.refusal.specs.declared.Position.{Position}
+use Rattle.refusal.specs.declared.Position.the-variants.{At, Absent}
+use Rattle.fri.specs.declared.Answer.{Answer}
+use Rattle.fri.specs.declared.Answer.the-variants.{Accepted, Refused}
+use Rattle.fri.specs.declared.Verdict.{Verdict}
+use Rattle.fri.specs.Judge.{numberOfAnswer, placeOfAnswer, roundOfAnswer}
+use Rattle.report.specs.Digits.{bytes, decimal}
+
+-- a place or a round, or a hyphen where there is none
+unfoldable pub orHyphen : Position → List ℕ
+orHyphen (At n) = decimal n
+orHyphen Absent = bytes "-"
+
+unfoldable pub wordOf : Answer → List ℕ
+wordOf Accepted = bytes "accepted"
+wordOf (Refused cause) = bytes "refused"
+
+-- what follows the word: number, place, round and reads, each after a space, and a line feed
+unfoldable pub numbersOf : ℕ → Position → Position → ℕ → List ℕ
+numbersOf number place round reads =
+    (bytes " " ++ decimal number)
+    ++ (bytes " " ++ orHyphen place)
+    ++ (bytes " " ++ orHyphen round)
+    ++ (bytes " " ++ decimal reads)
+    ++ bytes "\n"
+
+unfoldable pub lineOf : Verdict → List ℕ
+lineOf verdict =
+    wordOf (verdict .answer)
+    ++ numbersOf (numberOfAnswer (verdict .answer)) (placeOfAnswer (verdict .answer)) (roundOfAnswer (verdict .answer)) (verdict .reads)
+
+-- the header and the line
+unfoldable pub linesOf : Verdict → List ℕ
+linesOf verdict = bytes "answer number place round reads\n" ++ lineOf verdict

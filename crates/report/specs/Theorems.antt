@@ -1,0 +1,31 @@
+-- The lines by example, and that decimal numbers are right: proofs/Theorems.antt has the values.
+use mathlib.Core.Path.{_≡_}
+use mathlib.Core.List.{List, [], _∷_}
+use Prim.Native.Nat.{ℕ, _+_, _*_, _-_, _^_, _≤_, _<_}
+use lib.ListN.{length, getD}
+use Rattle.refusal.specs.declared.Cause.the-variants.{RoundCheckFails}
+use Rattle.fri.specs.declared.Answer.the-variants.{Accepted, Refused}
+use Rattle.report.specs.Digits.{bytes, decimal}
+use Rattle.report.specs.Lines.{linesOf}
+
+-- cases G and H
+pub record Examples : Type 0 where
+  pub accepted : linesOf (record { answer = Accepted; reads = 4 }) ≡ bytes "answer number place round reads\naccepted 0 - - 4\n"
+  pub refused : linesOf (record { answer = Refused (RoundCheckFails 1 0); reads = 4 })
+      ≡ bytes "answer number place round reads\nrefused 11 1 0 4\n"
+
+-- the number that decimal digits stand for, read on after those that stand for `before`
+unfoldable pub valueAfter : (before : ℕ) → List ℕ → ℕ
+valueAfter before [] = before
+valueAfter before (d ∷ rest) = valueAfter (10 * before + (d - 48)) rest
+
+abbrev pub valueOf : List ℕ → ℕ
+valueOf = valueAfter 0
+
+-- of a 64-bit number the digits stand for it, each is `0` to `9`, and the first is not `0` but for 0 itself
+pub record Decimals : Type 0 where
+  pub value : (n : ℕ) → n < 2 ^ 64 → valueOf (decimal n) ≡ n
+  pub ascii : (n i : ℕ) → i < length (decimal n) → (48 ≤ getD (decimal n) i 0) × (getD (decimal n) i 0 ≤ 57)
+  pub leading : (n : ℕ) → n < 2 ^ 64 → 0 < n → getD (decimal n) 0 0 ≡ 48 → ⊥
+  pub zero : decimal 0 ≡ bytes "0"
+  pub largest : decimal (2 ^ 64 - 1) ≡ bytes "18446744073709551615"
