@@ -229,7 +229,7 @@ pub extern "C" fn rz_fold(
     if answer.len() != ANSWER_LENGTH {
         return;
     }
-    let folded = fold::fold(
+    let folded = lone_fold::fold(
         k,
         step,
         Element(offset),

@@ -114,7 +114,7 @@ fn code_cases() {
 fn show_fold(offset: Element, word: &[u64], challenge: Element) {
     let mut values = [0u64; 2];
     let mut next_basis = [0u64; 1];
-    let folded = fold::fold(
+    let folded = lone_fold::fold(
         2,
         1,
         offset,
@@ -146,7 +146,7 @@ fn case_k() {
     let word = [0u64, 1, 4, 5, 0x10, 0x11, 0x14, 0x15];
     let mut layer = [0u64; 4];
     let mut basis = [0u64; 2];
-    let first = fold::fold(
+    let first = lone_fold::fold(
         3,
         1,
         Element::ZERO,
@@ -160,7 +160,7 @@ fn case_k() {
     show_folded(first, &layer, &basis);
     let mut last = [0u64; 2];
     let mut last_basis = [0u64; 1];
-    let second = fold::fold(
+    let second = lone_fold::fold(
         2,
         1,
         Element::ZERO,

@@ -212,7 +212,7 @@ fn fold_layer(coset: LayerCoset, step: usize, challenge: Element, layer: &[u64],
     let elements = coset.step_elements(step);
     let basis = coset.basis;
     let dimension = coset.dimension;
-    fold::fill_values(
+    folding::fill_values(
         &elements[..step],
         coset.offset,
         &basis[..dimension],
@@ -231,7 +231,7 @@ fn fold_behind(coset: LayerCoset, step: usize, challenge: Element, joined: &mut 
     let elements = coset.step_elements(step);
     let basis = coset.basis;
     let dimension = coset.dimension;
-    fold::fill_behind(
+    folding::fill_behind(
         &elements[..step],
         coset.offset,
         &basis[..dimension],

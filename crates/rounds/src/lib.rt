@@ -1,7 +1,7 @@
 // What the judge over lists and the one over bytes have in common: what is computed once for each round, before the queries, a query's index and point
 // in a layer, the first query out of range, and the cosets that a query has read.
 use field::Element;
-use fold::halving::Coset;
+use halving::Coset;
 use layers::Parameters;
 use layers::cosets::LayerCoset;
 use refusal::Position;
@@ -70,8 +70,8 @@ impl Round {
         let basis = coset.basis;
         Round {
             elements,
-            inverses: fold::inverses_of(&elements[..step]),
-            span: fold::span_of(&basis[..step]),
+            inverses: halving::inverses_of(&elements[..step]),
+            span: halving::span_of(&basis[..step]),
             challenge,
             start,
             next,

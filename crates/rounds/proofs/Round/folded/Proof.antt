@@ -1,8 +1,8 @@
 -- `Round::folded` meets its contract. Assumes nothing.
-use Rattle.rounds.proofs.StepSizes.{sizeOf, size-is, size-most, size-some, size-eight, between-within}
-use Rattle.fold.proofs.Cosets.{value-padded}
+use Rattle.judging.proofs.StepSizes.{sizeOf, size-is, size-most, size-some, size-eight, between-within}
+use Rattle.halving.proofs.Cosets.{value-padded}
 use Rattle.fold.specs.Halving.{valueAt}
-use Rattle.fold.specs.declared.halving.Coset.{Coset}
+use Rattle.halving.specs.declared.Coset.{Coset}
 use Rattle.gf64.specs.Field.{sum}
 use lib.Seq.{length-take-le}
 use lib.ListN.{length, getD, take}

@@ -1,0 +1,122 @@
+// A coset of the fold, and the value of its interpolant at a challenge. It is found by halving the coset: points 2 i and 2 i + 1 become one
+// point, and their entries the value of the line through the two. The points are moved by the challenge before, each is its sum with it: the
+// maps X · (X - e) that halve the points are additive, so the halved points are moved as well, by the image of the challenge, and no
+// halving needs the challenge itself.
+use field::Element;
+ghost use mathlib.Core.Path.{_≡_};
+ghost use mathlib.Core.List.{map};
+ghost use Prim.Native.Nat.{suc, _*_, _/_, _^_, _≤_};
+ghost use lib.ListN.{length, getD};
+ghost use Rattle.gf64.specs.Field.{sum, inverse};
+ghost use Rattle.poly.specs.Carrier.{gf64};
+ghost use Rattle.poly.specs.Polynomial.{padded};
+ghost use Rattle.coset.specs.Coset.{points};
+ghost use Rattle.fold.specs.Halving.{lineAt, halvedPoints, halvedEntries, valueAt};
+
+// Two, four or eight points, moved by the challenge, or one in the end, with the entries there; behind the count are zeros.
+pub struct Coset {
+    pub points: [u64; 8],
+    pub entries: [u64; 8],
+    pub count: usize,
+}
+
+impl Coset {
+    // Point i is the first point, moved by the challenge, plus entry i of the span; part is the coset's part of the word.
+    pub fn read(span: &[u64], first: Element, part: &[u64]) -> Coset
+        requires { ⌜ (length (now span) ≤ 8) × (length (now part) ≡ length (now span)) ⌝ }
+        ensures { λ r. ⌜ r ≡ record { points = padded gf64 8 (map (sum (first .0)) (now (span .entry))); entries = padded gf64 8 (now (part .entry)); count = length (now (span .entry)) } ⌝ }
+    {
+        let mut points = [0u64; 8];
+        let mut entries = [0u64; 8];
+        let mut i: usize = 0;
+        while i < span.len() {
+            points[i] = first.sum(Element(span[i])).0;
+            entries[i] = part[i];
+            i += 1;
+        }
+        Coset {
+            points,
+            entries,
+            count: i,
+        }
+    }
+
+    // The value at the challenge of the polynomial with these entries, where the points are those of a coset of the fold, moved by the
+    // challenge, and the inverses those of the elements e of the step's maps X · (X - e) (`Halvings.entry`).
+    pub fn value_at(self, inverses: &[u64]) -> Element
+        requires { ⌜ (1 ≤ length (now inverses)) × (length (now inverses) ≤ 3) × (self .count ≡ 2 ^ length (now inverses)) ⌝ }
+        ensures { λ r. ⌜ r .0 ≡ valueAt (now (inverses .entry)) (self .points) (self .entries) ⌝ }
+    {
+        let last = inverses.len() - 1;
+        let mut coset = self;
+        let mut t: usize = 0;
+        while t < last {
+            coset = coset.halved(Element(inverses[t]));
+            t += 1;
+        }
+        coset.line(0, Element(inverses[last]))
+    }
+
+    // One entry for each two neighbours, at their images under X · (X - e), where e is the difference of the two.
+    fn halved(self, inverse: Element) -> Coset
+        requires { ⌜ self .count ≤ 8 ⌝ }
+        ensures { λ r. ⌜ r ≡ record { points = padded gf64 8 (halvedPoints (self .count / 2) (self .points)); entries = padded gf64 8 (halvedEntries (inverse .0) (self .count / 2) (self .points) (self .entries)); count = self .count / 2 } ⌝ }
+    {
+        let half = self.count / 2;
+        let mut points = [0u64; 8];
+        let mut entries = [0u64; 8];
+        let mut i: usize = 0;
+        while i < half {
+            points[i] = Element(self.points[i * 2])
+                .product(Element(self.points[i * 2 + 1]))
+                .0;
+            entries[i] = self.line(i, inverse).0;
+            i += 1;
+        }
+        Coset {
+            points,
+            entries,
+            count: half,
+        }
+    }
+
+    // The value at the challenge, or its image, of the line through points 2 i and 2 i + 1, where inverse is that of their difference.
+    fn line(self, i: usize, inverse: Element) -> Element
+        requires { ⌜ i ≤ 3 ⌝ }
+        ensures { λ r. ⌜ r .0 ≡ lineAt (inverse .0) (getD (self .points) (i * 2) 0) (getD (self .entries) (i * 2) 0) (getD (self .entries) (suc (i * 2)) 0) ⌝ }
+    {
+        let u = Element(self.entries[i * 2]);
+        let v = Element(self.entries[i * 2 + 1]);
+        let slope = u.sum(v).product(inverse);
+        u.sum(Element(self.points[i * 2]).product(slope))
+    }
+}
+
+// The inverses of at most three elements, and zeros. None of a step's elements is zero (`Subspaces.elements`).
+pub fn inverses_of(elements: &[u64]) -> [u64; 3]
+    requires { ⌜ length (now elements) ≤ 3 ⌝ }
+    ensures { λ r. ⌜ r ≡ padded gf64 3 (map inverse (now (elements .entry))) ⌝ }
+{
+    let mut inverses = [0u64; 3];
+    let mut t: usize = 0;
+    while t < elements.len() {
+        inverses[t] = Element(elements[t]).inverse_or_zero().0;
+        t += 1;
+    }
+    inverses
+}
+
+// The span of at most three elements in point order, and zeros.
+pub fn span_of(basis: &[u64]) -> [u64; 8]
+    requires { ⌜ length (now basis) ≤ 3 ⌝ }
+    ensures { λ r. ⌜ r ≡ padded gf64 8 (points 0 (now (basis .entry))) ⌝ }
+{
+    let size = 1 << basis.len();
+    let mut span = [0u64; 8];
+    let mut i: usize = 0;
+    while i < size {
+        span[i] = coset::point(Element::ZERO, basis, i).0;
+        i += 1;
+    }
+    span
+}
