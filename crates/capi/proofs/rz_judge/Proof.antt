@@ -1,6 +1,6 @@
 -- `capi::rz_judge` meets its contract: a list of another length is left as it was. Assumes nothing.
-use Rattle.capi.proofs.Five.{answered-five, answered-other}
-use Rattle.capi.specs.Answers.{answerOfVerdict, numbersOf}
+use Rattle.answers.proofs.Five.{answered-five, answered-other}
+use Rattle.answers.specs.Answers.{answerOfVerdict, numbersOf}
 use Rattle.layers.specs.Parameters.{runOf}
 use Rattle.fri.specs.Judge.{verdictOf}
 use mathlib.Core.Path.{ap, _∙_}

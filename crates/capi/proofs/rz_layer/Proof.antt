@@ -1,6 +1,6 @@
 -- `capi::rz_layer` meets its contract: a list of another length is left as it was. Assumes nothing.
-use Rattle.capi.proofs.Five.{answered-five, answered-other}
-use Rattle.capi.specs.Answers.{answerOfPart, numbersOf}
+use Rattle.answers.proofs.Five.{answered-five, answered-other}
+use Rattle.answers.specs.Answers.{answerOfPart, numbersOf}
 use Rattle.layers.specs.Parts.{partOf}
 use lib.ListN.{length}
 use mathlib.Core.Path.{ap, _∙_}

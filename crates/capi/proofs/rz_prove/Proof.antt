@@ -1,6 +1,6 @@
 -- `capi::rz_prove` meets its contract: where the answer's list has another length nothing is done. Assumes nothing.
-use Rattle.capi.proofs.Five.{whereAnswered-five, whereAnswered-other, left-alone, written}
-use Rattle.capi.specs.Answers.{answerOfProved}
+use Rattle.answers.proofs.Five.{whereAnswered-five, whereAnswered-other, left-alone, written}
+use Rattle.answers.specs.Answers.{answerOfProved}
 use Rattle.layers.specs.Parameters.{runOf}
 use Rattle.fri.specs.Prover.{proveOutcome, storeAfter, lastAfter}
 use mathlib.Core.Path.{ap, _∙_}

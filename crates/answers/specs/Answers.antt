@@ -16,7 +16,7 @@ use Rattle.fold.specs.Answers.{numberOfFolded, placeOfFolded, roundOfFolded, va
 use Rattle.fri.specs.declared.Verdict.{Verdict}
 use Rattle.fri.specs.Judge.{numberOfAnswer, placeOfAnswer, roundOfAnswer}
 use Rattle.layers.specs.declared.Part.{Part}
-use Rattle.capi.specs.declared.Answer.{Answer}
+use Rattle.answers.specs.declared.Answer.{Answer}
 
 -- stands for a place, a round or a value that there is none of
 abbrev pub none : ℕ

@@ -1,2 +1,2 @@
-mod Five
+pub mod Five
 pub mod Theorems

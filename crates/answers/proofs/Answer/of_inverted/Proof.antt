@@ -1,9 +1,9 @@
--- `capi::Answer::of_inverted` meets its contract: each arm is given that the argument is the constructor at its field. Assumes nothing.
+-- `Answer::of_inverted` meets its contract: each arm is given that the argument is the constructor at its field. Assumes nothing.
 use mathlib.Core.Path.{sym, ap, _∙_}
 use borrow.Author.Needs.{needs}
-use Rattle.capi.specs.Answers.{answerOfInverted}
-use Rattle.capi.proofs.Answer.of_inverted.Statement.{statement}
-use Rattle.capi.proofs.Answer.of_inverted.Tie as tie
+use Rattle.answers.specs.Answers.{answerOfInverted}
+use Rattle.answers.proofs.Answer.of_inverted.Statement.{statement}
+use Rattle.answers.proofs.Answer.of_inverted.Tie as tie
 
 enum-known-inverted : tie.Need-enum-known-inverted
 enum-known-inverted c = search needs

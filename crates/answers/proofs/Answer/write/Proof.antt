@@ -1,10 +1,10 @@
--- `capi::Answer::write` meets its contract. Assumes nothing.
+-- `Answer::write` meets its contract. Assumes nothing.
 use native.Mathlib.Omega.{arith}
 use lib.ListN.{length-set}
 use borrow.Author.Needs.{needs}
-use Rattle.capi.proofs.Five.{five-stores}
-use Rattle.capi.proofs.Answer.write.Statement.{statement}
-use Rattle.capi.proofs.Answer.write.Tie as tie
+use Rattle.answers.proofs.Five.{five-stores}
+use Rattle.answers.proofs.Answer.write.Statement.{statement}
+use Rattle.answers.proofs.Answer.write.Tie as tie
 
 slice-write-lent : tie.Need-slice-write-lent
 slice-write-lent c = search needs

@@ -10,7 +10,7 @@ use Rattle.fri.specs.declared.Answer.the-variants as answers
 use Rattle.fri.specs.Lookup.{layerPart}
 use Rattle.layers.specs.declared.Parameters.{Parameters}
 use Rattle.layers.specs.Parts.{partOf}
-use Rattle.capi.specs.Answers.{none, numbersOf, answerOfFolded, answerOfProved, answerOfPart, answerOfVerdict}
+use Rattle.answers.specs.Answers.{none, numbersOf, answerOfFolded, answerOfProved, answerOfPart, answerOfVerdict}
 
 pub record FoldNumbers : Type 0 where
   pub done : numbersOf (answerOfFolded (NextOffset (record { 0 = 0x48 }))) ≡ 0 ∷ none ∷ none ∷ 0 ∷ 0x48 ∷ []

@@ -6,8 +6,8 @@ use Prim.Native.Nat.{ℕ}
 use native.Mathlib.Omega.{arith}
 use lib.ListN.{length, set}
 use borrow.Author.Tests.{eq-eqb, ne-eqb}
-use Rattle.capi.specs.declared.Answer.{Answer}
-use Rattle.capi.specs.Answers.{numbersOf, answered, whereAnswered}
+use Rattle.answers.specs.declared.Answer.{Answer}
+use Rattle.answers.specs.Answers.{numbersOf, answered, whereAnswered}
 
 pub five-stores : (l : List ℕ) (v w x y z : ℕ) → length l ≡ 5
     → set (set (set (set (set l 0 v) 1 w) 2 x) 3 y) 4 z ≡ v ∷ w ∷ x ∷ y ∷ z ∷ []

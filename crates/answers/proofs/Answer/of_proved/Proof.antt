@@ -1,13 +1,13 @@
--- `capi::Answer::of_proved` meets its contract. Assumes nothing.
-use Rattle.capi.specs.Answers.{none, orNone}
-use Rattle.capi.specs.declared.Answer.{Answer}
+-- `Answer::of_proved` meets its contract. Assumes nothing.
+use Rattle.answers.specs.Answers.{none, orNone}
+use Rattle.answers.specs.declared.Answer.{Answer}
 use Rattle.refusal.specs.Numbers.{numberOfOutcome, placeOfOutcome, roundOfOutcome}
 use borrow.Author.Tests.{eq-eqb, ne-eqb}
 use mathlib.Core.Bool.{Bool, cond}
 use mathlib.Core.Path.{sym, ap, _∙_}
 use borrow.Author.Needs.{needs}
-use Rattle.capi.proofs.Answer.of_proved.Statement.{statement}
-use Rattle.capi.proofs.Answer.of_proved.Tie as tie
+use Rattle.answers.proofs.Answer.of_proved.Statement.{statement}
+use Rattle.answers.proofs.Answer.of_proved.Tie as tie
 
 of-outcome-requires : tie.Need-of-outcome-requires
 of-outcome-requires c κs = search needs

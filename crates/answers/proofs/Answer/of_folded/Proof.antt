@@ -1,9 +1,9 @@
--- `capi::Answer::of_folded` meets its contract: each arm is given that the argument is the constructor at its field. Assumes nothing.
+-- `Answer::of_folded` meets its contract: each arm is given that the argument is the constructor at its field. Assumes nothing.
 use mathlib.Core.Path.{sym, ap, _∙_}
-use Rattle.capi.specs.Answers.{answerOfFolded}
+use Rattle.answers.specs.Answers.{answerOfFolded}
 use borrow.Author.Needs.{needs}
-use Rattle.capi.proofs.Answer.of_folded.Statement.{statement}
-use Rattle.capi.proofs.Answer.of_folded.Tie as tie
+use Rattle.answers.proofs.Answer.of_folded.Statement.{statement}
+use Rattle.answers.proofs.Answer.of_folded.Tie as tie
 
 enum-known-folded : tie.Need-enum-known-folded
 enum-known-folded c = search needs

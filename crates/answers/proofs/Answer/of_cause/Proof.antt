@@ -1,9 +1,9 @@
--- `capi::Answer::of_cause` meets its contract, number by number. Assumes nothing.
+-- `Answer::of_cause` meets its contract, number by number. Assumes nothing.
 use mathlib.Core.Path.{ap, _∙_}
 use borrow.Author.Needs.{needs}
-use Rattle.capi.specs.Answers.{orNone, none}
-use Rattle.capi.proofs.Answer.of_cause.Statement.{statement}
-use Rattle.capi.proofs.Answer.of_cause.Tie as tie
+use Rattle.answers.specs.Answers.{orNone, none}
+use Rattle.answers.proofs.Answer.of_cause.Statement.{statement}
+use Rattle.answers.proofs.Answer.of_cause.Tie as tie
 
 number-requires : tie.Need-number-requires
 number-requires c κs = search needs

@@ -1,7 +1,7 @@
 -- The statements of specs/Theorems.antt, proved. Assumes nothing.
 use mathlib.Core.Path.{refl}
 use Rattle.layers.proofs.Parts.{part-taken}
-use Rattle.capi.specs.Theorems.{FoldNumbers, RunNumbers}
+use Rattle.answers.specs.Theorems.{FoldNumbers, RunNumbers}
 
 pub fold-numbers : FoldNumbers
 fold-numbers = record { done = refl; wrong-length = refl; later-basis = refl }

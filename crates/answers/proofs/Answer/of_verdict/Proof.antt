@@ -1,11 +1,11 @@
--- `capi::Answer::of_verdict` meets its contract. Assumes nothing.
-use Rattle.capi.specs.Answers.{answerOfVerdict}
+-- `Answer::of_verdict` meets its contract. Assumes nothing.
+use Rattle.answers.specs.Answers.{answerOfVerdict}
 use Rattle.fri.specs.declared.Answer.the-variants as answers
 use Rattle.fri.specs.declared.Answer as judged
 use mathlib.Core.Path.{_≡_, sym, ap, _∙_}
 use borrow.Author.Needs.{needs}
-use Rattle.capi.proofs.Answer.of_verdict.Statement.{statement}
-use Rattle.capi.proofs.Answer.of_verdict.Tie as tie
+use Rattle.answers.proofs.Answer.of_verdict.Statement.{statement}
+use Rattle.answers.proofs.Answer.of_verdict.Tie as tie
 
 enum-told : tie.Need-enum-told
 enum-told c = search needs

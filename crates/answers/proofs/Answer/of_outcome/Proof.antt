@@ -1,10 +1,10 @@
--- `capi::Answer::of_outcome` meets its contract: each arm is given which constructor the argument is. Assumes nothing.
+-- `Answer::of_outcome` meets its contract: each arm is given which constructor the argument is. Assumes nothing.
 use mathlib.Core.Path.{_≡_, sym, ap, _∙_}
 use borrow.Author.Needs.{needs}
 use Rattle.refusal.specs.declared.Outcome.the-variants.{Done}
-use Rattle.capi.specs.Answers.{answerOfOutcome}
-use Rattle.capi.proofs.Answer.of_outcome.Statement.{statement}
-use Rattle.capi.proofs.Answer.of_outcome.Tie as tie
+use Rattle.answers.specs.Answers.{answerOfOutcome}
+use Rattle.answers.proofs.Answer.of_outcome.Statement.{statement}
+use Rattle.answers.proofs.Answer.of_outcome.Tie as tie
 
 enum-told : tie.Need-enum-told
 enum-told c = search needs
