@@ -1,3 +1,1 @@
-pub mod TableA
-pub mod Needed
 pub mod Samples

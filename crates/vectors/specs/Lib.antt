@@ -1,5 +1,3 @@
-pub mod TableA
-pub mod Needed
 pub mod Samples
 pub mod Rows
 pub mod Agreement

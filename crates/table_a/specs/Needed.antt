@@ -2,7 +2,7 @@
 -- proofs/Needed.antt has a value.
 use mathlib.Core.List.{[], _∷_}
 use Rattle.fri.specs.Demand.{LowDegree, Covered}
-use Rattle.vectors.specs.TableA.{small}
+use Rattle.table_a.specs.TableA.{small}
 
 pub record ExceptionalSetsNeeded : Type 0 where
   pub covered : Covered (small 2 (0 ∷ 0 ∷ 0 ∷ 1 ∷ []) (0 ∷ [])) ((0 ∷ 2 ∷ []) ∷ [])

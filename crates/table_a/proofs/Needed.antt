@@ -18,8 +18,8 @@ use Rattle.fri.specs.Layers.{layerBasis, layerOffset}
 use Rattle.fri.specs.Checks.{laterBasesOutcome, firstOutside}
 use Rattle.fri.specs.Rounds.{valueComputed, valueFound, firstFailingRound, roundsOutcome}
 use Rattle.fri.specs.Demand.{Accepted, Covered}
-use Rattle.vectors.specs.TableA.{small}
-use Rattle.vectors.specs.Needed.{ExceptionalSetsNeeded}
+use Rattle.table_a.specs.TableA.{small}
+use Rattle.table_a.specs.Needed.{ExceptionalSetsNeeded}
 
 accepted : Accepted (small 2 (0 ∷ 0 ∷ 0 ∷ 1 ∷ []) (0 ∷ [])) (0 ∷ 2 ∷ [])
 unfolding product inverse power powerIn timesWhere carryless carrylessIn remainder remainderIn timesT evaluate interpolant plus scale timesLinear dividedDifferences vanishingPolynomial point points tabulated inSpan firstDependentAfter firstDependent nextOffset nextBasis image subspacePolynomial foldEntry cosetPoints cosetEntries dimension lastCount layerStart storeLength indexIn layerIn layerBasis layerOffset laterBasesOutcome firstOutside valueComputed valueFound firstFailingRound roundsOutcome

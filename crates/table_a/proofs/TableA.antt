@@ -32,7 +32,7 @@ use Rattle.fri.specs.Judge.{verdictOf}
 use Rattle.fri.specs.Rounds.{valueComputed, valueFound, firstFailingRound, roundsOutcome}
 use Rattle.fri.specs.Reads.{entryCount, entriesRead}
 use Rattle.fri.specs.Prover.{proveOutcome, storeAfter, lastAfter}
-use Rattle.vectors.specs.TableA.{small, twoRounds, TableA}
+use Rattle.table_a.specs.TableA.{small, twoRounds, TableA}
 use Rattle.fri.specs.Theorems.{Tells}
 
 -- ---- the prover's answer, by layer r's interpolant

@@ -1,0 +1,2 @@
+pub mod TableA
+pub mod Needed
