@@ -9,5 +9,3 @@ pub mod Subspace
 pub mod Independence
 pub mod Sizes
 pub mod Theorems
-mod FirstPlace
-mod IndexBits

@@ -52,7 +52,7 @@ fn fill_cosets(
         × (length (now word) ≡ 2 ^ length (now upper) * length (now span)) ⌝ }
     ensures { λ _. ⌜ now (values .exit) ≡ cosetValues (now (inverses .entry)) (now (span .entry)) (moved .0) (now (upper .entry)) (now (word .entry)) ⌝ }
 {
-    let sums = coset::prefix_sums(upper);
+    let sums = points::prefix_sums(upper);
     let mut first = moved;
     let mut j: usize = 0;
     while j < values.len() {
@@ -60,7 +60,7 @@ fn fill_cosets(
         let coset = Coset::read(span, first, &word[start..start + span.len()]);
         values[j] = coset.value_at(inverses).0;
         j += 1;
-        first = coset::stepped(&sums, first, j);
+        first = points::stepped(&sums, first, j);
     }
 }
 
@@ -103,7 +103,7 @@ fn fill_cosets_behind(
         × (length (now joined) ≡ 2 ^ length (now upper) * length (now span) + 2 ^ length (now upper)) ⌝ }
     ensures { λ _. ⌜ now (joined .exit) ≡ take (2 ^ length (now (upper .entry)) * length (now (span .entry))) (now (joined .entry)) ++ cosetValues (now (inverses .entry)) (now (span .entry)) (moved .0) (now (upper .entry)) (take (2 ^ length (now (upper .entry)) * length (now (span .entry))) (now (joined .entry))) ⌝ }
 {
-    let sums = coset::prefix_sums(upper);
+    let sums = points::prefix_sums(upper);
     let count: usize = 1 << upper.len();
     let size = count * span.len();
     let mut point = moved;
@@ -113,6 +113,6 @@ fn fill_cosets_behind(
         let coset = Coset::read(span, point, &joined[start..start + span.len()]);
         joined[size + j] = coset.value_at(inverses).0;
         j += 1;
-        point = coset::stepped(&sums, point, j);
+        point = points::stepped(&sums, point, j);
     }
 }

@@ -115,7 +115,7 @@ pub fn span_of(basis: &[u64]) -> [u64; 8]
     let mut span = [0u64; 8];
     let mut i: usize = 0;
     while i < size {
-        span[i] = coset::point(Element::ZERO, basis, i).0;
+        span[i] = points::point(Element::ZERO, basis, i).0;
         i += 1;
     }
     span

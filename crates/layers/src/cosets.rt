@@ -42,8 +42,8 @@ impl LayerCoset {
         let basis = self.basis;
         let dimension = self.dimension;
         LayerCoset {
-            offset: coset::composed_maps(&elements[..step], self.offset),
-            basis: coset::next_basis(&basis[..dimension], step),
+            offset: next_coset::composed_maps(&elements[..step], self.offset),
+            basis: next_coset::next_basis(&basis[..dimension], step),
             dimension: dimension - step,
         }
     }
@@ -55,7 +55,7 @@ impl LayerCoset {
     {
         let basis = self.basis;
         let dimension = self.dimension;
-        coset::step_elements(&basis[..dimension], step)
+        next_coset::step_elements(&basis[..dimension], step)
     }
 
     pub fn first_dependent(self) -> Position
@@ -64,6 +64,6 @@ impl LayerCoset {
     {
         let basis = self.basis;
         let dimension = self.dimension;
-        coset::first_dependent(&basis[..dimension])
+        independence::first_dependent(&basis[..dimension])
     }
 }

@@ -193,7 +193,7 @@ pub fn checked_bases(parameters: Parameters, basis: &[u64]) -> Outcome
     requires { ⌜ Valid parameters × (length (now basis) ≡ parameters .k) ⌝ }
     ensures { λ r. ⌜ r ≡ basesOutcome (stepsBy parameters) (now (basis .entry)) ⌝ }
 {
-    let outcome = coset::checked_basis(basis);
+    let outcome = independence::checked_basis(basis);
     match outcome {
         Outcome::Done => checked_later_bases(parameters, basis),
         Outcome::Refused(cause) => Outcome::Refused(cause),

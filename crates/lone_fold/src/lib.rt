@@ -63,10 +63,10 @@ fn fold_checked(
     ensures output { λ _. ⌜ now (values .exit) ≡ folded step (offset .0) (now (basis .entry)) (now (word .entry)) (challenge .0) ⌝ }
     ensures next { λ _. ⌜ now (next .exit) ≡ nextBasis step (now (basis .entry)) ⌝ }
 {
-    let elements = coset::step_elements(basis, step);
+    let elements = next_coset::step_elements(basis, step);
     folding::fill_values(&elements[..step], offset, basis, word, challenge, values);
-    coset::fill_images(&elements[..step], &basis[step..], next);
-    coset::composed_maps(&elements[..step], offset)
+    next_coset::fill_images(&elements[..step], &basis[step..], next);
+    next_coset::composed_maps(&elements[..step], offset)
 }
 
 fn checked(
@@ -137,7 +137,7 @@ fn checked_bases(step: usize, basis: &[u64]) -> Outcome
     requires { ⌜ (step ≤ 3) × (step ≤ length (now basis)) × (length (now basis) ≤ 20) ⌝ }
     ensures { λ r. ⌜ r ≡ basesOutcome step (now (basis .entry)) ⌝ }
 {
-    let outcome = coset::checked_basis(basis);
+    let outcome = independence::checked_basis(basis);
     match outcome {
         Outcome::Done => checked_next_basis(step, basis),
         Outcome::Refused(cause) => Outcome::Refused(cause),
@@ -150,8 +150,8 @@ fn checked_next_basis(step: usize, basis: &[u64]) -> Outcome
     ensures { λ r. ⌜ r ≡ outcomeOfNextBasis (firstDependent (nextBasis step (now (basis .entry)))) ⌝ }
 {
     let count = basis.len() - step;
-    let next = coset::next_basis(basis, step);
-    let dependent = coset::first_dependent(&next[..count]);
+    let next = next_coset::next_basis(basis, step);
+    let dependent = independence::first_dependent(&next[..count]);
     match dependent {
         Position::At(_) => Outcome::Refused(Cause::LaterBasisDependent { round: 0 }),
         Position::Absent => Outcome::Done,

@@ -74,20 +74,20 @@ fn checked(basis: &[u64], fits3: bool, fits6: bool) -> Outcome
     if !fits6 {
         return Outcome::Refused(Cause::WrongLength { list: 6 });
     }
-    coset::checked_basis(basis)
+    independence::checked_basis(basis)
 }
 
 fn fill_values(offset: Element, basis: &[u64], coefficients: &[u64], values: &mut [u64])
     requires { ⌜ (length (now basis) ≤ 12) × (length (now values) ≡ 2 ^ length (now basis)) ⌝ }
     ensures { λ _. ⌜ now (values .exit) ≡ encoded (offset .0) (now (basis .entry)) (now (coefficients .entry)) ⌝ }
 {
-    let sums = coset::prefix_sums(basis);
+    let sums = points::prefix_sums(basis);
     let mut x = offset;
     let mut j: usize = 0;
     while j < values.len() {
         values[j] = poly::evaluate(coefficients, x).0;
         j += 1;
-        x = coset::stepped(&sums, x, j);
+        x = points::stepped(&sums, x, j);
     }
 }
 
@@ -107,7 +107,7 @@ fn fill_newton(offset: Element, basis: &[u64], coefficients: &mut [u64])
 {
     let mut i: usize = 0;
     while i < coefficients.len() {
-        let z = coset::point(offset, basis, i);
+        let z = points::point(offset, basis, i);
         let y = coefficients[i];
         coefficients[i] = newton_coefficient(offset, basis, &coefficients[..i], z, Element(y)).0;
         i += 1;
@@ -125,7 +125,7 @@ fn newton_coefficient(
     requires { ⌜ (length (now basis) ≤ 12) × (length (now known) ≤ 2 ^ length (now basis)) ⌝ }
     ensures { λ r. ⌜ r .0 ≡ newtonCoefficient gf64 (take (length (now (known .entry))) (points (offset .0) (now (basis .entry)))) (now (known .entry)) (z .0) (y .0) ⌝ }
 {
-    let sums = coset::prefix_sums(basis);
+    let sums = points::prefix_sums(basis);
     let mut value = Element::ZERO;
     let mut vanishing = Element::ONE;
     let mut x = offset;
@@ -134,7 +134,7 @@ fn newton_coefficient(
         value = value.sum(vanishing.product(Element(known[j])));
         vanishing = vanishing.product(z.sum(x));
         j += 1;
-        x = coset::stepped(&sums, x, j);
+        x = points::stepped(&sums, x, j);
     }
     y.sum(value).product(vanishing.inverse_or_zero())
 }
@@ -147,7 +147,7 @@ fn expand(offset: Element, basis: &[u64], coefficients: &mut [u64])
     let mut i = coefficients.len();
     while i > 0 {
         i -= 1;
-        let x = coset::point(offset, basis, i);
+        let x = points::point(offset, basis, i);
         join(&mut coefficients[i..], x);
     }
 }

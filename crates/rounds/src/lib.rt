@@ -139,7 +139,7 @@ impl QueryPoint {
     {
         QueryPoint {
             index,
-            point: coset::point(offset, basis, index),
+            point: points::point(offset, basis, index),
         }
     }
 
@@ -151,7 +151,7 @@ impl QueryPoint {
         let elements = round.elements;
         QueryPoint {
             index: self.index >> step,
-            point: coset::composed_maps(&elements[..step], self.point),
+            point: next_coset::composed_maps(&elements[..step], self.point),
         }
     }
 }
