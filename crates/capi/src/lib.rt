@@ -55,7 +55,7 @@ pub extern "C" fn rz_encode(
     if answer.len() != ANSWER_LENGTH {
         return;
     }
-    let outcome = reed_solomon::encode(Element(offset), basis, coefficients, values);
+    let outcome = coding::encode(Element(offset), basis, coefficients, values);
     Answer::of_outcome(outcome).write(answer);
 }
 
@@ -73,7 +73,7 @@ pub extern "C" fn rz_interpolate(
     if answer.len() != ANSWER_LENGTH {
         return;
     }
-    let outcome = reed_solomon::interpolate(Element(offset), basis, word, coefficients);
+    let outcome = coding::interpolate(Element(offset), basis, word, coefficients);
     Answer::of_outcome(outcome).write(answer);
 }
 

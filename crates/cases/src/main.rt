@@ -97,15 +97,15 @@ fn code_cases() {
     let coefficients = [7u64, 3];
     let mut values = [0u64; 4];
     let mut back = [0u64; 4];
-    let encoded = reed_solomon::encode(Element::ZERO, &basis, &coefficients, &mut values);
+    let encoded = coding::encode(Element::ZERO, &basis, &coefficients, &mut values);
     write(b"\nE  7, 3 encode to ");
     show_filled(encoded, &values);
-    let interpolated = reed_solomon::interpolate(Element::ZERO, &basis, &values, &mut back);
+    let interpolated = coding::interpolate(Element::ZERO, &basis, &values, &mut back);
     write(b"; back: ");
     show_filled(interpolated, &back);
     let dependent = [1u64, 2, 3];
     let mut more = [0u64; 8];
-    let refused = reed_solomon::encode(Element::ZERO, &dependent, &coefficients, &mut more);
+    let refused = coding::encode(Element::ZERO, &dependent, &coefficients, &mut more);
     write(b"\nM  basis 1, 2, 3: ");
     show_filled(refused, &more);
 }
@@ -334,7 +334,7 @@ fn show_proved_and_judged(queries: &[u64], word: &mut [u64], store: &mut [u64]) 
     let basis = [1u64, 2, 4, 8, 16, 32, 64, 128, 256];
     let challenges = [1u64, 2, 3, 4, 5, 6, 7, 8];
     let mut last = [0u64; 1];
-    reed_solomon::encode(Element::ZERO, &basis, &[7u64, 3], word);
+    coding::encode(Element::ZERO, &basis, &[7u64, 3], word);
     let judged = protocol::prove_and_judge(
         parameters,
         Element::ZERO,

@@ -105,7 +105,7 @@ fn prove_in(
     let coset = fold_layers(parameters, offset, basis, challenges, word, store, room);
     let elements = coset.basis;
     let dimension = coset.dimension;
-    reed_solomon::interpolate_in_place(coset.offset, &elements[..dimension], room);
+    newton::interpolate_in_place(coset.offset, &elements[..dimension], room);
     last_coefficients(&room[..], last)
 }
 

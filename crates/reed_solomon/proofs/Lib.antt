@@ -1,8 +1,4 @@
 pub mod Theorems
 pub mod Cases
-mod Checks
-mod Values
-mod NewtonSteps
-mod Expansion
-mod Joining
-mod Interpolating
+pub mod Checks
+pub mod Values

@@ -1,4 +1,4 @@
--- `reed_solomon::size_of` meets its contract: a shift by at most 12 loses no bit. Assumes nothing.
+-- `coding::size_of` meets its contract: a shift by at most 12 loses no bit. Assumes nothing.
 use mathlib.Core.Path.{sym, ap, _∙_}
 use mathlib.Core.Bool.{Bool, cond}
 use Prim.Native.Nat.{_^_}
@@ -6,8 +6,8 @@ use Rattle.coset.proofs.Sizes.{size-shifted}
 use borrow.Author.Tests.{le-leb, lt-leb}
 use borrow.Author.Needs.{needs}
 use native.Mathlib.Omega.{arith}
-use Rattle.reed_solomon.proofs.size_of.Statement.{statement}
-use Rattle.reed_solomon.proofs.size_of.Tie as tie
+use Rattle.coding.proofs.size_of.Statement.{statement}
+use Rattle.coding.proofs.size_of.Tie as tie
 
 shl-result : tie.Need-shl-result
 shl-result c = search needs

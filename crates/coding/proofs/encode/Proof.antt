@@ -1,16 +1,16 @@
--- `reed_solomon::encode` meets its contract: where all checks pass the values are filled in, else nothing is written. Assumes nothing.
+-- `coding::encode` meets its contract: where all checks pass the values are filled in, else nothing is written. Assumes nothing.
 use mathlib.Core.Path.{_≡_, _∙_}
 use Prim.Native.Nat.{_^_}
 use lib.ListN.{length}
 use lib.Dec.{leb, eqb}
 use Rattle.refusal.specs.declared.Outcome.the-variants.{Done}
 use Rattle.reed_solomon.specs.Codes.{encoded}
 use Rattle.reed_solomon.specs.Answers.{encodeOutcome}
 use Rattle.reed_solomon.proofs.Checks.{passed, answered-by-size, done-both, refused-both}
 use Rattle.refusal.proofs.Checks.{equal-of-test}
 use borrow.Author.Needs.{needs}
-use Rattle.reed_solomon.proofs.encode.Statement.{statement}
-use Rattle.reed_solomon.proofs.encode.Tie as tie
+use Rattle.coding.proofs.encode.Statement.{statement}
+use Rattle.coding.proofs.encode.Tie as tie
 
 size-of-requires : tie.Need-size-of-requires
 size-of-requires c κs = search needs

@@ -1,10 +1,10 @@
--- `reed_solomon::checked` meets its contract: the checks are made in the definition's order. Assumes nothing.
+-- `coding::checked` meets its contract: the checks are made in the definition's order. Assumes nothing.
 use mathlib.Core.Path.{_∙_}
 use Rattle.refusal.proofs.Checks.{not-true, not-false}
 use Rattle.reed_solomon.proofs.Checks.{dimension-refused, list3-refused, list6-refused, basis-looked-at}
 use borrow.Author.Needs.{needs}
-use Rattle.reed_solomon.proofs.checked.Statement.{statement}
-use Rattle.reed_solomon.proofs.checked.Tie as tie
+use Rattle.coding.proofs.checked.Statement.{statement}
+use Rattle.coding.proofs.checked.Tie as tie
 
 returns : tie.Need-returns
 returns c =

@@ -1,8 +1,8 @@
--- `reed_solomon::interpolate` meets its contract: where all checks pass the word is copied and interpolated in its place, else nothing is written.
+-- `coding::interpolate` meets its contract: where all checks pass the word is copied and interpolated in its place, else nothing is written.
 use Rattle.refusal.proofs.Checks.{equal-of-test}
 use Rattle.reed_solomon.proofs.Checks.{passed, answered-by-size, done-both, refused-both}
 use Rattle.reed_solomon.specs.Answers.{interpolateOutcome}
 use Rattle.reed_solomon.specs.Codes.{interpolated}
 use Rattle.refusal.specs.declared.Outcome.the-variants.{Done}
 use Rattle.poly.proofs.Filling.{front-whole}
 use lib.Dec.{eqb}
@@ -11,8 +11,8 @@ use native.Mathlib.Nat.{le-of-eq}
 use Prim.Native.Nat.{_^_}
 use mathlib.Core.Path.{_≡_, sym, ap, _∙_}
 use borrow.Author.Needs.{needs}
-use Rattle.reed_solomon.proofs.interpolate.Statement.{statement}
-use Rattle.reed_solomon.proofs.interpolate.Tie as tie
+use Rattle.coding.proofs.interpolate.Statement.{statement}
+use Rattle.coding.proofs.interpolate.Tie as tie
 
 size-of-requires : tie.Need-size-of-requires
 size-of-requires c κs = search needs

@@ -1,5 +1,5 @@
--- `reed_solomon::fill_newton` meets its contract. The loop's invariant: i coefficients are filled in, the others are values still. Assumes nothing.
-use Rattle.reed_solomon.proofs.NewtonSteps.{coefficient-next}
+-- `newton::fill_newton` meets its contract. The loop's invariant: i coefficients are filled in, the others are values still. Assumes nothing.
+use Rattle.newton.proofs.NewtonSteps.{coefficient-next}
 use Rattle.coset.proofs.Points.{length-points, getD-points}
 use Rattle.coset.specs.Coset.{point, points}
 use Rattle.poly.proofs.Newton.{length-newtonCoefficients}
@@ -14,8 +14,8 @@ use mathlib.Core.List.{List}
 use mathlib.Core.Path.{_≡_, refl, sym, ap, _∙_}
 use borrow.Author.Needs.{needs}
 use native.Mathlib.Omega.{arith}
-use Rattle.reed_solomon.proofs.fill_newton.Statement.{statement}
-use Rattle.reed_solomon.proofs.fill_newton.Tie as tie
+use Rattle.newton.proofs.fill_newton.Statement.{statement}
+use Rattle.newton.proofs.fill_newton.Tie as tie
 
 abbrev Inv-loop : tie.InvT-loop
 Inv-loop offset basis coefficients₀ i₀ coefficients i =

@@ -1,4 +1,4 @@
--- `reed_solomon::join` meets its contract. The loop's invariant: the entries before the last looked at are those of the product, the
+-- `newton::join` meets its contract. The loop's invariant: the entries before the last looked at are those of the product, the
 -- others as they were. Assumes nothing.
 use mathlib.Core.Path.{_≡_, refl, ap, _∙_}
 use Prim.Native.Nat.{_-_, _≤_}
@@ -9,9 +9,9 @@ use Rattle.gf64.specs.Field.{sum, product}
 use Rattle.poly.specs.Carrier.{gf64}
 use Rattle.poly.specs.Newton.{joined}
 use Rattle.poly.proofs.Filling.{filled, filled-start}
-use Rattle.reed_solomon.proofs.Joining.{join-next, join-end}
-use Rattle.reed_solomon.proofs.join.Statement.{statement}
-use Rattle.reed_solomon.proofs.join.Tie as tie
+use Rattle.newton.proofs.Joining.{join-next, join-end}
+use Rattle.newton.proofs.join.Statement.{statement}
+use Rattle.newton.proofs.join.Tie as tie
 
 abbrev Inv-loop : tie.InvT-loop
 Inv-loop coefficients₀ x next₀ coefficients next =

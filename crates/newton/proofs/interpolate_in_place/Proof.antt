@@ -1,5 +1,5 @@
--- `reed_solomon::interpolate_in_place` meets its contract: Newton's form is found and expanded. Assumes nothing.
-use Rattle.reed_solomon.proofs.Interpolating.{expanded-interpolated}
+-- `newton::interpolate_in_place` meets its contract: Newton's form is found and expanded. Assumes nothing.
+use Rattle.newton.proofs.Interpolating.{expanded-interpolated}
 use Rattle.coset.proofs.Points.{length-points}
 use Rattle.coset.specs.Coset.{points}
 use Rattle.poly.proofs.Newton.{length-newtonCoefficients}
@@ -9,8 +9,8 @@ use mathlib.Core.Path.{sym, ap, _∙_}
 use lib.ListN.{length}
 use borrow.Author.Needs.{needs}
 use native.Mathlib.Omega.{arith}
-use Rattle.reed_solomon.proofs.interpolate_in_place.Statement.{statement}
-use Rattle.reed_solomon.proofs.interpolate_in_place.Tie as tie
+use Rattle.newton.proofs.interpolate_in_place.Statement.{statement}
+use Rattle.newton.proofs.interpolate_in_place.Tie as tie
 
 fill-newton-requires : tie.Need-fill-newton-requires
 fill-newton-requires c κs = (c .before .before .before .pre .0, c .before .before .before .pre .2)

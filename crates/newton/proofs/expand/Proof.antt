@@ -1,4 +1,4 @@
--- `reed_solomon::expand` meets its contract. The loop's invariant: the first i coefficients are those of the form, from i on the form is
+-- `newton::expand` meets its contract. The loop's invariant: the first i coefficients are those of the form, from i on the form is
 -- expanded. Assumes nothing.
 use mathlib.Core.Path.{_≡_, refl, sym, ap, _∙_}
 use Prim.Native.Nat.{_-_, _≤_}
@@ -6,11 +6,11 @@ use lib.ListN.{length}
 use borrow.Rule.Slice.PartMut.{putMid}
 use Rattle.coset.specs.Coset.{point, points}
 use Rattle.coset.proofs.Points.{length-points, getD-points}
-use Rattle.reed_solomon.proofs.Expansion.{expandedFrom, expanded-start, expanded-next, expanded-end, length-expandedFrom}
+use Rattle.newton.proofs.Expansion.{expandedFrom, expanded-start, expanded-next, expanded-end, length-expandedFrom}
 use borrow.Author.Needs.{needs}
 use native.Mathlib.Omega.{arith}
-use Rattle.reed_solomon.proofs.expand.Statement.{statement}
-use Rattle.reed_solomon.proofs.expand.Tie as tie
+use Rattle.newton.proofs.expand.Statement.{statement}
+use Rattle.newton.proofs.expand.Tie as tie
 
 abbrev Inv-loop : tie.InvT-loop
 Inv-loop offset basis coefficients₀ i₀ coefficients i =

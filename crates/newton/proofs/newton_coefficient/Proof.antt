@@ -1,4 +1,4 @@
--- `reed_solomon::newton_coefficient` meets its contract. The loop's invariant: value and vanishing are those of the first j points, and x is
+-- `newton::newton_coefficient` meets its contract. The loop's invariant: value and vanishing are those of the first j points, and x is
 -- point j. Assumes nothing.
 use mathlib.Core.Path.{_≡_, refl, sym, ap, ap₂, _∙_}
 use mathlib.Core.List.{List}
@@ -12,11 +12,11 @@ use Rattle.coset.specs.Coset.{point, points}
 use Rattle.coset.proofs.Dependence.{point-first}
 use Rattle.coset.proofs.Points.{length-points, getD-points}
 use Rattle.coset.proofs.Sequence.{point-stepped}
-use Rattle.reed_solomon.proofs.NewtonSteps.{value-next, vanishing-next, coefficient-end}
+use Rattle.newton.proofs.NewtonSteps.{value-next, vanishing-next, coefficient-end}
 use borrow.Author.Needs.{needs}
 use native.Mathlib.Omega.{arith}
-use Rattle.reed_solomon.proofs.newton_coefficient.Statement.{statement}
-use Rattle.reed_solomon.proofs.newton_coefficient.Tie as tie
+use Rattle.newton.proofs.newton_coefficient.Statement.{statement}
+use Rattle.newton.proofs.newton_coefficient.Tie as tie
 
 abbrev Inv-loop : tie.InvT-loop
 Inv-loop basis known z y sums value₀ weight₀ x₀ j₀ value product x j =

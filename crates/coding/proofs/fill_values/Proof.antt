@@ -1,4 +1,4 @@
--- `reed_solomon::fill_values` meets its contract. The loop's invariant: j values are filled in, the others as they were, and x is point j.
+-- `coding::fill_values` meets its contract. The loop's invariant: j values are filled in, the others as they were, and x is point j.
 -- Assumes nothing.
 use mathlib.Core.Path.{_≡_, refl, sym, ap, _∙_}
 use mathlib.Core.List.{List}
@@ -11,13 +11,13 @@ use Rattle.poly.specs.Polynomial.{evaluate}
 use Rattle.poly.proofs.Filling.{filled, filled-start, filled-next, filled-all}
 use Rattle.coset.specs.Coset.{point}
 use Rattle.coset.proofs.Dependence.{point-first}
 use Rattle.reed_solomon.specs.Codes.{encoded}
 use Rattle.reed_solomon.proofs.Values.{length-encoded, encoded-getD}
 use Rattle.coset.proofs.Sequence.{point-stepped}
 use borrow.Author.Needs.{needs}
 use native.Mathlib.Omega.{arith}
-use Rattle.reed_solomon.proofs.fill_values.Statement.{statement}
-use Rattle.reed_solomon.proofs.fill_values.Tie as tie
+use Rattle.coding.proofs.fill_values.Statement.{statement}
+use Rattle.coding.proofs.fill_values.Tie as tie
 
 abbrev Inv-loop : tie.InvT-loop
 Inv-loop basis coefficients values₀ sums x₀ j₀ values x j =

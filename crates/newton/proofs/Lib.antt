@@ -1,0 +1,4 @@
+mod NewtonSteps
+mod Expansion
+mod Joining
+mod Interpolating
