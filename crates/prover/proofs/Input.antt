@@ -10,8 +10,6 @@ use lib.Dec.{leb}
 use lib.Pow.{pow-mono}
 use lib.ListN.{length, take}
 use borrow.Author.Tests.{leb-false}
-use Rattle.gf64.specs.Field.{IsElement}
-use Rattle.poly.specs.Polynomial.{All}
 use Rattle.refusal.specs.declared.Outcome.{Outcome}
 use Rattle.refusal.specs.declared.Outcome.the-variants.{Done}
 use Rattle.refusal.specs.Checks.{afterwards}
@@ -23,7 +21,6 @@ use Rattle.fri.specs.Layers.{basisIn, offsetIn, foldOf, honestLayer, honestStor
 use Rattle.fri.specs.Layout.{joined}
 use Rattle.fri.specs.Checks.{runOutcome}
 use Rattle.fri.specs.Prover.{degreeOutcome}
-use Rattle.fri.specs.Demand.{ValidCoset}
 use Rattle.fri.proofs.Checks.{run-valid}
 use Rattle.fri.proofs.Layouts.{length-steps}
 use Rattle.fri.proofs.Layers.{layouts}
@@ -31,7 +28,7 @@ use Rattle.layers.specs.declared.Parameters.{Parameters}
 use Rattle.layers.specs.Parameters.{stepsBy, Valid}
 use Rattle.layers.proofs.Sizes.{lastCount-is}
 use Rattle.prover.specs.Last.{lastOutcome, lastCoefficients}
-use Rattle.prover.specs.Input.{inputOf, Passed}
+use Rattle.honest_layers.specs.Input.{inputOf, Passed}
 
 -- ---- layer r is small
 
@@ -53,18 +50,6 @@ coefficients-fit p =
     le-trans (le-of-eq (sym (lastCount-is (p .k) (p .rate) (stepsBy p)))) (pow-mono {i = n - p .rate} {j = n} (omega arith))
 
 -- ---- the two runs
-
--- any offset and a basis that passed are a coset
-pub valid-input : (p : Parameters) (offset offset′ : ℕ) (basis challenges word : List ℕ) (stored : ℕ) → Passed (inputOf p offset basis challenges word) stored
-    → IsElement offset′ → All IsElement basis → ValidCoset (inputOf p offset′ basis challenges word)
-valid-input p offset offset′ basis challenges word stored passed o b =
-    record {
-      parameters = passed .parameters;
-      offset-element = o;
-      basis-elements = b;
-      basis-count = passed .basis;
-      independent = passed .independent;
-    }
 
 -- the prover's input
 abbrev pub inputIn : Run → Run

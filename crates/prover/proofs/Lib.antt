@@ -1,4 +1,2 @@
 mod Last
-mod Stored
-mod Rounds
 mod Input

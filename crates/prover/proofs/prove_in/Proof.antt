@@ -13,9 +13,9 @@ use Rattle.fri.specs.Layout.{dimension}
 use Rattle.fri.specs.Layers.{offsetIn, basisIn, honestLayer, lastInterpolant}
 use Rattle.layers.specs.Cosets.{basisOf}
 use Rattle.layers.specs.Parameters.{stepsBy, runOf}
-use Rattle.prover.specs.Input.{Passed}
-use Rattle.prover.proofs.Rounds.{coset-offset, coset-basis, coset-dimension, coset-independent}
-use Rattle.prover.proofs.Input.{inputIn, valid-input, input-passed, last-counted, last-small, coefficients-fit, same-store, same-interpolant, degree-answered, degree-holds}
+use Rattle.honest_layers.specs.Input.{Passed}
+use Rattle.honest_layers.proofs.Rounds.{valid-input, coset-offset, coset-basis, coset-dimension, coset-independent}
+use Rattle.prover.proofs.Input.{inputIn, input-passed, last-counted, last-small, coefficients-fit, same-store, same-interpolant, degree-answered, degree-holds}
 use borrow.Author.Needs.{needs}
 use native.Mathlib.Omega.{arith}
 use Rattle.prover.proofs.prove_in.Statement.{statement}

@@ -14,7 +14,7 @@ use Rattle.layers.specs.declared.Parameters.{Parameters}
 use Rattle.layers.specs.Parameters.{stepsBy}
 use Rattle.layers.proofs.Sizes.{start-of-first, storeLength-is}
 use Rattle.poly.proofs.Parts.{mid-suffix}
-use Rattle.prover.specs.Input.{layerFrom}
+use Rattle.honest_layers.specs.Input.{layerFrom}
 
 -- a part whose front is kept and whose rest is rewritten
 part-rewritten : (start size end : ℕ) (store next : List ℕ) → start + size + length next ≡ end → end ≤ length store

@@ -1,6 +1,5 @@
--- `prover::fold_layers` meets its contract. Assumes nothing.
+-- `honest_layers::fold_layers` meets its contract. Assumes nothing.
 use Rattle.fri.specs.Run.{Run}
-use Rattle.prover.proofs.Input.{valid-input}
 use mathlib.Core.Path.{_≡_, ap, ap₂, _∙_}
 use mathlib.Core.List.{List}
 use Prim.Native.Nat.{ℕ, suc, _-_, _<_}
@@ -13,12 +12,12 @@ use Rattle.fri.specs.Layers.{honestLayer}
 use Rattle.layers.specs.Cosets.{basisOf}
 use Rattle.layers.specs.Parameters.{stepsBy}
 use Rattle.layers.proofs.Sizes.{one-round, dimension-most, step-within}
-use Rattle.prover.specs.Input.{inputOf, cosetIn}
-use Rattle.prover.proofs.Rounds.{coset-next, coset-dimension, coset-independent, honest-folded, last-found}
+use Rattle.honest_layers.specs.Input.{inputOf, cosetIn}
+use Rattle.honest_layers.proofs.Rounds.{valid-input, coset-next, coset-dimension, coset-independent, honest-folded, last-found}
 use borrow.Author.Needs.{needs}
 use native.Mathlib.Omega.{arith}
-use Rattle.prover.proofs.fold_layers.Statement.{statement}
-use Rattle.prover.proofs.fold_layers.Tie as tie
+use Rattle.honest_layers.proofs.fold_layers.Statement.{statement}
+use Rattle.honest_layers.proofs.fold_layers.Tie as tie
 
 -- the prover's input
 abbrev run-at : tie.After-fill-store → Run

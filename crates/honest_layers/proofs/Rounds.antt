@@ -6,6 +6,8 @@ use native.Mathlib.Nat.{le-of-eq}
 use native.Mathlib.Omega.{arith}
 use lib.ListN.{length, take, drop}
 use lib.Seq.{length-take-le, take-add, take-all, drop-at}
+use Rattle.gf64.specs.Field.{IsElement}
+use Rattle.poly.specs.Polynomial.{All}
 use Rattle.coset.specs.Span.{Independent}
 use Rattle.coset.specs.Subspace.{nextOffset, nextBasis}
 use Rattle.fold.specs.Fold.{folded}
@@ -23,7 +25,19 @@ use Rattle.layers.specs.Cosets.{cosetOf, basisOf}
 use Rattle.layers.proofs.Sizes.{start-of-first, storeLength-is}
 use Rattle.layers.proofs.LayerCosets.{basisOf-coset}
 use Rattle.layers.proofs.LaterBases.{basis-next, offset-next}
-use Rattle.prover.specs.Input.{cosetIn, layerFrom}
+use Rattle.honest_layers.specs.Input.{inputOf, Passed, cosetIn, layerFrom}
+
+-- any offset and a basis that passed are a coset
+pub valid-input : (p : Parameters) (offset offset′ : ℕ) (basis challenges word : List ℕ) (stored : ℕ) → Passed (inputOf p offset basis challenges word) stored
+    → IsElement offset′ → All IsElement basis → ValidCoset (inputOf p offset′ basis challenges word)
+valid-input p offset offset′ basis challenges word stored passed o b =
+    record {
+      parameters = passed .parameters;
+      offset-element = o;
+      basis-elements = b;
+      basis-count = passed .basis;
+      independent = passed .independent;
+    }
 
 module _ (run : Run) where
   abbrev p : Parameters

@@ -1,4 +1,4 @@
--- `prover::fill_store` meets its contract. The loop's invariant: layers 1 to i are in the store, and the coset is that of layer i. Assumes nothing.
+-- `honest_layers::fill_store` meets its contract. The loop's invariant: layers 1 to i are in the store, and the coset is that of layer i. Assumes nothing.
 use Rattle.fri.specs.Run.{Run}
 use Rattle.layers.specs.Cosets.{cosetOf}
 use native.Mathlib.Numerals.{add-one}
@@ -14,14 +14,13 @@ use Rattle.fri.proofs.Layouts.{start-next}
 use Rattle.layers.specs.declared.cosets.LayerCoset.{LayerCoset}
 use Rattle.layers.specs.Parameters.{stepsBy}
 use Rattle.layers.proofs.Sizes.{one-round, few-rounds, dimension-most, step-within}
-use Rattle.prover.specs.Input.{inputOf, cosetIn}
-use Rattle.prover.proofs.Stored.{end-within}
-use Rattle.prover.proofs.Input.{valid-input}
-use Rattle.prover.proofs.Rounds.{Filled, coset-first, coset-next, coset-dimension, coset-independent, joined-first, round-joined, store-whole}
+use Rattle.honest_layers.specs.Input.{inputOf, cosetIn}
+use Rattle.honest_layers.proofs.Stored.{end-within}
+use Rattle.honest_layers.proofs.Rounds.{Filled, valid-input, coset-first, coset-next, coset-dimension, coset-independent, joined-first, round-joined, store-whole}
 use borrow.Author.Needs.{needs}
 use native.Mathlib.Omega.{arith}
-use Rattle.prover.proofs.fill_store.Statement.{statement}
-use Rattle.prover.proofs.fill_store.Tie as tie
+use Rattle.honest_layers.proofs.fill_store.Statement.{statement}
+use Rattle.honest_layers.proofs.fill_store.Tie as tie
 
 abbrev Inv-loop : tie.InvT-loop
 Inv-loop parameters basis challenges word store₀ rounds coset₀ i₀ store coset i = Filled (inputOf parameters (coset₀ .offset .0) basis challenges word) rounds store coset i

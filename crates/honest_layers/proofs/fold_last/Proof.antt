@@ -1,4 +1,4 @@
--- `prover::fold_last` meets its contract. Assumes nothing.
+-- `honest_layers::fold_last` meets its contract. Assumes nothing.
 use mathlib.Core.Path.{_≡_, sym, ap, _∙_}
 use mathlib.Core.List.{List}
 use Prim.Native.Nat.{ℕ, suc, _-_, _^_, _≤_, _<_}
@@ -9,12 +9,12 @@ use Rattle.fri.specs.Layout.{dimension, layerStart}
 use Rattle.layers.specs.Cosets.{basisOf}
 use Rattle.layers.specs.Parameters.{stepsBy}
 use Rattle.layers.proofs.Sizes.{one-round, dimension-most, step-within}
-use Rattle.prover.specs.Input.{layerFrom}
-use Rattle.prover.proofs.Stored.{dimension-first, dimension-next, layer-first, last-begins, length-last, last-stored}
+use Rattle.honest_layers.specs.Input.{layerFrom}
+use Rattle.honest_layers.proofs.Stored.{dimension-first, dimension-next, layer-first, last-begins, length-last, last-stored}
 use borrow.Author.Needs.{needs}
 use native.Mathlib.Omega.{arith}
-use Rattle.prover.proofs.fold_last.Statement.{statement}
-use Rattle.prover.proofs.fold_last.Tie as tie
+use Rattle.honest_layers.proofs.fold_last.Statement.{statement}
+use Rattle.honest_layers.proofs.fold_last.Tie as tie
 
 -- r - 1 and one more are r
 abbrev RoundsWhole : tie.After-rounds → Type 0

@@ -1,4 +1,4 @@
--- `prover::fold_round` meets its contract. Assumes nothing.
+-- `honest_layers::fold_round` meets its contract. Assumes nothing.
 use mathlib.Core.Path.{_≡_, sym, ap, _∙_}
 use mathlib.Core.List.{List, _++_}
 use Prim.Native.Nat.{ℕ, suc, _+_, _-_, _^_, _≤_, _<_}
@@ -13,11 +13,11 @@ use Rattle.fri.proofs.Layouts.{start-next}
 use Rattle.layers.specs.Cosets.{basisOf}
 use Rattle.layers.specs.Parameters.{stepsBy}
 use Rattle.layers.proofs.Sizes.{few-rounds, dimension-most, step-within, start-of-first}
-use Rattle.prover.proofs.Stored.{dimension-first, dimension-next, end-within, first-stored, next-stored}
+use Rattle.honest_layers.proofs.Stored.{dimension-first, dimension-next, end-within, first-stored, next-stored}
 use borrow.Author.Needs.{needs}
 use native.Mathlib.Omega.{arith}
-use Rattle.prover.proofs.fold_round.Statement.{statement}
-use Rattle.prover.proofs.fold_round.Tie as tie
+use Rattle.honest_layers.proofs.fold_round.Statement.{statement}
+use Rattle.honest_layers.proofs.fold_round.Tie as tie
 
 -- where layer i + 1 ends
 abbrev EndIs : tie.After-layer-start → Type 0

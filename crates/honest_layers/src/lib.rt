@@ -1,0 +1,146 @@
+// The layers of a prover: the word folded at one challenge after the other.
+use field::Element;
+use layers::Parameters;
+use layers::cosets::LayerCoset;
+ghost use mathlib.Core.Path.{_≡_};
+ghost use mathlib.Core.List.{_++_};
+ghost use Prim.Native.Nat.{suc, _+_, _-_, _^_, _≤_};
+ghost use lib.ListN.{length, take};
+ghost use Rattle.coset.specs.Span.{Independent};
+ghost use Rattle.fold.specs.Fold.{folded};
+ghost use Rattle.fri.specs.Layout.{dimension, layerStart, storeLength};
+ghost use Rattle.fri.specs.Layers.{honestLayer, honestStore};
+ghost use Rattle.layers.specs.Parameters.{stepsBy, Valid};
+ghost use Rattle.layers.specs.Cosets.{basisOf};
+ghost use Rattle.honest_layers.specs.Input.{inputOf, Passed, cosetIn, layerFrom};
+
+// All layers: 1 to r - 1 into the store, layer r into a list of its own. The answer is the coset of layer r.
+pub fn fold_layers(
+    parameters: Parameters,
+    offset: Element,
+    basis: &[u64],
+    challenges: &[u64],
+    word: &[u64],
+    store: &mut [u64],
+    next: &mut [u64],
+) -> LayerCoset
+    requires { ⌜ Passed (inputOf parameters (offset .0) (now basis) (now challenges) (now word)) (length (now store))
+        × (length (now next) ≡ 2 ^ dimension (parameters .k) (stepsBy parameters) (length (stepsBy parameters))) ⌝ }
+    ensures answer { λ r. ⌜ r ≡ cosetIn (inputOf parameters (offset .0) (now (basis .entry)) (now (challenges .entry)) (now (word .entry))) (length (stepsBy parameters)) ⌝ }
+    ensures store { λ _. ⌜ now (store .exit) ≡ honestStore (inputOf parameters (offset .0) (now (basis .entry)) (now (challenges .entry)) (now (word .entry))) ⌝ }
+    ensures next { λ _. ⌜ now (next .exit) ≡ honestLayer (inputOf parameters (offset .0) (now (basis .entry)) (now (challenges .entry)) (now (word .entry))) (length (stepsBy parameters)) ⌝ }
+{
+    let coset = fill_store(parameters, offset, basis, challenges, word, store);
+    let challenge = Element(challenges[challenges.len() - 1]);
+    fold_last(parameters, coset, challenge, word, &store[..], next);
+    coset.next(parameters.step)
+}
+
+// Folds layer r - 1, the word or the last one of the store, into layer r.
+fn fold_last(
+    parameters: Parameters,
+    coset: LayerCoset,
+    challenge: Element,
+    word: &[u64],
+    store: &[u64],
+    next: &mut [u64],
+)
+    requires { ⌜ Valid parameters × (coset .dimension ≡ dimension (parameters .k) (stepsBy parameters) (length (stepsBy parameters) - 1))
+        × Independent (basisOf coset) × (length (now word) ≡ 2 ^ (parameters .k))
+        × (length (now store) ≡ storeLength (parameters .k) (stepsBy parameters))
+        × (length (now next) ≡ 2 ^ dimension (parameters .k) (stepsBy parameters) (length (stepsBy parameters))) ⌝ }
+    ensures { λ _. ⌜ now (next .exit) ≡ folded (parameters .step) (coset .offset .0) (basisOf coset) (layerFrom parameters (now (word .entry)) (now (store .entry)) (length (stepsBy parameters) - 1)) (challenge .0) ⌝ }
+{
+    let before = parameters.rounds() - 1;
+    if before == 0 {
+        fold_layer(coset, parameters.step, challenge, word, next);
+        return;
+    }
+    let start = parameters.layer_start(before);
+    fold_layer(coset, parameters.step, challenge, &store[start..], next);
+}
+
+// Layers 1 to r - 1 into the store, each folded from the one before it. The answer is the coset of layer r - 1.
+fn fill_store(
+    parameters: Parameters,
+    offset: Element,
+    basis: &[u64],
+    challenges: &[u64],
+    word: &[u64],
+    store: &mut [u64],
+) -> LayerCoset
+    requires { ⌜ Passed (inputOf parameters (offset .0) (now basis) (now challenges) (now word)) (length (now store)) ⌝ }
+    ensures answer { λ r. ⌜ r ≡ cosetIn (inputOf parameters (offset .0) (now (basis .entry)) (now (challenges .entry)) (now (word .entry))) (length (stepsBy parameters) - 1) ⌝ }
+    ensures store { λ _. ⌜ now (store .exit) ≡ honestStore (inputOf parameters (offset .0) (now (basis .entry)) (now (challenges .entry)) (now (word .entry))) ⌝ }
+{
+    let rounds = parameters.rounds();
+    let mut coset = LayerCoset::first(offset, basis);
+    let mut i: usize = 0;
+    while i + 1 < rounds {
+        let challenge = challenges[i];
+        fold_round(parameters, coset, i, Element(challenge), word, store);
+        coset = coset.next(parameters.step);
+        i += 1;
+    }
+    coset
+}
+
+// Folds layer i, the word or a layer of the store, into layer i + 1 of the store.
+fn fold_round(
+    parameters: Parameters,
+    coset: LayerCoset,
+    i: usize,
+    challenge: Element,
+    word: &[u64],
+    store: &mut [u64],
+)
+    requires { ⌜ Valid parameters × (i + 2 ≤ length (stepsBy parameters)) × (coset .dimension ≡ dimension (parameters .k) (stepsBy parameters) i)
+        × Independent (basisOf coset) × (length (now word) ≡ 2 ^ (parameters .k))
+        × (length (now store) ≡ storeLength (parameters .k) (stepsBy parameters)) ⌝ }
+    ensures { λ _. ⌜ take (layerStart (parameters .k) (stepsBy parameters) (suc (suc i))) (now (store .exit)) ≡ take (layerStart (parameters .k) (stepsBy parameters) (suc i)) (now (store .entry)) ++ folded (parameters .step) (coset .offset .0) (basisOf coset) (layerFrom parameters (now (word .entry)) (now (store .entry)) i) (challenge .0) ⌝ }
+{
+    let end = parameters.layer_start(i + 2);
+    if i == 0 {
+        fold_layer(coset, parameters.step, challenge, word, &mut store[..end]);
+        return;
+    }
+    let start = parameters.layer_start(i);
+    fold_behind(coset, parameters.step, challenge, &mut store[start..end]);
+}
+
+// Folds a layer into the next one.
+fn fold_layer(coset: LayerCoset, step: usize, challenge: Element, layer: &[u64], next: &mut [u64])
+    requires { ⌜ (1 ≤ step) × (step ≤ 3) × (step ≤ coset .dimension) × (coset .dimension ≤ 20) × Independent (basisOf coset)
+        × (length (now layer) ≡ 2 ^ (coset .dimension)) × (length (now next) ≡ 2 ^ (coset .dimension - step)) ⌝ }
+    ensures { λ _. ⌜ now (next .exit) ≡ folded step (coset .offset .0) (basisOf coset) (now (layer .entry)) (challenge .0) ⌝ }
+{
+    let elements = coset.step_elements(step);
+    let basis = coset.basis;
+    let dimension = coset.dimension;
+    folding::fill_values(
+        &elements[..step],
+        coset.offset,
+        &basis[..dimension],
+        layer,
+        challenge,
+        next,
+    );
+}
+
+// Folds the layer in the front of a list into the next one, which is behind it.
+fn fold_behind(coset: LayerCoset, step: usize, challenge: Element, joined: &mut [u64])
+    requires { ⌜ (1 ≤ step) × (step ≤ 3) × (step ≤ coset .dimension) × (coset .dimension ≤ 20) × Independent (basisOf coset)
+        × (length (now joined) ≡ 2 ^ (coset .dimension) + 2 ^ (coset .dimension - step)) ⌝ }
+    ensures { λ _. ⌜ now (joined .exit) ≡ take (2 ^ (coset .dimension)) (now (joined .entry)) ++ folded step (coset .offset .0) (basisOf coset) (take (2 ^ (coset .dimension)) (now (joined .entry))) (challenge .0) ⌝ }
+{
+    let elements = coset.step_elements(step);
+    let basis = coset.basis;
+    let dimension = coset.dimension;
+    folding::fill_behind(
+        &elements[..step],
+        coset.offset,
+        &basis[..dimension],
+        challenge,
+        joined,
+    );
+}
