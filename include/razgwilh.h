@@ -120,6 +120,25 @@ void rz_judge(size_t k, size_t rate, size_t step, uint64_t offset, const uint64_
               const uint64_t *word, size_t word_length, const uint64_t *store, size_t store_length, const uint64_t *last,
               size_t last_length, uint64_t *answer, size_t answer_length);
 
+/* The judge over the bytes of a transcript, of any length. A transcript is a row of sections, each a count in 4 bytes and as many entries of 8 bytes each, all
+ * little-endian:
+ *   section 1        k, rate, step
+ *   section 2        the offset, then the basis: k + 1 entries
+ *   section 3        r challenges
+ *   section 4        1 to 256 query indices
+ *   section 5 + i    layer i, for i from 0 to r - 1; layer 0 is the word
+ *   section 5 + r    d last coefficients
+ * Nothing follows. The lists that the bytes carry are judged as rz_judge judges them: the store is layers 1 to r - 1, joined. Refused section by section; in each,
+ * in this order, with
+ *   number 1   the 4 bytes of its count are not all there, and its place is the section, from 1
+ *   number 2   its count is not the one due, and its place is the section; in section 4 instead
+ *   number 9   its count is 0 or over 256; no place
+ *   number 1   the bytes of its entries are not all there, and its place is the section
+ * and by the values of its entries, as rz_judge has them: 4, 5, 6 and 7 in section 1, 8 and 16 in section 2, 10 in section 4. After the last section, with
+ *   number 3   bytes follow; no place
+ * and last with number 11, as rz_judge has it. The reads are those of rz_judge. The answer has no value, and no round but with numbers 11 and 16. */
+void rz_judge_transcript(const uint8_t *bytes, size_t bytes_length, uint64_t *answer, size_t answer_length);
+
 #ifdef __cplusplus
 }
 #endif

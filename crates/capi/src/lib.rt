@@ -12,6 +12,7 @@ ghost use Rattle.fri.specs.Judge.{verdictOf};
 ghost use Rattle.fri.specs.Prover.{proveOutcome, storeAfter, lastAfter};
 ghost use Rattle.layers.specs.Parameters.{runOf};
 ghost use Rattle.layers.specs.Parts.{partOf};
+ghost use Rattle.transcript.specs.Judge.{transcriptVerdict};
 ghost use Rattle.answers.specs.Answers.{answerOfInverted, answerOfFolded, answerOfOutcome, answerOfProved, answerOfPart, answerOfVerdict, answered, whereAnswered};
 
 // How many numbers an answer has.
@@ -190,5 +191,16 @@ pub extern "C" fn rz_judge(
         store,
         last,
     );
+    Answer::of_verdict(verdict).write(answer);
+}
+
+#[no_mangle]
+pub extern "C" fn rz_judge_transcript(bytes: &[u8], answer: &mut [u64])
+    ensures { λ _. ⌜ now (answer .exit) ≡ answered (answerOfVerdict (transcriptVerdict (now (bytes .entry)))) (now (answer .entry)) ⌝ }
+{
+    if answer.len() != ANSWER_LENGTH {
+        return;
+    }
+    let verdict = reader::judge(bytes);
     Answer::of_verdict(verdict).write(answer);
 }

@@ -19,7 +19,7 @@ unfoldable pub layerAt : ℕ → List ℕ → ℕ → ℕ → ℕ
 layerAt k steps at zero = at
 layerAt k steps at (suc i) = layerAt k steps at i + 8 * 2 ^ dimension k steps i + 4
 
--- the layers of the run lie there
+-- the layers of the run lie in the bytes, the first from `at` on, which is small enough that no place in them leaves 2^40
 pub record LaidOut (bytes : List ℕ) (at : ℕ) (run : Run) : Type 0 where
   pub entries : (i : ℕ) → i < roundsIn run
       → layerIn run i ≡ entriesAt bytes (layerAt (run .k) (stepsIn run) at i) (2 ^ dimension (run .k) (stepsIn run) i)

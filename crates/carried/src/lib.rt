@@ -98,7 +98,7 @@ fn judge_in(
     )
 }
 
-// The round checks, lowest query first, then lowest round, up to the first that fails; the entries of layer 0 begin at `layers`.
+// The round checks, lowest query first, then lowest round, up to the first that fails; the entries of layer 0 begin at `begin`.
 fn judge_rounds(
     parameters: Parameters,
     offset: Element,
@@ -106,11 +106,11 @@ fn judge_rounds(
     challenges: &[u64],
     queries: &[u64],
     bytes: &[u8],
-    layers: usize,
+    begin: usize,
     last: &[u64],
 ) -> Verdict
     requires { ⌜ (checksOutcome (sentIn parameters (offset .0) (now basis) (now challenges) (now bytes) (now last)) (now queries) ≡ outcomes.Done)
-        × LaidOut (now bytes) layers (sentIn parameters (offset .0) (now basis) (now challenges) (now bytes) (now last)) ⌝ }
+        × LaidOut (now bytes) begin (sentIn parameters (offset .0) (now basis) (now challenges) (now bytes) (now last)) ⌝ }
     ensures { λ r. ⌜ r ≡ verdictOf (sentIn parameters (offset .0) (now (basis .entry)) (now (challenges .entry)) (now (bytes .entry)) (now (last .entry))) (now (queries .entry)) ⌝ }
 {
     let count = parameters.rounds();
@@ -120,7 +120,7 @@ fn judge_rounds(
     let mut i: usize = 0;
     'queries: while query < queries.len() {
         let mut here = QueryPoint::first(offset, basis, queries[query] as usize);
-        let mut at = layers;
+        let mut at = begin;
         i = 0;
         while i < count {
             let round = table[i];

@@ -9,7 +9,7 @@ ghost use mathlib.Core.Path.{_≡_};
 ghost use Rattle.transcript.specs.Judge.{transcriptVerdict, inputVerdict};
 ghost use Rattle.sections.specs.Views.{sectionsIn};
 
-// A transcript's bytes, with the places of their sections.
+// A transcript's bytes, and where their sections begin.
 pub struct Reader<'a> {
     pub bytes: &'a [u8],
     pub sections: Sections,

@@ -2,13 +2,13 @@
 use mathlib.Core.Path.{refl}
 use Prim.Native.Nat.{_-_}
 use Rattle.report.specs.Digits.{bytes, digits, placesWithin, decimal}
-use Rattle.report.specs.Lines.{orHyphen, wordOf, numbersOf, lineOf, linesOf}
+use Rattle.report.specs.Lines.{orHyphen, answerText, numbersOf, lineOf, linesOf}
 use Rattle.report.specs.Theorems.{Examples, Decimals}
 use Rattle.report.proofs.Decimals as laws
 
 pub examples : Examples
-unfolding linesOf lineOf numbersOf wordOf orHyphen decimal digits placesWithin bytes
-examples = record { accepted = refl; refused = refl }
+unfolding linesOf lineOf numbersOf answerText orHyphen decimal digits placesWithin bytes
+examples = record { header = refl; answers = (refl, refl); others = refl; accepted = refl; refused = refl }
 
 pub decimals : Decimals
 unfolding decimal digits placesWithin bytes

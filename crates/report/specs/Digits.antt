@@ -20,7 +20,7 @@ unfoldable pub digits : (base width n : ℕ) → List ℕ
 digits base zero n = []
 digits base (suc width) n = digits base width (n / base) ++ (digit (n % base) ∷ [])
 
--- how many decimal digits n has, the first and at most `more`: 1 below 10, else one more than its tenth has
+-- how many decimal digits n has, at most `more` and one: 1 below 10, else one more than its tenth has
 unfoldable pub placesWithin : (more n : ℕ) → ℕ
 placesWithin zero n = 1
 placesWithin (suc more) n = cond (ltb n 10) 1 (suc (placesWithin more (n / 10)))

@@ -14,11 +14,11 @@ unfoldable pub orHyphen : Position → List ℕ
 orHyphen (At n) = decimal n
 orHyphen Absent = bytes "-"
 
-unfoldable pub wordOf : Answer → List ℕ
-wordOf Accepted = bytes "accepted"
-wordOf (Refused cause) = bytes "refused"
+unfoldable pub answerText : Answer → List ℕ
+answerText Accepted = bytes "accepted"
+answerText (Refused cause) = bytes "refused"
 
--- what follows the word: number, place, round and reads, each after a space, and a line feed
+-- what follows the answer: number, place, round and reads, each after a space, and a line feed
 unfoldable pub numbersOf : ℕ → Position → Position → ℕ → List ℕ
 numbersOf number place round reads =
     (bytes " " ++ decimal number)
@@ -29,7 +29,7 @@ numbersOf number place round reads =
 
 unfoldable pub lineOf : Verdict → List ℕ
 lineOf verdict =
-    wordOf (verdict .answer)
+    answerText (verdict .answer)
     ++ numbersOf (numberOfAnswer (verdict .answer)) (placeOfAnswer (verdict .answer)) (roundOfAnswer (verdict .answer)) (verdict .reads)
 
 -- the header and the line

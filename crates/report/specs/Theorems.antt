@@ -8,8 +8,12 @@ use Rattle.fri.specs.declared.Answer.the-variants.{Accepted, Refused}
 use Rattle.report.specs.Digits.{bytes, decimal}
 use Rattle.report.specs.Lines.{linesOf}
 
--- cases G and H
+-- the lines of the verdicts of cases G and H, and the codes of the texts in them
 pub record Examples : Type 0 where
+  pub header : bytes "answer number place round reads\n"
+      ≡ 97 ∷ 110 ∷ 115 ∷ 119 ∷ 101 ∷ 114 ∷ 32 ∷ 110 ∷ 117 ∷ 109 ∷ 98 ∷ 101 ∷ 114 ∷ 32 ∷ 112 ∷ 108 ∷ 97 ∷ 99 ∷ 101 ∷ 32 ∷ 114 ∷ 111 ∷ 117 ∷ 110 ∷ 100 ∷ 32 ∷ 114 ∷ 101 ∷ 97 ∷ 100 ∷ 115 ∷ 10 ∷ []
+  pub answers : (bytes "accepted" ≡ 97 ∷ 99 ∷ 99 ∷ 101 ∷ 112 ∷ 116 ∷ 101 ∷ 100 ∷ []) × (bytes "refused" ≡ 114 ∷ 101 ∷ 102 ∷ 117 ∷ 115 ∷ 101 ∷ 100 ∷ [])
+  pub others : bytes " -\n" ≡ 32 ∷ 45 ∷ 10 ∷ []
   pub accepted : linesOf (record { answer = Accepted; reads = 4 }) ≡ bytes "answer number place round reads\naccepted 0 - - 4\n"
   pub refused : linesOf (record { answer = Refused (RoundCheckFails 1 0); reads = 4 })
       ≡ bytes "answer number place round reads\nrefused 11 1 0 4\n"

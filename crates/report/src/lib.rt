@@ -20,7 +20,7 @@ pub struct Text {
     pub length: usize,
 }
 
-// The header and the line, at most 106 bytes. The clause `fits` is what a caller needs for `&bytes[..length]`.
+// The header and the line. The clause `fits` is what a caller needs for `&bytes[..length]`.
 pub fn lines(verdict: Verdict) -> Text
     ensures text { λ r. ⌜ take (r .length) (r .bytes) ≡ linesOf verdict ⌝ }
     ensures rest { λ r. ⌜ drop (r .length) (r .bytes) ≡ replicate (128 - r .length) 0 ⌝ }
@@ -32,7 +32,7 @@ pub fn lines(verdict: Verdict) -> Text
     Text { bytes, length }
 }
 
-// A word of up to 8 bytes, and what follows it.
+// `accepted` or `refused`, and what follows it.
 fn put_line(verdict: Verdict, at: usize, out: &mut [u8]) -> usize
     requires { ⌜ at + 93 ≤ length (now out) ⌝ }
     ensures { λ r. ⌜ Put (now (out .entry)) at (lineOf verdict) r (now (out .exit)) ⌝ }

@@ -16,7 +16,7 @@ pub struct Sections {
     pub layers: usize,
 }
 
-// By the counts as they stand, whatever they are.
+// Where they begin by the counts as they stand, whatever these are.
 pub fn find(bytes: &[u8]) -> Sections
     ensures { λ r. ⌜ r ≡ sectionsIn (now (bytes .entry)) ⌝ }
 {

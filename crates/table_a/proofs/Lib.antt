@@ -1,2 +1,3 @@
 pub mod TableA
 pub mod Needed
+mod Transcripts

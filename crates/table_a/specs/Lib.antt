@@ -1,2 +1,3 @@
 pub mod TableA
+pub mod Transcripts
 pub mod Needed

@@ -67,8 +67,8 @@ module _ (bytes : List ℕ) where
         record {
           offset = all-getD IsElement (sectionEntries bytes 2) 0 0 (omega arith) (section-fits 2);
           basis = all-drop IsElement 1 (sectionEntries bytes 2) (section-fits 2);
-          challenges = section-fits 3;
-          word = section-fits (layerSection 0);
-          store = joined-fit (roundsIn bytes - 1);
-          last = section-fits (layerSection (roundsIn bytes));
+          challenges = section-fits _;
+          word = section-fits _;
+          store = joined-fit _;
+          last = section-fits _;
         }

@@ -158,14 +158,24 @@ told verdict e = (
   ap (λ (v : Verdict). v .reads) e,
 )
 
+either-accepted : (test : Bool) (verdict : Verdict) → cond test verdict too-long .answer ≡ answers.Accepted → verdict .answer ≡ answers.Accepted
+either-accepted true verdict e = e
+either-accepted false verdict e = absurd (let impossible : _≡_ {A = ℕ} 0 1 = cc in omega arith)
+
+program-accepted : (bytes : List ℕ) → inputVerdict bytes .answer ≡ answers.Accepted → transcriptVerdict bytes .answer ≡ answers.Accepted
+unfolding inputVerdict
+program-accepted bytes e = either-accepted (leb (length bytes) 65536) (transcriptVerdict bytes) e
+
 pub judging-bytes : JudgingBytes
 judging-bytes =
     record {
       carried = carried;
+      early = refused-verdict;
       accepted = accepted-carries;
       refused = refused-carries;
       short = short;
       long = λ bytes h. told (inputVerdict bytes) (long bytes h);
+      program-accepted = program-accepted;
     }
 
 -- ---- numbers

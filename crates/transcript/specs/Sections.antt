@@ -1,4 +1,4 @@
--- The sections of a transcript, counted from 1, and the lists that it carries: 1 k, R, η; 2 offset and basis; 3 challenges; 4 queries; 5 to 4 + r
+-- The sections of a transcript, counted from 1, and the lists that are read from it: 1 k, R, η; 2 offset and basis; 3 challenges; 4 queries; 5 to 4 + r
 -- layers 0 to r - 1; 5 + r the last coefficients.
 use mathlib.Core.List.{List}
 use Prim.Native.Nat.{ℕ, zero, suc, _+_, _*_, _-_}
@@ -46,7 +46,7 @@ stepsIn bytes = stepsOf (kIn bytes) (rateIn bytes) (stepIn bytes)
 abbrev pub roundsIn : List ℕ → ℕ
 roundsIn bytes = length (stepsIn bytes)
 
--- the run that the bytes carry; layers 1 to r - 1, joined, are its store
+-- the run that is read from the bytes, and that they carry where `Carries` holds; layers 1 to r - 1, joined, are its store
 abbrev pub runIn : List ℕ → Run
 runIn bytes =
     record {
@@ -61,6 +61,6 @@ runIn bytes =
       last = sectionEntries bytes (layerSection (roundsIn bytes));
     }
 
--- the queries that they carry
+-- the queries that are read from them
 abbrev pub queriesIn : List ℕ → List ℕ
 queriesIn bytes = sectionEntries bytes 4

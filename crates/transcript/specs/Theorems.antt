@@ -6,7 +6,9 @@ use mathlib.Core.List.{List, []}
 use Prim.Native.Nat.{ℕ, suc, _+_, _*_, _-_, _^_, _≤_, _<_}
 use lib.ListN.{length}
 use Rattle.poly.specs.Polynomial.{All}
+use Rattle.refusal.specs.declared.Cause.{Cause}
 use Rattle.refusal.specs.declared.Cause.the-variants.{RoundCheckFails}
+use Rattle.refusal.specs.declared.Outcome.the-variants.{Refused}
 use Rattle.refusal.specs.declared.Position.the-variants.{At, Absent}
 use Rattle.coset.specs.Span.{Independent}
 use Rattle.fri.specs.declared.Answer.the-variants as answers
@@ -19,9 +21,10 @@ use Rattle.fri.specs.Demand.{ValidParameters, LowDegree, ValidQueries, Any, Vis
 use Rattle.fri.specs.Theorems.{Tells}
 use Rattle.transcript.specs.Numerals.{AreBytes}
 use Rattle.transcript.specs.Sections.{sectionStart, sectionCount, layerSection, kIn, rateIn, stepIn, stepsIn, roundsIn, runIn, queriesIn}
+use Rattle.transcript.specs.Checks.{transcriptOutcome}
 use Rattle.transcript.specs.Judge.{transcriptVerdict, inputVerdict}
 
--- the bytes carry lists: parameters in range, the counts due but for the queries', and nothing follows the last section
+-- the bytes carry the lists that are read from them: parameters in range, the counts due but for the queries', and nothing follows the last section
 pub record Carries (bytes : List ℕ) : Type 0 where
   pub parameters-count : sectionCount bytes 1 ≡ 3
   pub parameters : ValidParameters (kIn bytes) (rateIn bytes) (stepIn bytes)
@@ -35,14 +38,18 @@ pub record Carries (bytes : List ℕ) : Type 0 where
 pub record JudgingBytes : Type 0 where
   -- where they carry lists, the verdict is that of the judge over those lists
   pub carried : (bytes : List ℕ) → Carries bytes → transcriptVerdict bytes ≡ verdictOf (runIn bytes) (queriesIn bytes)
-  -- and they do where they are accepted or refused by a round check
+  -- a section's refusal is the answer, and nothing is read
+  pub early : (bytes : List ℕ) (cause : Cause) → transcriptOutcome bytes ≡ Refused cause → transcriptVerdict bytes ≡ record { answer = answers.Refused cause; reads = 0 }
+  -- they carry lists where they are accepted or refused by a round check
   pub accepted : (bytes : List ℕ) → transcriptVerdict bytes .answer ≡ answers.Accepted → Carries bytes
   pub refused : (bytes : List ℕ) (query round : ℕ) → transcriptVerdict bytes .answer ≡ answers.Refused (RoundCheckFails query round) → Carries bytes
   -- the program's answer: the same, unless there are over 65,536 bytes (14)
   pub short : (bytes : List ℕ) → length bytes ≤ 65536 → inputVerdict bytes ≡ transcriptVerdict bytes
   pub long : (bytes : List ℕ) → 65536 < length bytes → Tells (inputVerdict bytes) 14 Absent Absent 0
+  -- so what the program accepts the library accepts
+  pub program-accepted : (bytes : List ℕ) → inputVerdict bytes .answer ≡ answers.Accepted → transcriptVerdict bytes .answer ≡ answers.Accepted
 
--- demand 3, first half: bytes that carry an honest run of a word of low degree over an independent basis are accepted with every valid query list,
+-- demand 3, first half: bytes that carry an honest run of a word of low degree over an independent basis, and a valid query list, are accepted,
 -- whatever the offset and the challenges, and queries · r · 2^η entries are read
 abbrev pub TranscriptCompleteness : Type 0
 TranscriptCompleteness =
@@ -50,7 +57,7 @@ TranscriptCompleteness =
     → ValidQueries (kIn bytes) (queriesIn bytes)
     → transcriptVerdict bytes ≡ record { answer = answers.Accepted; reads = length (queriesIn bytes) * roundsIn bytes * 2 ^ stepIn bytes }
 
--- the bytes carry this run
+-- bytes from which this run is read
 abbrev pub OfRun : Run → List ℕ → Type 0
 OfRun sent bytes = AreBytes bytes × (runIn bytes ≡ sent)
 
@@ -64,7 +71,7 @@ VisitedByTranscripts sent transcripts =
 abbrev pub TranscriptSoundness : Type 0
 TranscriptSoundness = (sent : Run) (transcripts : List (List ℕ)) → All (OfRun sent) transcripts → VisitedByTranscripts sent transcripts → Sound sent
 
--- no number is given otherwise: over bytes 0 to 11, and 14 by the program
+-- no other numbers are given: over bytes 0 to 11, and 14 by the program
 pub record TranscriptNumbers : Type 0 where
   pub library : (bytes : List ℕ) → AreBytes bytes → numberOfAnswer (transcriptVerdict bytes .answer) ≤ 11
   pub program : (bytes : List ℕ) → AreBytes bytes

@@ -1,6 +1,71 @@
-//! Safe calls of the proved library. The declarations below are the only ones: nothing checks them
-//! against the library, so they stand in one place, beside `include/razgwilh.h`.
+//! Safe calls of Razgwilh's proved library: FRI over additive cosets of the field of 2^64 elements.
+//!
+//! An element is a 64-bit number: bit i is the coefficient of t^i, modulo t^64 + t^4 + t^3 + t + 1. A
+//! coset has an offset, any element, and a basis of k independent elements; its point j is the offset plus
+//! the sum of all basis elements t whose bit t of j is set. A word lists 2^k values in point order. A
+//! polynomial is the list of its coefficients, constant first.
+//!
+//! There is arithmetic ([`sum`], [`product`], [`inverse`]), [`encode`] and [`interpolate`], a lone
+//! [`fold`], the prover ([`prove`]), the [`layer`] of a store, and the judge, over lists ([`judge`]) and
+//! over the bytes of a transcript ([`judge_transcript`]). Nothing is refused by a panic: an [`Answer`] has
+//! the number of the cause. `include/razgwilh.h` describes each function in full, with the order of its
+//! refusals.
+//!
+//! # Example
+//!
+//! Eight values over the coset of all numbers below 8 are proved and judged. Then the same is judged as a
+//! transcript: sections in a fixed order, each after its count, the count in 4 bytes and each entry in 8,
+//! little-endian.
+//!
+//! ```
+//! use razgwilh::{judge, judge_transcript, prove, Run};
+//!
+//! let run = Run {
+//!     k: 3,
+//!     rate: 1,
+//!     step: 1,
+//!     offset: 0,
+//!     basis: &[1, 2, 4],
+//!     challenges: &[2, 3],
+//!     word: &[0, 1, 4, 5, 0x10, 0x11, 0x14, 0x15],
+//! };
+//!
+//! // In two rounds there is one layer to store, of four entries, and one last coefficient.
+//! let (mut store, mut last) = ([0; 4], [0; 1]);
+//! assert_eq!(prove(run, &mut store, &mut last).number, 0);
+//! assert_eq!(store, [2, 4, 0x16, 0x10]);
+//! assert_eq!(last, [1]);
+//!
+//! // A query reads two entries of each layer.
+//! let verdict = judge(run, &[5], &store, &last);
+//! assert_eq!((verdict.number, verdict.reads), (0, 4));
+//!
+//! // Parameters; offset and basis; challenges; queries; layers 0 and 1; last coefficients.
+//! let sections: [&[u64]; 7] = [
+//!     &[3, 1, 1],
+//!     &[0, 1, 2, 4],
+//!     run.challenges,
+//!     &[5],
+//!     run.word,
+//!     &store,
+//!     &last,
+//! ];
+//! let mut bytes = Vec::new();
+//! for section in sections {
+//!     bytes.extend((section.len() as u32).to_le_bytes());
+//!     bytes.extend(section.iter().flat_map(|entry| entry.to_le_bytes()));
+//! }
+//! assert_eq!(judge_transcript(&bytes), verdict);
+//!
+//! // Without its last byte it ends in the entries of section 7.
+//! let cut = judge_transcript(&bytes[..bytes.len() - 1]);
+//! assert_eq!((cut.number, cut.place), (1, Some(7)));
+//! ```
 
+#![warn(missing_docs)]
+
+// The declarations are the only ones: nothing checks them against the library, so they stand in one
+// place, beside `include/razgwilh.h`.
 extern "C" {
     fn rz_sum(a: u64, b: u64) -> u64;
     fn rz_product(a: u64, b: u64) -> u64;
@@ -91,6 +156,12 @@ extern "C" {
         answer: *mut u64,
         answer_length: usize,
     );
+    fn rz_judge_transcript(
+        bytes: *const u8,
+        bytes_length: usize,
+        answer: *mut u64,
+        answer_length: usize,
+    );
 }
 
 /// How many numbers an answer has.
@@ -102,10 +173,15 @@ pub const NONE: u64 = u64::MAX;
 /// What an operation answers: `number` is 0 when it went well, else that of the cause.
 #[derive(Clone, Copy, Debug, PartialEq, Eq)]
 pub struct Answer {
+    /// 0 when it went well, else the number of the cause.
     pub number: u64,
+    /// The section (numbers 1, 2), basis place (8), query (10, 11), degree (12) or list (13).
     pub place: Option<u64>,
+    /// The round, with numbers 11 and 16.
     pub round: Option<u64>,
+    /// How many entries a judge read: 0 where none were, and for every other operation.
     pub reads: u64,
+    /// What the operation gives, where it gives a number; for a prover, the degree on number 12.
     pub value: Option<u64>,
 }
 
@@ -138,11 +214,13 @@ fn given(n: u64) -> Option<u64> {
     (n != NONE).then_some(n)
 }
 
+/// The sum of two elements: the exclusive or.
 pub fn sum(a: u64, b: u64) -> u64 {
     // SAFETY: numbers in, a number out.
     unsafe { rz_sum(a, b) }
 }
 
+/// The product of two elements.
 pub fn product(a: u64, b: u64) -> u64 {
     // SAFETY: numbers in, a number out.
     unsafe { rz_product(a, b) }
@@ -228,11 +306,17 @@ pub fn interpolate_into(
 /// What is given to a fold.
 #[derive(Clone, Copy, Debug)]
 pub struct Fold<'a> {
+    /// The dimension of the coset, 2 to 20.
     pub k: usize,
+    /// 1 to 3: the fold takes 2^step entries to one.
     pub step: usize,
+    /// The offset of the coset.
     pub offset: u64,
+    /// The k basis elements of the coset.
     pub basis: &'a [u64],
+    /// The 2^k values in point order.
     pub word: &'a [u64],
+    /// What the fold is taken at: any element.
     pub challenge: u64,
 }
 
@@ -271,12 +355,19 @@ pub fn fold_into(given: Fold, values: &mut [u64], next_basis: &mut [u64], answer
 /// What a prover and a judge are both given.
 #[derive(Clone, Copy, Debug)]
 pub struct Run<'a> {
+    /// The dimension of the word's coset, 2 to 20, and at least rate + step.
     pub k: usize,
+    /// 1 to 6: the word should have degree below 2^(k - rate).
     pub rate: usize,
+    /// 1 to 3: a round takes 2^step entries to one.
     pub step: usize,
+    /// The offset of the word's coset.
     pub offset: u64,
+    /// The k basis elements of the word's coset.
     pub basis: &'a [u64],
+    /// One for each of the r = (k - rate) / step rounds, rounded down.
     pub challenges: &'a [u64],
+    /// Layer 0: the 2^k values in point order.
     pub word: &'a [u64],
 }
 
@@ -370,6 +461,27 @@ pub fn judge_into(run: Run, queries: &[u64], store: &[u64], last: &[u64], answer
             store.len(),
             last.as_ptr(),
             last.len(),
+            answer.as_mut_ptr(),
+            answer.len(),
+        )
+    }
+}
+
+/// Judges the bytes of a transcript, of any length. Number 0 accepts; a refusal has one of the numbers 1
+/// to 11 or 16, of which 1 and 2 have the section for their place. The answer carries the reads.
+pub fn judge_transcript(bytes: &[u8]) -> Answer {
+    let mut numbers = [0; ANSWER_LENGTH];
+    judge_transcript_into(bytes, &mut numbers);
+    Answer::without_value(numbers)
+}
+
+/// The same by the C convention: where `answer` has another length than 5, nothing is written or done.
+pub fn judge_transcript_into(bytes: &[u8], answer: &mut [u64]) {
+    // SAFETY: each pointer and length are those of one slice, and the exclusive one overlaps no other.
+    unsafe {
+        rz_judge_transcript(
+            bytes.as_ptr(),
+            bytes.len(),
             answer.as_mut_ptr(),
             answer.len(),
         )

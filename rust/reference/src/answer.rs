@@ -5,6 +5,15 @@ use razgwilh::Answer;
 /// What the C interface writes for a place, round or value there is none of.
 pub const NONE: u64 = u64::MAX;
 
+/// The number for bytes that end in a count or in its entries.
+pub const BYTES_END: u64 = 1;
+
+/// The number for a count that differs from the one due.
+pub const WRONG_COUNT: u64 = 2;
+
+/// The number for bytes after the last section.
+pub const BYTES_FOLLOW: u64 = 3;
+
 /// The number for a dimension out of range.
 pub const K_OUT_OF_RANGE: u64 = 4;
 
@@ -35,6 +44,9 @@ pub const DEGREE_TOO_HIGH: u64 = 12;
 
 /// The number for a lent list of the wrong length.
 pub const WRONG_LENGTH: u64 = 13;
+
+/// The number for more bytes than the program takes.
+pub const INPUT_TOO_LONG: u64 = 14;
 
 /// The number for the inverse of zero.
 pub const INVERSE_OF_ZERO: u64 = 15;
@@ -83,8 +95,8 @@ pub fn refused(number: u64) -> Answer {
     }
 }
 
-/// The answer that carries the number of its cause and a place: a list, the
-/// place of a basis element, a query or a degree.
+/// The answer that carries the number of its cause and a place: a section, a
+/// list, the place of a basis element, a query or a degree.
 pub fn refused_at(number: u64, place: u64) -> Answer {
     Answer {
         place: Some(place),

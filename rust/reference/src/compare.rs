@@ -7,6 +7,7 @@ pub mod field;
 pub mod fold;
 pub mod protocol;
 pub mod reed_solomon;
+pub mod transcript;
 
 mod cosets;
 mod lent;
@@ -15,6 +16,7 @@ mod lists;
 mod wrong;
 
 use razgwilh::Answer;
+use std::thread;
 
 /// Something that a report can show; numbers are shown in hexadecimal.
 pub trait Show {
@@ -37,7 +39,9 @@ pub trait Input: Clone + Show {
 pub type Sides = [&'static str; 2];
 
 pub const REFERENCE_AND_LIBRARY: Sides = ["reference", "library"];
+pub const REFERENCE_AND_PROGRAM: Sides = ["reference", "program"];
 pub const PAPER_AND_LIBRARY: Sides = ["paper", "library"];
+pub const PAPER_AND_PROGRAM: Sides = ["paper", "program"];
 pub const LEFT_AND_RIGHT: Sides = ["left side", "right side"];
 
 /// A comparison that was run.
@@ -75,13 +79,56 @@ pub fn compare<I: Input, A: PartialEq + Show>(
     first: impl Fn(&I) -> A,
     second: impl Fn(&I) -> A,
 ) -> Comparison {
-    let differs = |input: &I| first(input) != second(input);
+    let asked = inputs.into_iter().map(|input| {
+        let differs = first(&input) != second(&input);
+        (input, differs)
+    });
+    comparison(name, asked, sides, &first, &second)
+}
+
+/// The same for a side that waits for something else: the inputs are shared among a
+/// few threads.
+pub fn compare_on_threads<I: Input + Sync, A: PartialEq + Show>(
+    name: &'static str,
+    inputs: &[I],
+    sides: Sides,
+    first: impl Fn(&I) -> A + Sync,
+    second: impl Fn(&I) -> A + Sync,
+) -> Comparison {
+    let differ = on_threads(inputs, |input| first(input) != second(input));
+    let asked = inputs.iter().cloned().zip(differ);
+    comparison(name, asked, sides, &first, &second)
+}
+
+/// More than a small machine has, since the threads wait much.
+const THREADS: usize = 4;
+
+/// Asks about each input. The answers are in the order of the inputs.
+fn on_threads<I: Sync>(inputs: &[I], ask: impl Fn(&I) -> bool + Sync) -> Vec<bool> {
+    let share = inputs.len().div_ceil(THREADS).max(1);
+    let ask_all = |share: &[I]| -> Vec<bool> { share.iter().map(&ask).collect() };
+    thread::scope(|scope| {
+        let start = |share| scope.spawn(move || ask_all(share));
+        let threads: Vec<_> = inputs.chunks(share).map(start).collect();
+        let answers = threads.into_iter().map(|thread| thread.join());
+        answers.flat_map(|share| share.expect("answers")).collect()
+    })
+}
+
+/// The comparison of inputs of which it is known whether the two sides differ.
+fn comparison<I: Input, A: Show + PartialEq>(
+    name: &'static str,
+    asked: impl Iterator<Item = (I, bool)>,
+    sides: Sides,
+    first: impl Fn(&I) -> A,
+    second: impl Fn(&I) -> A,
+) -> Comparison {
     let mut compared = 0;
     let mut differing = 0;
     let mut smallest: Option<I> = None;
-    for input in inputs {
+    for (input, differs) in asked {
         compared += 1;
-        if differs(&input) {
+        if differs {
             differing += 1;
             smallest = Some(match smallest {
                 Some(other) if other.size() <= input.size() => other,
@@ -90,7 +137,7 @@ pub fn compare<I: Input, A: PartialEq + Show>(
         }
     }
     let difference = smallest.map(|input| {
-        let input = shrink(input, differs);
+        let input = shrink(input, |input| first(input) != second(input));
         Difference {
             inputs: differing,
             smallest: input.show(),
@@ -128,8 +175,10 @@ pub struct Report {
     pub agrees: bool,
 }
 
-pub fn report(comparisons: &[Comparison]) -> Report {
+/// A line for each comparison, then tables of what was compared, then the result.
+pub fn report(comparisons: &[Comparison], tables: &str) -> Report {
     let mut text: String = comparisons.iter().map(lines).collect();
+    text += tables;
     let all = comparisons.len();
     let agreeing = comparisons.iter().filter(|one| one.agrees()).count();
     let agrees = all > 0 && agreeing == all;
@@ -273,11 +322,11 @@ mod tests {
     fn equal_sides_agree() {
         let comparison = compare_numbers(vec![1, 2, 3], |a| *a);
         assert!(comparison.agrees());
-        let report = report(&[comparison]);
+        let report = report(&[comparison], "a table\n");
         assert!(report.agrees);
         assert_eq!(
             report.text,
-            "test: 3 inputs\nreference: 1 comparisons agree\n"
+            "test: 3 inputs\na table\nreference: 1 comparisons agree\n"
         );
     }
 
@@ -285,7 +334,7 @@ mod tests {
     fn a_difference_is_reported_in_hexadecimal() {
         let comparison = compare_numbers(vec![0, 0xf7, 0x1f], |a| a & !0x10);
         assert!(!comparison.agrees());
-        let report = report(&[comparison]);
+        let report = report(&[comparison], "");
         assert!(!report.agrees);
         assert_eq!(
             report.text,
@@ -299,7 +348,7 @@ mod tests {
     fn one_difference_among_many_is_enough() {
         let right = compare_numbers(vec![1], |a| *a);
         let wrong = compare_numbers(vec![1], |_| 0);
-        let report = report(&[right.clone(), wrong, right]);
+        let report = report(&[right.clone(), wrong, right], "");
         assert!(!report.agrees);
     }
 
@@ -333,7 +382,29 @@ mod tests {
     fn a_comparison_of_nothing_does_not_agree() {
         let comparison = compare_numbers(Vec::new(), |a| *a);
         assert!(!comparison.agrees());
-        assert!(!report(&[comparison]).agrees);
-        assert!(!report(&[]).agrees);
+        assert!(!report(&[comparison], "").agrees);
+        assert!(!report(&[], "").agrees);
+    }
+
+    /// As many as one thread takes or fewer, and more.
+    #[test]
+    fn threads_find_the_same_differences() {
+        for count in 0..4 * THREADS as u64 {
+            let inputs: Vec<u64> = (0..count).collect();
+            let second = |a: &u64| a & !4;
+            let one_by_one = compare_numbers(inputs.clone(), second);
+            let sides = REFERENCE_AND_LIBRARY;
+            let shared = compare_on_threads("test", &inputs, sides, |a| *a, second);
+            let text = |comparison| report(&[comparison], "").text;
+            assert_eq!(text(shared), text(one_by_one));
+        }
+    }
+
+    #[test]
+    fn the_answers_of_threads_are_in_order() {
+        let inputs: Vec<u64> = (0..50).collect();
+        let due = inputs.iter().map(|input| input % 3 == 0);
+        let answers = on_threads(&inputs, |input| input % 3 == 0);
+        assert!(due.eq(answers));
     }
 }

@@ -1,10 +1,12 @@
 //! An implementation written from the paper alone, the comparisons of the library
-//! with it, and samples of what it gives.
+//! with it, and samples and example transcripts of what it gives.
 
 pub mod compare;
+pub mod examples;
 pub mod samples;
 
 mod answer;
+mod cases;
 mod coset;
 mod field;
 mod fold;
@@ -14,3 +16,4 @@ mod protocol;
 mod random;
 mod reed_solomon;
 mod refusal;
+mod transcript;

@@ -1,4 +1,5 @@
-//! Compares the library with an implementation written from the paper alone.
+//! Compares the library, and the program `judge`, with an implementation written
+//! from the paper alone.
 //!
 //! It prints a line for each comparison. It ends with 0 if all agree, and with
 //! 1 if one differs, having shown the smallest input that it found.
@@ -8,6 +9,10 @@ use std::process::ExitCode;
 
 fn main() -> ExitCode {
     // Each part of the library has a file of its own under `compare`.
+    let transcripts = compare::transcript::comparisons(
+        &compare::transcript::RAZGWILH,
+        &compare::transcript::FULL,
+    );
     let parts = [
         compare::field::comparisons(&compare::field::RAZGWILH, &compare::field::FULL),
         compare::reed_solomon::comparisons(
@@ -16,8 +21,9 @@ fn main() -> ExitCode {
         ),
         compare::fold::comparisons(&compare::fold::RAZGWILH, &compare::fold::FULL),
         compare::protocol::comparisons(&compare::protocol::RAZGWILH, &compare::protocol::FULL),
+        transcripts.comparisons,
     ];
-    let report = compare::report(&parts.concat());
+    let report = compare::report(&parts.concat(), &transcripts.table);
     print!("{}", report.text);
     if report.agrees {
         ExitCode::SUCCESS

@@ -286,8 +286,9 @@ fn right_lengths(run: &Run) -> Result<(), Answer> {
     Ok(())
 }
 
-/// Round i leads to the basis of layer i + 1.
-fn later_layers_independent(cosets: &[Coset]) -> Result<(), Answer> {
+/// Round i leads to the basis of layer i + 1. The cosets are those of layers 0 to
+/// r.
+pub fn later_layers_independent(cosets: &[Coset]) -> Result<(), Answer> {
     for (round, later) in (0..).zip(&cosets[1..]) {
         later_independent(&later.basis, round)?;
     }
@@ -295,9 +296,18 @@ fn later_layers_independent(cosets: &[Coset]) -> Result<(), Answer> {
 }
 
 fn right_queries(parameters: Parameters, queries: &[u64]) -> Result<(), Answer> {
-    if !QUERY_COUNTS.contains(&queries.len()) {
+    right_query_count(queries.len())?;
+    queries_in_range(parameters, queries)
+}
+
+pub fn right_query_count(count: usize) -> Result<(), Answer> {
+    if !QUERY_COUNTS.contains(&count) {
         return Err(refused(WRONG_QUERY_COUNT));
     }
+    Ok(())
+}
+
+pub fn queries_in_range(parameters: Parameters, queries: &[u64]) -> Result<(), Answer> {
     let outside = |&query: &u64| query >= 1 << parameters.k;
     match queries.iter().position(outside) {
         Some(place) => Err(refused_at(QUERY_OUT_OF_RANGE, place as u64)),

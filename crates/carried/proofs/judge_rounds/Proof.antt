@@ -27,19 +27,19 @@ use Rattle.carried.proofs.judge_rounds.Statement.{statement}
 use Rattle.carried.proofs.judge_rounds.Tie as tie
 
 abbrev Inv-loop : tie.InvT-loop
-Inv-loop parameters offset basis challenges queries bytes layers last count table cosets₀ query i₀ here₀ at₀ cosets i here at =
+Inv-loop parameters offset basis challenges queries bytes begin last count table cosets₀ query i₀ here₀ at₀ cosets i here at =
     BeforeRound parameters (offset .0) basis challenges queries (runIn bytes .word) (runIn bytes .store) last count table cosets query i here
-    × (at ≡ layerAt (parameters .k) (stepsBy parameters) layers i)
+    × (at ≡ layerAt (parameters .k) (stepsBy parameters) begin i)
 
 abbrev μ-loop : tie.MeasureT-loop
-μ-loop parameters offset basis challenges queries bytes layers last count table cosets₀ query i₀ here₀ at₀ cosets i here at = count - i
+μ-loop parameters offset basis challenges queries bytes begin last count table cosets₀ query i₀ here₀ at₀ cosets i here at = count - i
 
 abbrev Inv-queries : tie.InvT-queries
-Inv-queries parameters offset basis challenges queries bytes layers last count table cosets₀ query₀ i₀ cosets query i =
+Inv-queries parameters offset basis challenges queries bytes begin last count table cosets₀ query₀ i₀ cosets query i =
     BeforeQuery parameters (offset .0) basis challenges queries (runIn bytes .word) (runIn bytes .store) last count table cosets query
 
 abbrev μ-queries : tie.MeasureT-queries
-μ-queries parameters offset basis challenges queries bytes layers last count table cosets₀ query₀ i₀ cosets query i = length queries - query
+μ-queries parameters offset basis challenges queries bytes begin last count table cosets₀ query₀ i₀ cosets query i = length queries - query
 
 rounds-requires : tie.Need-rounds-requires Inv-loop μ-loop Inv-queries μ-queries
 rounds-requires c κs =
@@ -99,7 +99,7 @@ loop-holds c =
         rounds-passed = λ n h. absurd (omega arith);
         here-is = c .first .ensures ∙ query-point-first run (getD (a .queries .now) (c .before .before .before .queries .query) 0);
       },
-      at-first (a .parameters .k) (stepsBy (a .parameters)) (a .layers),
+      at-first (a .parameters .k) (stepsBy (a .parameters)) (a .begin),
     )
 
 mul-round : tie.Need-mul-round Inv-loop μ-loop Inv-queries μ-queries
@@ -122,7 +122,7 @@ after-layer-requires c κs =
     let l = c .before .before .before .loop in
     let b = l .inv .0 .before-query .prepared in
     let inside : l .i ≤ length (stepsBy (a .parameters)) = omega (arith, b .count-is) in
-    (b .ready .coset .parameters, inside, omega (arith, l .inv .1, at-below (a .parameters) (b .ready .coset .parameters) (a .layers) (l .i) (start .pre .1 .begins) inside))
+    (b .ready .coset .parameters, inside, omega (arith, l .inv .1, at-below (a .parameters) (b .ready .coset .parameters) (a .begin) (l .i) (start .pre .1 .begins) inside))
 
 computed-requires : tie.Need-computed-requires Inv-loop μ-loop Inv-queries μ-queries
 computed-requires c κs =
@@ -137,7 +137,7 @@ computed-requires c κs =
     let hj = query-inside p (a .offset .0) (a .basis .now) (a .challenges .now) (a .queries .now) word store (a .last .now) (c .before .before .before .before .before .before .before .before .before .before .rounds .result) (c .before .before .before .before .before .before .before .before .before .set-up .result) b (c .before .before .before .before .before .before .before .before .queries .query) in (
       b .ready .coset .parameters .step-least,
       b .ready .coset .parameters .step-most,
-      omega (arith, l .inv .1, at-below p (b .ready .coset .parameters) (a .layers) (l .i) (start .pre .1 .begins) inside),
+      omega (arith, l .inv .1, at-below p (b .ready .coset .parameters) (a .begin) (l .i) (start .pre .1 .begins) inside),
       index-few p (a .offset .0) (a .basis .now) (a .challenges .now) (a .bytes .now) (a .last .now) (b .ready) (getD (a .queries .now) (c .before .before .before .before .before .before .before .before .queries .query) 0) (l .i) hj inside (l .here) (l .inv .0 .here-is),
     )
 
@@ -157,8 +157,8 @@ found-requires c κs =
     let inside : l .i < length (stepsBy p) = omega (arith, b .count-is) in
     let hj = query-inside p (a .offset .0) (a .basis .now) (a .challenges .now) (a .queries .now) word store (a .last .now) (c .before .before .before .before .before .before .before .before .before .before .before .rounds .result) (c .before .before .before .before .before .before .before .before .before .before .set-up .result) b (c .before .before .before .before .before .before .before .before .before .queries .query) in
     let next = c .before .before .next .ensures ∙ next-of p (a .offset .0) (a .basis .now) (a .challenges .now) word store (a .last .now) (b .ready) j (l .i) hj inside (getD (c .before .before .before .before .before .before .before .before .before .before .set-up .result) (l .i) noRound) (b .held (l .i) (omega arith)) (l .here) (l .inv .0 .here-is) in
-    let next-at = c .before .after-layer .ensures ∙ ap (λ (n : ℕ). n + 8 * 2 ^ dimension (p .k) (stepsBy p) (l .i) + 4) (l .inv .1) ∙ at-next (p .k) (stepsBy p) (a .layers) (l .i) in (
-      omega (arith, next-at, at-below p (b .ready .coset .parameters) (a .layers) (suc (l .i)) (start .pre .1 .begins) inside),
+    let next-at = c .before .after-layer .ensures ∙ ap (λ (n : ℕ). n + 8 * 2 ^ dimension (p .k) (stepsBy p) (l .i) + 4) (l .inv .1) ∙ at-next (p .k) (stepsBy p) (a .begin) (l .i) in (
+      omega (arith, next-at, at-below p (b .ready .coset .parameters) (a .begin) (suc (l .i)) (start .pre .1 .begins) inside),
       index-few p (a .offset .0) (a .basis .now) (a .challenges .now) (a .bytes .now) (a .last .now) (b .ready) j (suc (l .i)) hj inside (c .before .before .next .result) next,
     )
 
@@ -200,9 +200,9 @@ loop-again c =
     let held = b .held (l .i) within in
     let hj = query-inside p (a .offset .0) (a .basis .now) (a .challenges .now) (a .queries .now) word store (a .last .now) count table b query in
     let next = c .before .before .before .before .before .before .next .ensures ∙ next-of p (a .offset .0) (a .basis .now) (a .challenges .now) word store (a .last .now) (b .ready) j (l .i) hj inside (getD table (l .i) noRound) held (l .here) (l .inv .0 .here-is) in
-    let next-at = c .before .before .before .before .before .after-layer .ensures ∙ ap (λ (n : ℕ). n + 8 * 2 ^ dimension (p .k) (stepsBy p) (l .i) + 4) (l .inv .1) ∙ at-next (p .k) (stepsBy p) (a .layers) (l .i) in
-    let computed = c .before .before .before .before .computed .ensures ∙ computed-in p (a .offset .0) (a .basis .now) (a .challenges .now) (a .bytes .now) (a .last .now) (a .layers) (b .ready) (start .pre .1) j (l .i) hj inside (getD table (l .i) noRound) held (l .here) (l .inv .0 .here-is) (l .at) (l .inv .1) in
-    let found = c .before .before .before .found .ensures ∙ found-in p (a .offset .0) (a .basis .now) (a .challenges .now) (a .bytes .now) (a .last .now) (a .layers) (b .ready) (start .pre .1) j (l .i) hj inside (c .before .before .before .before .before .before .next .result) next count (b .count-is) (c .before .before .before .before .before .after-layer .result) next-at in (
+    let next-at = c .before .before .before .before .before .after-layer .ensures ∙ ap (λ (n : ℕ). n + 8 * 2 ^ dimension (p .k) (stepsBy p) (l .i) + 4) (l .inv .1) ∙ at-next (p .k) (stepsBy p) (a .begin) (l .i) in
+    let computed = c .before .before .before .before .computed .ensures ∙ computed-in p (a .offset .0) (a .basis .now) (a .challenges .now) (a .bytes .now) (a .last .now) (a .begin) (b .ready) (start .pre .1) j (l .i) hj inside (getD table (l .i) noRound) held (l .here) (l .inv .0 .here-is) (l .at) (l .inv .1) in
+    let found = c .before .before .before .found .ensures ∙ found-in p (a .offset .0) (a .basis .now) (a .challenges .now) (a .bytes .now) (a .last .now) (a .begin) (b .ready) (start .pre .1) j (l .i) hj inside (c .before .before .before .before .before .before .next .result) next count (b .count-is) (c .before .before .before .before .before .after-layer .result) next-at in (
       record {
         before-query = l .inv .0 .before-query;
         query-within = l .inv .0 .query-within;
@@ -212,7 +212,7 @@ loop-again c =
             (sym computed ∙ c .if1 .left ∙ found);
         here-is = next ∙ ap (queryPointOf (sentIn p (a .offset .0) (a .basis .now) (a .challenges .now) (a .bytes .now) (a .last .now)) j) (sym (add-one (l .i)));
       },
-      next-at ∙ ap (layerAt (p .k) (stepsBy p) (a .layers)) (sym (add-one (l .i))),
+      next-at ∙ ap (layerAt (p .k) (stepsBy p) (a .begin)) (sym (add-one (l .i))),
     )
 
 add-cosets-2 : tie.Need-add-cosets-2 Inv-loop μ-loop Inv-queries μ-queries
@@ -263,9 +263,9 @@ returns c =
     let inside : l .i < length (stepsBy p) = subst (λ (n : ℕ). l .i < n) (b .count-is) within in
     let held = b .held (l .i) within in
     let next = t .6 .ensures ∙ next-of p (a .offset .0) (a .basis .now) (a .challenges .now) word store (a .last .now) (b .ready) j (l .i) hj inside (getD table (l .i) noRound) held (l .here) (l .inv .0 .here-is) in
-    let next-at = t .7 .ensures ∙ ap (λ (n : ℕ). n + 8 * 2 ^ dimension (p .k) (stepsBy p) (l .i) + 4) (l .inv .1) ∙ at-next (p .k) (stepsBy p) (a .layers) (l .i) in
-    let computed = t .8 .ensures ∙ computed-in p (a .offset .0) (a .basis .now) (a .challenges .now) (a .bytes .now) (a .last .now) (a .layers) (b .ready) (start .pre .1) j (l .i) hj inside (getD table (l .i) noRound) held (l .here) (l .inv .0 .here-is) (l .at) (l .inv .1) in
-    let found = t .9 .ensures ∙ found-in p (a .offset .0) (a .basis .now) (a .challenges .now) (a .bytes .now) (a .last .now) (a .layers) (b .ready) (start .pre .1) j (l .i) hj inside (t .6 .result) next count (b .count-is) (t .7 .result) next-at in
+    let next-at = t .7 .ensures ∙ ap (λ (n : ℕ). n + 8 * 2 ^ dimension (p .k) (stepsBy p) (l .i) + 4) (l .inv .1) ∙ at-next (p .k) (stepsBy p) (a .begin) (l .i) in
+    let computed = t .8 .ensures ∙ computed-in p (a .offset .0) (a .basis .now) (a .challenges .now) (a .bytes .now) (a .last .now) (a .begin) (b .ready) (start .pre .1) j (l .i) hj inside (getD table (l .i) noRound) held (l .here) (l .inv .0 .here-is) (l .at) (l .inv .1) in
+    let found = t .9 .ensures ∙ found-in p (a .offset .0) (a .basis .now) (a .challenges .now) (a .bytes .now) (a .last .now) (a .begin) (b .ready) (start .pre .1) j (l .i) hj inside (t .6 .result) next count (b .count-is) (t .7 .result) next-at in
     ap₂ (λ (m n : ℕ). record { answer = answers.Refused (RoundCheckFails query m); reads = n * 2 ^ p .step % 2 ^ 64 }) (t .15) (t .14 ∙ ap (λ (n : ℕ). l .cosets + n) (t .13 .ensures))
     ∙ refused p (a .offset .0) (a .basis .now) (a .challenges .now) (a .queries .now) word store (a .last .now) count table b (l .inv .0) within
     (λ e. t .12 .taken (computed ∙ e ∙ sym found)))

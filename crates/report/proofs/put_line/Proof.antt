@@ -5,7 +5,7 @@ use borrow.Author.Needs.{needs}
 use Rattle.fri.specs.declared.Answer.{Answer}
 use Rattle.fri.specs.declared.Answer.the-variants.{Accepted}
 use Rattle.report.specs.Digits.{bytes}
-use Rattle.report.specs.Lines.{wordOf, numbersOf, lineOf}
+use Rattle.report.specs.Lines.{answerText, numbersOf, lineOf}
 use Rattle.report.proofs.Placing.{put-append, put-same}
 use Rattle.report.proofs.put_line.Statement.{statement}
 use Rattle.report.proofs.put_line.Tie as tie
@@ -47,7 +47,7 @@ same-length : tie.Need-same-length
 same-length c = search needs
 
 returns : tie.Need-returns
-unfolding bytes wordOf lineOf
+unfolding bytes answerText lineOf
 returns c =
     let verdict = c .before .before .before .before .before .before .before .before .before .before .before .before .args .verdict in
     let accepted : verdict .answer ≡ Accepted = search needs in
@@ -58,7 +58,7 @@ same-length-2 : tie.Need-same-length-2
 same-length-2 c = search needs
 
 returns-2 : tie.Need-returns-2
-unfolding bytes wordOf lineOf
+unfolding bytes answerText lineOf
 returns-2 c =
     let verdict = c .before .before .before .before .before .before .before .before .before .before .before .before .before .before .before .before .args .verdict in
     let given = c .before .before .before .before .before .before .before .before .before .before .before .before .before .answer .given .1 in

@@ -1,8 +1,8 @@
 //! The comparisons of the prover, of the judge over lists and of the lookup of a
 //! layer.
 
-mod call;
-mod inputs;
+pub(super) mod call;
+pub(crate) mod inputs;
 mod judging;
 mod lookup;
 mod proving;

@@ -1,7 +1,7 @@
 -- `Round::computed` meets its contract. Assumes nothing.
-use Rattle.judging.proofs.StepSizes.{sizeOf, size-is, size-some, begin-is, begin-before}
+use Rattle.rounds.proofs.StepSizes.{sizeOf, size-is, size-some, begin-is, begin-before}
 use Rattle.halving.proofs.Cosets.{lent-part, length-lent-part}
-use Rattle.judging.specs.Rounds.{valueFolded, partRead}
+use Rattle.rounds.specs.Rounds.{valueFolded, partRead}
 use lib.ListN.{length, take, drop}
 use Prim.Native.Nat.{ℕ, _+_, _*_, _/_, _≤_}
 use mathlib.Core.Bool.{Bool}

@@ -1,5 +1,5 @@
 -- `Round::folded` meets its contract. Assumes nothing.
-use Rattle.judging.proofs.StepSizes.{sizeOf, size-is, size-most, size-some, size-eight, between-within}
+use Rattle.rounds.proofs.StepSizes.{sizeOf, size-is, size-most, size-some, size-eight, between-within}
 use Rattle.halving.proofs.Cosets.{value-padded}
 use Rattle.fold.specs.Halving.{valueAt}
 use Rattle.halving.specs.declared.Coset.{Coset}

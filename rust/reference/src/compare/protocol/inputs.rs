@@ -54,11 +54,11 @@ fn of_dimensions(dimensions: &[u64]) -> Vec<Parameters> {
 }
 
 /// Any query of a run.
-fn any_query(random: &mut Random, parameters: Parameters) -> u64 {
+pub fn any_query(random: &mut Random, parameters: Parameters) -> u64 {
     random.below(parameters.layer_length(0)) as u64
 }
 
-fn any_queries(random: &mut Random, parameters: Parameters, count: usize) -> Vec<u64> {
+pub fn any_queries(random: &mut Random, parameters: Parameters, count: usize) -> Vec<u64> {
     (0..count).map(|_| any_query(random, parameters)).collect()
 }
 

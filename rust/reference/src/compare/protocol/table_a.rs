@@ -1,18 +1,17 @@
 //! The cases of table A that have a prover, a judge or a lookup.
 
 use super::call::{Call, List};
-use super::inputs::zero_run;
 use super::{safe_proof, safe_proof_of_library, verdict_of_library, with};
 use super::{Amounts, Library, Output};
 use crate::answer::{accepted, done, failed, refused, refused_at, ANSWER_LENGTH};
+use crate::cases::{
+    of_case_f, of_case_h, of_case_j, of_case_k, of_case_l, queries_of_case_p, stretched,
+    too_many_queries_of_case_p, LAYER_1_OF_CASE_K, PARAMETERS_OF_CASE_P,
+};
 use crate::compare::fold::{challenges_of_case_j, Exceptional};
 use crate::compare::lent::FILLS;
 use crate::compare::{compare, Comparison, Input, Show, PAPER_AND_LIBRARY};
-use crate::coset::points;
-use crate::fold::Coset;
-use crate::parameters::Parameters;
-use crate::polynomial::value;
-use crate::protocol::{cosets, Run};
+use crate::protocol::Run;
 use crate::random::Random;
 use razgwilh::Answer;
 
@@ -120,23 +119,7 @@ fn case<D>(run: &Run, queries: &[u64], due: D) -> Case<D> {
     Case { call, due }
 }
 
-/// A run of step 1 over the coset of all numbers below 2^k.
-fn plain(challenges: &[u64], word: &[u64], store: &[u64], last: &[u64]) -> Run {
-    let k = word.len().trailing_zeros() as u64;
-    let basis = (0..k).map(|place| 1 << place).collect();
-    Run {
-        word: word.to_vec(),
-        store: store.to_vec(),
-        last: last.to_vec(),
-        ..zero_run(with(k, 1, 1), 0, basis, challenges.to_vec())
-    }
-}
-
 // Cases F to J.
-
-fn of_case_f() -> Run {
-    plain(&[4], &[7, 4, 1, 2], &[], &[0xb])
-}
 
 fn case_f(library: &Library) -> Comparison {
     let cases = vec![case(&of_case_f(), &[], writes(&[], &[0xb]))];
@@ -144,17 +127,12 @@ fn case_f(library: &Library) -> Comparison {
 }
 
 fn cases_g_to_i(library: &Library) -> Comparison {
-    let of_case_h = plain(&[4], &[7, 4, 1, 3], &[], &[0xb]);
     let cases = vec![
         case(&of_case_f(), &[0, 3], accepted(4)),
-        case(&of_case_h, &[0, 3], failed(1, 0, 4)),
-        case(&of_case_h, &[0], accepted(2)),
+        case(&of_case_h(), &[0, 3], failed(1, 0, 4)),
+        case(&of_case_h(), &[0], accepted(2)),
     ];
     verdicts(library, "cases G, H and I of table A", cases)
-}
-
-fn of_case_j(challenge: u64) -> Run {
-    plain(&[challenge], &[0, 0, 0, 1], &[], &[0])
 }
 
 fn case_j(library: &Library) -> Comparison {
@@ -186,16 +164,9 @@ fn case_j_for_all_challenges(library: &Library, amounts: &Amounts) -> Comparison
 
 // Cases K and L.
 
-const LAYER_1: [u64; 4] = [2, 4, 0x16, 0x10];
-
-fn of_case_k() -> Run {
-    let word = [0, 1, 4, 5, 0x10, 0x11, 0x14, 0x15];
-    plain(&[2, 3], &word, &LAYER_1, &[1])
-}
-
 fn case_k(library: &Library) -> Vec<Comparison> {
     let run = of_case_k();
-    let proof = case(&run, &[], writes(&LAYER_1, &[1]));
+    let proof = case(&run, &[], writes(&LAYER_1_OF_CASE_K, &[1]));
     let verdict = case(&run, &[5], accepted(4));
     vec![
         proofs(library, "case K of table A, proved", vec![proof]),
@@ -204,15 +175,14 @@ fn case_k(library: &Library) -> Vec<Comparison> {
             "case K of table A, layer 1",
             [case(&run, &[], ())],
             PAPER_AND_LIBRARY,
-            |_| LAYER_1.to_vec(),
+            |_| LAYER_1_OF_CASE_K.to_vec(),
             |Case { call, .. }| (library.layer)(3, 1, 1, &call.run.store, 1).to_vec(),
         ),
     ]
 }
 
 fn case_l(library: &Library) -> Comparison {
-    let mut run = of_case_k();
-    run.store[0] = 3;
+    let run = of_case_l();
     let cases = vec![
         case(&run, &[0], failed(0, 0, 4)),
         case(&run, &[7], accepted(4)),
@@ -221,30 +191,6 @@ fn case_l(library: &Library) -> Comparison {
 }
 
 // Cases O and P.
-
-/// An honest run with this last polynomial, each value of the last layer standing
-/// in all entries that are folded to it. So every fold is plain, whatever the
-/// challenge is.
-fn stretched(parameters: Parameters, last: &[u64]) -> Run {
-    let basis = (1..=parameters.k).map(|place| 1 << place).collect();
-    let challenges = (5..).take(parameters.rounds() as usize).collect();
-    let run = zero_run(parameters, 1, basis, challenges);
-    let r = parameters.rounds();
-    let Coset { offset, basis } = &cosets(&run)[r as usize];
-    let points = points(*offset, basis);
-    let values: Vec<u64> = points.iter().map(|&x| value(last, x)).collect();
-    let layer = |i: u64| -> Vec<u64> {
-        let entries = 0..parameters.layer_length(i);
-        let folded = (r - i) * parameters.step;
-        entries.map(|entry| values[entry >> folded]).collect()
-    };
-    Run {
-        word: layer(0),
-        store: (1..r).flat_map(layer).collect(),
-        last: last.to_vec(),
-        ..run
-    }
-}
 
 /// The last layer has a point for each query. All four coefficients and all 256
 /// points count.
@@ -273,14 +219,11 @@ fn case_o(library: &Library) -> Vec<Comparison> {
     ]
 }
 
-/// With step 1 a first-layer coset has two entries.
 fn case_p(library: &Library) -> Comparison {
-    let run = stretched(with(9, 4, 1), &[7]);
-    let queries: Vec<u64> = (0..256).map(|coset| 2 * coset).collect();
-    let one_more = [&queries[..], &[511]].concat();
+    let run = stretched(PARAMETERS_OF_CASE_P, &[7]);
     let cases = vec![
-        case(&run, &queries, accepted(256 * 5 * 2)),
-        case(&run, &one_more, refused(9)),
+        case(&run, &queries_of_case_p(), accepted(256 * 5 * 2)),
+        case(&run, &too_many_queries_of_case_p(), refused(9)),
     ];
     verdicts(library, "case P of table A", cases)
 }

@@ -1,0 +1,35 @@
+-- `capi::rz_judge_transcript` meets its contract: a list of another length is left as it was. Assumes nothing.
+use mathlib.Core.Path.{ap, _∙_}
+use Rattle.transcript.specs.Judge.{transcriptVerdict}
+use Rattle.answers.specs.Answers.{answerOfVerdict, numbersOf}
+use Rattle.answers.proofs.Five.{answered-five, answered-other}
+use borrow.Author.Needs.{needs}
+use native.Mathlib.Omega.{arith}
+use Rattle.capi.proofs.rz_judge_transcript.Statement.{statement}
+use Rattle.capi.proofs.rz_judge_transcript.Tie as tie
+
+returns : tie.Need-returns
+returns c = let a = c .before .before .before .args in answered-other (answerOfVerdict (transcriptVerdict (a .bytes .now))) (a .answer .now) (c .if1 .taken)
+
+judge-requires : tie.Need-judge-requires
+judge-requires c κs = search needs
+
+of-verdict-requires : tie.Need-of-verdict-requires
+of-verdict-requires c κs = search needs
+
+write-requires : tie.Need-write-requires
+write-requires c κs = search needs
+
+same-length : tie.Need-same-length
+same-length c = search needs
+
+returns-2 : tie.Need-returns-2
+returns-2 c =
+    let a = c .before .before .before .before .before .before .before .before .before .args in
+    c .before .before .write .ensures ∙ ap numbersOf (c .before .before .before .before .of-verdict .ensures ∙ ap answerOfVerdict (c .before .before .before .before .before .judge .ensures))
+    ∙ answered-five (answerOfVerdict (transcriptVerdict (a .bytes .now))) (a .answer .now) (omega arith)
+
+pub rz-judge-transcript-spec : {M : Type 1} → statement M
+rz-judge-transcript-spec =
+    tie.close
+    (tie.spec returns judge-requires of-verdict-requires write-requires same-length returns-2)

@@ -1,0 +1,21 @@
+//! Writes transcripts, and the lines that the program prints for each, into the folder
+//! that is given.
+
+use reference::examples;
+use std::path::Path;
+use std::process::ExitCode;
+
+fn main() -> ExitCode {
+    let arguments: Vec<_> = std::env::args_os().skip(1).collect();
+    let [folder] = &arguments[..] else {
+        eprintln!("usage: transcripts FOLDER");
+        return ExitCode::FAILURE;
+    };
+    match examples::write_to(Path::new(folder)) {
+        Ok(()) => ExitCode::SUCCESS,
+        Err(error) => {
+            eprintln!("transcripts: {error}");
+            ExitCode::FAILURE
+        }
+    }
+}

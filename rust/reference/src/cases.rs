@@ -1,0 +1,110 @@
+//! The runs of table A, with the numbers that the paper has for them.
+
+use crate::coset::points;
+use crate::fold::Coset;
+use crate::parameters::Parameters;
+use crate::polynomial::value;
+use crate::protocol::{cosets, Run};
+
+/// A run of rate 1 and step 1 over the coset of all numbers below 2^k.
+fn plain(challenges: &[u64], word: &[u64], store: &[u64], last: &[u64]) -> Run {
+    let k = word.len().trailing_zeros() as u64;
+    Run {
+        parameters: Parameters {
+            k,
+            rate: 1,
+            step: 1,
+        },
+        offset: 0,
+        basis: (0..k).map(|place| 1 << place).collect(),
+        challenges: challenges.to_vec(),
+        word: word.to_vec(),
+        store: store.to_vec(),
+        last: last.to_vec(),
+    }
+}
+
+// Cases F to J.
+
+pub fn of_case_f() -> Run {
+    plain(&[4], &[7, 4, 1, 2], &[], &[0xb])
+}
+
+pub fn of_case_h() -> Run {
+    plain(&[4], &[7, 4, 1, 3], &[], &[0xb])
+}
+
+pub fn of_case_j(challenge: u64) -> Run {
+    plain(&[challenge], &[0, 0, 0, 1], &[], &[0])
+}
+
+// Cases K to M.
+
+pub const LAYER_1_OF_CASE_K: [u64; 4] = [2, 4, 0x16, 0x10];
+
+pub fn of_case_k() -> Run {
+    let word = [0, 1, 4, 5, 0x10, 0x11, 0x14, 0x15];
+    plain(&[2, 3], &word, &LAYER_1_OF_CASE_K, &[1])
+}
+
+pub fn of_case_l() -> Run {
+    let mut run = of_case_k();
+    run.store[0] = 3;
+    run
+}
+
+/// The paper has the basis alone.
+pub fn of_case_m() -> Run {
+    Run {
+        basis: vec![1, 2, 3],
+        ..of_case_k()
+    }
+}
+
+// Cases O and P.
+
+/// An honest run with this last polynomial, each value of the last layer standing
+/// in all entries that are folded to it. So every fold is plain, whatever the
+/// challenge is.
+pub fn stretched(parameters: Parameters, last: &[u64]) -> Run {
+    let run = Run {
+        parameters,
+        offset: 1,
+        basis: (1..=parameters.k).map(|place| 1 << place).collect(),
+        challenges: (5..).take(parameters.rounds() as usize).collect(),
+        word: Vec::new(),
+        store: Vec::new(),
+        last: last.to_vec(),
+    };
+    let r = parameters.rounds();
+    let Coset { offset, basis } = &cosets(&run)[r as usize];
+    let points = points(*offset, basis);
+    let values: Vec<u64> = points.iter().map(|&x| value(last, x)).collect();
+    let layer = |i: u64| -> Vec<u64> {
+        let entries = 0..parameters.layer_length(i);
+        let folded = (r - i) * parameters.step;
+        entries.map(|entry| values[entry >> folded]).collect()
+    };
+    Run {
+        word: layer(0),
+        store: (1..r).flat_map(layer).collect(),
+        ..run
+    }
+}
+
+/// With step 1 a first-layer coset of these has two entries.
+pub const PARAMETERS_OF_CASE_P: Parameters = Parameters {
+    k: 9,
+    rate: 4,
+    step: 1,
+};
+
+/// One query in each of the 256 first-layer cosets.
+pub fn queries_of_case_p() -> Vec<u64> {
+    (0..256).map(|coset| 2 * coset).collect()
+}
+
+/// One query more than there may be.
+pub fn too_many_queries_of_case_p() -> Vec<u64> {
+    [&queries_of_case_p()[..], &[511]].concat()
+}

@@ -1,0 +1,183 @@
+//! Transcripts, from the definitions alone: how the lists of a judging are written
+//! as bytes, how they are read and judged, and what the program prints.
+//!
+//! Reading takes byte after byte and never goes back or ahead: no place of a
+//! section is computed. What it gives is lists, and the judge over lists decides
+//! about them.
+
+mod writing;
+
+use crate::answer::{refused, refused_at, BYTES_END, BYTES_FOLLOW, INPUT_TOO_LONG, WRONG_COUNT};
+use crate::fold::Coset;
+use crate::parameters::Parameters;
+use crate::protocol::{
+    self, cosets_from, later_layers_independent, queries_in_range, right_query_count, Run,
+};
+use crate::refusal::independent;
+use razgwilh::Answer;
+
+pub use writing::{sections, transcript, written, Section};
+
+// The judge.
+
+/// Accepts, or refuses for the first cause. The bytes may be as many as they like.
+pub fn judge(bytes: &[u8]) -> Answer {
+    match read(bytes) {
+        Ok(Judging { run, queries }) => protocol::judge(&run, &queries),
+        Err(refusal) => refusal,
+    }
+}
+
+// Reading. Each function stops at the first cause, in the paper's order.
+
+/// What a transcript carries.
+#[derive(Clone)]
+pub struct Judging {
+    pub run: Run,
+    pub queries: Vec<u64>,
+}
+
+/// What the bytes carry, or the first cause but a round check.
+pub fn read(bytes: &[u8]) -> Result<Judging, Answer> {
+    let reader = &mut Reader::of(bytes.iter().copied());
+    let parameters = parameters(reader)?;
+    let Coset { offset, basis } = coset(reader, parameters)?;
+    let challenges = reader.section_of(parameters.rounds())?;
+    let queries = queries(reader, parameters)?;
+    let word = layer(reader, parameters, 0)?;
+    let mut store = Vec::new();
+    for i in 1..parameters.rounds() {
+        store.extend(layer(reader, parameters, i)?);
+    }
+    let last = reader.section_of(parameters.last_count() as u64)?;
+    reader.end()?;
+    let run = Run {
+        parameters,
+        offset,
+        basis,
+        challenges,
+        word,
+        store,
+        last,
+    };
+    Ok(Judging { run, queries })
+}
+
+fn parameters(reader: &mut Reader<impl Iterator<Item = u8>>) -> Result<Parameters, Answer> {
+    let [k, rate, step] = reader.section_of(3)?[..] else {
+        unreachable!("a section of three has three entries");
+    };
+    let parameters = Parameters { k, rate, step };
+    parameters.may_use()?;
+    Ok(parameters)
+}
+
+/// The offset stands before the basis.
+fn coset(
+    reader: &mut Reader<impl Iterator<Item = u8>>,
+    parameters: Parameters,
+) -> Result<Coset, Answer> {
+    let mut basis = reader.section_of(1 + parameters.k)?;
+    let offset = basis.remove(0);
+    independent(&basis)?;
+    let coset = Coset { offset, basis };
+    later_layers_independent(&cosets_from(parameters, &coset))?;
+    Ok(coset)
+}
+
+fn queries(
+    reader: &mut Reader<impl Iterator<Item = u8>>,
+    parameters: Parameters,
+) -> Result<Vec<u64>, Answer> {
+    let queries = reader.section(|_, count| right_query_count(count as usize))?;
+    queries_in_range(parameters, &queries)?;
+    Ok(queries)
+}
+
+fn layer(
+    reader: &mut Reader<impl Iterator<Item = u8>>,
+    parameters: Parameters,
+    i: u64,
+) -> Result<Vec<u64>, Answer> {
+    reader.section_of(parameters.layer_length(i) as u64)
+}
+
+/// The bytes that have not been taken yet, and the section that they are in.
+struct Reader<Bytes> {
+    bytes: Bytes,
+    section: u64,
+}
+
+impl<Bytes: Iterator<Item = u8>> Reader<Bytes> {
+    fn of(bytes: Bytes) -> Self {
+        Reader { bytes, section: 0 }
+    }
+
+    /// The entries of the next section, if its number and its count may be.
+    fn section(
+        &mut self,
+        may_be: impl FnOnce(u64, u64) -> Result<(), Answer>,
+    ) -> Result<Vec<u64>, Answer> {
+        self.section += 1;
+        let count = self.number(4)?;
+        may_be(self.section, count)?;
+        (0..count).map(|_| self.number(8)).collect()
+    }
+
+    /// The entries of the next section, if there are as many as are due.
+    fn section_of(&mut self, due: u64) -> Result<Vec<u64>, Answer> {
+        self.section(|section, count| {
+            if count != due {
+                return Err(refused_at(WRONG_COUNT, section));
+            }
+            Ok(())
+        })
+    }
+
+    /// The number in the next so many bytes, the lowest of them first.
+    fn number(&mut self, bytes: u32) -> Result<u64, Answer> {
+        (0..bytes).try_fold(0, |number, place| {
+            let byte = self.bytes.next();
+            let byte = byte.ok_or(refused_at(BYTES_END, self.section))?;
+            Ok(number | u64::from(byte) << (8 * place))
+        })
+    }
+
+    fn end(&mut self) -> Result<(), Answer> {
+        match self.bytes.next() {
+            Some(_) => Err(refused(BYTES_FOLLOW)),
+            None => Ok(()),
+        }
+    }
+}
+
+// The program.
+
+/// The most bytes that the program takes.
+pub const LARGEST_INPUT: usize = 65_536;
+
+/// What the program answers: the length comes before all that the bytes say.
+pub fn judge_of_program(bytes: &[u8]) -> Answer {
+    if bytes.len() > LARGEST_INPUT {
+        return refused(INPUT_TOO_LONG);
+    }
+    judge(bytes)
+}
+
+/// What the program prints for an answer: a header and a line.
+pub fn lines(answer: &Answer) -> String {
+    let word = match answer.number {
+        0 => "accepted",
+        _ => "refused",
+    };
+    let Answer { number, reads, .. } = answer;
+    let [place, round] = [answer.place, answer.round].map(decimal_or_hyphen);
+    format!("answer number place round reads\n{word} {number} {place} {round} {reads}\n")
+}
+
+fn decimal_or_hyphen(number: Option<u64>) -> String {
+    number.map_or("-".to_string(), |number| number.to_string())
+}
+
+#[cfg(test)]
+mod tests;
