@@ -1,4 +1,5 @@
-/* The cases of Table A but N, through the C interface: prints what the program `cases` prints. */
+/* The cases of Table A, over lists and as transcripts, and a transcript for each number that bytes can get, through the C interface: prints what the
+ * program `cases` prints. */
 #include "razgwilh.h"
 
 #include <inttypes.h>
@@ -194,6 +195,53 @@ static void case_o(void) {
     printf("\n");
 }
 
+/* A value in `width` bytes, the lowest first; answers where it ends. */
+static size_t put(uint8_t *out, size_t at, uint64_t value, size_t width) {
+    for (size_t i = 0; i < width; i++) {
+        out[at + i] = (uint8_t)(value >> (8 * i));
+    }
+    return at + width;
+}
+
+/* A section: its count and its entries. */
+static size_t put_list(uint8_t *out, size_t at, const uint64_t *list, size_t length) {
+    at = put(out, at, length, 4);
+    for (size_t i = 0; i < length; i++) {
+        at = put(out, at, list[i], 8);
+    }
+    return at;
+}
+
+/* The verdict on a file of these bytes. Number 14 is that of the program, which takes no more than 65,536 of them. */
+static void show_transcript(const char *name, const uint8_t *bytes, size_t length) {
+    const uint64_t too_long[RZ_ANSWER_LENGTH] = {14, RZ_NONE, RZ_NONE, 0, RZ_NONE};
+    uint64_t answer[RZ_ANSWER_LENGTH];
+
+    printf("%s", name);
+    rz_judge_transcript(bytes, length, answer, LENGTH(answer));
+    show_verdict(length > 65536 ? too_long : answer);
+}
+
+/* k 9, R 1, step 1 as it was proved, each stored layer in its own section. */
+static void show_proved(const uint64_t *queries, size_t queries_length, const uint64_t *word, const uint64_t *store,
+                        const uint64_t *last) {
+    const uint64_t parameters[] = {9, 1, 1}, coset[] = {0, 1, 2, 4, 8, 16, 32, 64, 128, 256};
+    const uint64_t challenges[] = {1, 2, 3, 4, 5, 6, 7, 8};
+    uint64_t answer[RZ_ANSWER_LENGTH];
+    uint8_t bytes[10444];
+    size_t at = put_list(bytes, 0, parameters, LENGTH(parameters));
+
+    at = put_list(bytes, at, coset, LENGTH(coset));
+    at = put_list(bytes, at, challenges, LENGTH(challenges));
+    at = put_list(bytes, at, queries, queries_length);
+    at = put_list(bytes, at, word, 512);
+    for (size_t i = 1; i < 8; i++) {
+        rz_layer(9, 1, 1, store, 508, i, answer, LENGTH(answer));
+        at = put_list(bytes, at, store + answer[1], answer[4]);
+    }
+    show_transcript("; as a transcript: ", bytes, put_list(bytes, at, last, 1));
+}
+
 /* k 9, R 1, step 1: the word of 7, 3 at challenges 1 to 8, with a query in each of the 256 first-layer cosets, and with one more. */
 static void case_p(void) {
     const uint64_t basis[] = {1, 2, 4, 8, 16, 32, 64, 128, 256}, challenges[] = {1, 2, 3, 4, 5, 6, 7, 8};
@@ -210,10 +258,101 @@ static void case_p(void) {
     rz_judge(9, 1, 1, 0, basis, LENGTH(basis), challenges, LENGTH(challenges), queries, 256, word, LENGTH(word), store,
              LENGTH(store), last, LENGTH(last), answer, LENGTH(answer));
     show_verdict(answer);
+    show_proved(queries, 256, word, store, last);
     printf("; 257: ");
     rz_judge(9, 1, 1, 0, basis, LENGTH(basis), challenges, LENGTH(challenges), queries, 257, word, LENGTH(word), store,
              LENGTH(store), last, LENGTH(last), answer, LENGTH(answer));
     show_verdict(answer);
+    show_proved(queries, 257, word, store, last);
+    printf("\n");
+}
+
+/* k 2, R 1, step 1 over the basis 1, 2 from 0 with coefficient b and challenge 4: 136 bytes where there are two queries. */
+static size_t put_one_round(uint8_t *out, const uint64_t *word, size_t queries_length) {
+    const uint64_t parameters[] = {2, 1, 1}, coset[] = {0, 1, 2}, challenge[] = {4}, queries[] = {0, 3}, last[] = {0xb};
+    size_t at = put_list(out, 0, parameters, LENGTH(parameters));
+
+    at = put_list(out, at, coset, LENGTH(coset));
+    at = put_list(out, at, challenge, LENGTH(challenge));
+    at = put_list(out, at, queries, queries_length);
+    at = put_list(out, at, word, 4);
+    return put_list(out, at, last, LENGTH(last));
+}
+
+static void show_one_round(const char *name, const uint64_t *word, size_t queries_length) {
+    uint8_t bytes[136];
+
+    show_transcript(name, bytes, put_one_round(bytes, word, queries_length));
+}
+
+/* Case K's run with a layer 1 and a query. */
+static void show_two_rounds_as_bytes(const char *name, uint64_t first, uint64_t query) {
+    const uint64_t parameters[] = {3, 1, 1}, coset[] = {0, 1, 2, 4}, challenges[] = {2, 3};
+    const uint64_t word[] = {0, 1, 4, 5, 0x10, 0x11, 0x14, 0x15}, layer[] = {first, 4, 0x16, 0x10}, last[] = {1};
+    uint8_t bytes[212];
+    size_t at = put_list(bytes, 0, parameters, LENGTH(parameters));
+
+    at = put_list(bytes, at, coset, LENGTH(coset));
+    at = put_list(bytes, at, challenges, LENGTH(challenges));
+    at = put_list(bytes, at, &query, 1);
+    at = put_list(bytes, at, word, LENGTH(word));
+    at = put_list(bytes, at, layer, LENGTH(layer));
+    show_transcript(name, bytes, put_list(bytes, at, last, LENGTH(last)));
+}
+
+/* Case G with a number changed, and with as many bytes. */
+static void show_changed(const char *name, size_t at, uint64_t value, size_t width, size_t length) {
+    const uint64_t word[] = {7, 4, 1, 2};
+    uint8_t bytes[137] = {0};
+
+    put_one_round(bytes, word, 2);
+    put(bytes, at, value, width);
+    show_transcript(name, bytes, length);
+}
+
+/* M: k 3 and the basis 1, 2, 3. O: no layer follows the queries, and k 21. */
+static void front_cases(void) {
+    const uint64_t parameters_m[] = {3, 1, 1}, coset_m[] = {0, 1, 2, 3}, parameters[] = {20, 6, 3}, larger[] = {21, 6, 3};
+    const uint64_t challenges[] = {1, 2, 3, 4}, query[] = {0};
+    uint64_t coset[21] = {0};
+    uint8_t bytes[300];
+    size_t at = put_list(bytes, 0, parameters_m, LENGTH(parameters_m));
+
+    show_transcript("\nM  as a transcript: ", bytes, put_list(bytes, at, coset_m, LENGTH(coset_m)));
+    for (size_t i = 0; i < 20; i++) {
+        coset[i + 1] = UINT64_C(1) << i;
+    }
+    at = put_list(bytes, 0, parameters, LENGTH(parameters));
+    at = put_list(bytes, at, coset, LENGTH(coset));
+    at = put_list(bytes, at, challenges, LENGTH(challenges));
+    show_transcript("\nO  as a transcript without layers: ", bytes, put_list(bytes, at, query, LENGTH(query)));
+    show_transcript("; k 21: ", bytes, put_list(bytes, 0, larger, LENGTH(larger)));
+}
+
+static void transcripts(void) {
+    const uint64_t encoded[] = {7, 4, 1, 2}, changed[] = {7, 4, 1, 3};
+    static const uint8_t zeros[65537];
+
+    show_one_round("G  as a transcript: ", encoded, 2);
+    show_one_round("\nH  as a transcript: ", changed, 2);
+    show_one_round("\nI  as a transcript: ", changed, 1);
+    show_two_rounds_as_bytes("\nK  as a transcript, query 5: ", 2, 5);
+    show_two_rounds_as_bytes("\nL  as a transcript, query 0: ", 3, 0);
+    show_two_rounds_as_bytes("; query 7: ", 3, 7);
+    show_transcript("\nN  the empty transcript: ", zeros, 0);
+    show_changed("\nG  without its last byte: ", 0, 3, 4, 135);
+    show_changed("\nG  with another count in section 2: ", 28, 4, 4, 136);
+    show_changed("\nG  with a byte more: ", 0, 3, 4, 137);
+    show_changed("\nG  with k 21: ", 4, 21, 8, 136);
+    show_changed("\nG  with R 0: ", 12, 0, 8, 136);
+    show_changed("\nG  with step 4: ", 20, 4, 8, 136);
+    show_changed("\nG  with R 2: ", 12, 2, 8, 136);
+    show_changed("\nG  with basis 1, 1: ", 48, 1, 8, 136);
+    show_changed("\nG  with query 1 at index 4: ", 80, 4, 8, 136);
+    show_changed("\nG  with challenge 5: ", 60, 5, 8, 136);
+    show_changed("\nG  with 4294967295 queries: ", 68, 4294967295, 4, 136);
+    front_cases();
+    show_transcript("\nA file of 65537 bytes: ", zeros, LENGTH(zeros));
     printf("\n");
 }
 
@@ -225,5 +364,6 @@ int main(void) {
     two_round_cases();
     case_o();
     case_p();
+    transcripts();
     return 0;
 }

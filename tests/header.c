@@ -210,6 +210,22 @@ static void expect_own_numbers(void) {
     expect_list(last, word, 0, "rz_prove: last coefficients after a degree that is told");
 }
 
+/* Case G as a transcript, 136 bytes, and the empty one, into answer lists of every length. */
+static void expect_transcripts(size_t length) {
+    const uint64_t accepted[] = {0, RZ_NONE, RZ_NONE, 4, RZ_NONE}, empty[] = {1, 1, RZ_NONE, 0, RZ_NONE};
+    const uint8_t case_g[136] = {
+        [0] = 3, [4] = 2, [12] = 1, [20] = 1, [28] = 3, [40] = 1, [48] = 2, [56] = 1, [60] = 4, [68] = 2, [80] = 3,
+        [88] = 4, [92] = 7, [100] = 4, [108] = 1, [116] = 2, [124] = 1, [128] = 0xb};
+    uint64_t answer[LENGTHS];
+
+    fill(answer);
+    rz_judge_transcript(case_g, sizeof case_g, answer, length);
+    expect_answer(answer, length, accepted, "rz_judge_transcript: case G");
+    fill(answer);
+    rz_judge_transcript(case_g, 0, answer, length);
+    expect_answer(answer, length, empty, "rz_judge_transcript: no bytes");
+}
+
 int main(void) {
     const uint64_t of_two[] = {0, RZ_NONE, RZ_NONE, 0, UINT64_C(0x800000000000000d)};
     const uint64_t of_zero[] = {15, RZ_NONE, RZ_NONE, 0, RZ_NONE};
@@ -222,6 +238,7 @@ int main(void) {
         expect_codes(length);
         expect_fold(length);
         expect_run(length);
+        expect_transcripts(length);
     }
     expect_refused();
     expect_folds_refused();

@@ -1,4 +1,7 @@
-// Prints the cases of Table A but N: what the library answers, elements in hexadecimal, places, rounds and reads in decimal.
+// Prints the cases of Table A, over lists and as transcripts, and a transcript for each number that bytes can get: what the library answers, elements
+// in hexadecimal, places, rounds and reads in decimal.
+mod transcripts;
+
 use field::Element;
 use field::Inverted;
 use fold::Folded;
@@ -10,7 +13,7 @@ use refusal::Cause;
 use refusal::Outcome;
 use refusal::Position;
 
-fn write(text: &[u8]) {
+pub fn write(text: &[u8]) {
     io::write_all(STDOUT_FILENO, text);
 }
 
@@ -48,7 +51,7 @@ fn show_refusal(cause: Cause) {
     }
 }
 
-fn show_verdict(verdict: Verdict) {
+pub fn show_verdict(verdict: Verdict) {
     let answer = verdict.answer;
     match answer {
         Answer::Accepted => write(b"accepted"),
@@ -346,6 +349,14 @@ fn show_proved_and_judged(queries: &[u64], word: &mut [u64], store: &mut [u64]) 
         &mut last,
     );
     show_verdict(judged.verdict);
+    transcripts::show_proved(
+        b"; as a transcript: ",
+        parameters,
+        queries,
+        &word[..],
+        &store[..],
+        &last,
+    );
 }
 
 // A query in each of the 256 first-layer cosets, and one more.
@@ -372,4 +383,9 @@ fn main() {
     two_round_cases();
     case_o();
     case_p();
+    transcripts::small_cases();
+    transcripts::numbers();
+    transcripts::front_cases();
+    transcripts::too_long();
+    write(b"\n");
 }
