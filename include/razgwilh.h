@@ -79,7 +79,7 @@ void rz_fold(size_t k, size_t step, uint64_t offset, const uint64_t *basis, size
              size_t word_length, uint64_t challenge, uint64_t *values, size_t values_length, uint64_t *next_basis,
              size_t next_basis_length, uint64_t *answer, size_t answer_length);
 
-/* The protocol over lists. k is 2 to 20, the rate 1 to 6, the step 1 to 3, and k is at least rate + step; there are r = (k - rate) / step rounds,
+/* The protocol over lists. k is 2 to 20, the rate (R) 1 to 6, the step (eta) 1 to 3, and k is at least rate + step; there are r = (k - rate) / step rounds,
  * rounded down. Layer 0 is the word, over the coset of dimension k with this offset and basis. Round i, from 0, folds layer i at challenge i with
  * the step, as rz_fold does: the fold is layer i + 1, over the next coset, with its next offset and next basis. Layer i has
  * 2^(k - i * step) entries. Layers 1 to r - 1 lie joined in the store, which has the sum of their entries, none when r is 1. Layer r, of at most 256

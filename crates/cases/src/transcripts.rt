@@ -127,7 +127,7 @@ pub fn small_cases() {
     show(b"\nN  the empty transcript: ", &[], 0);
 }
 
-// One for each of the numbers 1 to 8, 10, 11 and 14; number 9 is in case P.
+// One for each of the numbers 1 to 11, 9 last; 14 is in `too_long`.
 pub fn numbers() {
     show_changed(b"\nG  without its last byte: ", 0, 3, 4, 135);
     show_changed(b"\nG  with another count in section 2: ", 28, 4, 4, 136);

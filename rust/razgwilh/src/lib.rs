@@ -8,8 +8,8 @@
 //! There is arithmetic ([`sum`], [`product`], [`inverse`]), [`encode`] and [`interpolate`], a lone
 //! [`fold`], the prover ([`prove`]), the [`layer`] of a store, and the judge, over lists ([`judge`]) and
 //! over the bytes of a transcript ([`judge_transcript`]). Nothing is refused by a panic: an [`Answer`] has
-//! the number of the cause. `include/razgwilh.h` describes each function in full, with the order of its
-//! refusals.
+//! the number of the cause, which `docs/NUMBERS.md` lists; number 16 is checked for and never comes about.
+//! `include/razgwilh.h` describes each function in full, with the order of its refusals.
 //!
 //! # Example
 //!
