@@ -1,7 +1,7 @@
 // The C interface. include/razgwilh.h says the same to C.
-use answers::Answer;
+use c_answers::Answer;
 use field::Element;
-use layers::Parameters;
+use layout::Parameters;
 ghost use mathlib.Core.Path.{_≡_};
 ghost use lib.ListN.{length};
 ghost use Rattle.gf64.specs.Field.{sum, product};
@@ -10,10 +10,10 @@ ghost use Rattle.reed_solomon.specs.Answers.{encodeOutcome, interpolateOutcome,
 ghost use Rattle.fold.specs.Answers.{foldAnswer, foldValuesAfter, nextBasisAfter};
 ghost use Rattle.fri.specs.Judge.{verdictOf};
 ghost use Rattle.fri.specs.Prover.{proveOutcome, storeAfter, lastAfter};
-ghost use Rattle.layers.specs.Parameters.{runOf};
-ghost use Rattle.layers.specs.Parts.{partOf};
+ghost use Rattle.layout.specs.Parameters.{runOf};
+ghost use Rattle.layout.specs.Parts.{partOf};
 ghost use Rattle.transcript.specs.Judge.{transcriptVerdict};
-ghost use Rattle.answers.specs.Answers.{answerOfInverted, answerOfFolded, answerOfOutcome, answerOfProved, answerOfPart, answerOfVerdict, answered, whereAnswered};
+ghost use Rattle.c_answers.specs.Answers.{answerOfInverted, answerOfFolded, answerOfOutcome, answerOfProved, answerOfPart, answerOfVerdict, answered, whereAnswered};
 
 // How many numbers an answer has.
 const ANSWER_LENGTH: usize = 5;
@@ -181,7 +181,7 @@ pub extern "C" fn rz_judge(
         return;
     }
     let parameters = Parameters { k, rate, step };
-    let verdict = judging::judge(
+    let verdict = list_judge::judge(
         parameters,
         Element(offset),
         basis,

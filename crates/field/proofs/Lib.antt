@@ -1,5 +1,2 @@
-mod Multiples
 mod Ones
-mod Reduction
-mod Schoolbook
-mod Wide
+mod Remainders

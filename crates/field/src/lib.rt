@@ -1,6 +1,6 @@
 // The field of 2^64 elements: a polynomial over GF(2) of degree below 64, bit i the coefficient of t^i,
 // modulo t^64 + t^4 + t^3 + t + 1.
-mod polynomial;
+mod reduction;
 
 use refusal::Cause;
 ghost use mathlib.Core.Path.{_≡_};
@@ -35,7 +35,7 @@ impl Element {
         ensures value { λ r. ⌜ r .0 ≡ product (self .0) (other .0) ⌝ }
         ensures constant { λ _. do ⌜ (← ⟦Element::REDUCTION.0⟧ .entry) ≡ remainder (2 ^ 64) ⌝ }
     {
-        Element(polynomial::product(self.0, other.0))
+        Element(reduction::product(self.0, other.0))
     }
 
     // Number 15 where self is zero.
@@ -84,7 +84,7 @@ impl Element {
         let mut x = self.0;
         let mut i: usize = 0;
         while i < n {
-            x = polynomial::product(x, x);
+            x = reduction::product(x, x);
             i += 1;
         }
         Element(x)

@@ -17,7 +17,7 @@ use Rattle.coset.specs.Span.{firstDependent, Independent}
 use Rattle.coset.proofs.Independence.{independent-of}
 use Rattle.coset.specs.Subspace.{nextBasis}
 use Rattle.fold.specs.declared.Folded.the-variants as answers
-use Rattle.fold.specs.Answers.{rangesOutcome, lengthsOutcome, outcomeOfNextBasis, basesOutcome, foldOutcome, answerOf}
+use Rattle.fold.specs.Answers.{foldRangesOutcome, foldLengthsOutcome, outcomeOfNextBasis, foldBasesOutcome, foldOutcome, foldedOf}
 
 -- ---- ranges
 
@@ -28,22 +28,22 @@ module _ (k step : ℕ) where
   abbrev pub stepChecked : Outcome
   stepChecked = refusedUnless (leb 1 step && leb step 3) StepOutOfRange smallEnough
 
-  pub dimension-refused : (leb 2 k && leb k 20) ≡ false → Refused DimensionOutOfRange ≡ rangesOutcome k step
+  pub dimension-refused : (leb 2 k && leb k 20) ≡ false → Refused DimensionOutOfRange ≡ foldRangesOutcome k step
   dimension-refused e = refused-by (leb 2 k && leb k 20) DimensionOutOfRange stepChecked e
 
-  pub step-refused : (leb 2 k && leb k 20) ≡ true → (leb 1 step && leb step 3) ≡ false → Refused StepOutOfRange ≡ rangesOutcome k step
+  pub step-refused : (leb 2 k && leb k 20) ≡ true → (leb 1 step && leb step 3) ≡ false → Refused StepOutOfRange ≡ foldRangesOutcome k step
   step-refused e f =
       refused-by (leb 1 step && leb step 3) StepOutOfRange smallEnough f
       ∙ passed-by (leb 2 k && leb k 20) DimensionOutOfRange stepChecked e
 
   pub too-small-refused : (leb 2 k && leb k 20) ≡ true → (leb 1 step && leb step 3) ≡ true → leb step k ≡ false
-      → Refused DimensionTooSmall ≡ rangesOutcome k step
+      → Refused DimensionTooSmall ≡ foldRangesOutcome k step
   too-small-refused e f g =
       refused-by (leb step k) DimensionTooSmall Done g
       ∙ passed-by (leb 1 step && leb step 3) StepOutOfRange smallEnough f
       ∙ passed-by (leb 2 k && leb k 20) DimensionOutOfRange stepChecked e
 
-  pub ranges-pass : (leb 2 k && leb k 20) ≡ true → (leb 1 step && leb step 3) ≡ true → leb step k ≡ true → Done ≡ rangesOutcome k step
+  pub ranges-pass : (leb 2 k && leb k 20) ≡ true → (leb 1 step && leb step 3) ≡ true → leb step k ≡ true → Done ≡ foldRangesOutcome k step
   ranges-pass e f g =
       passed-by (leb step k) DimensionTooSmall Done g
       ∙ passed-by (leb 1 step && leb step 3) StepOutOfRange smallEnough f
@@ -56,7 +56,7 @@ pub record InRange (k step : ℕ) : Type 0 where
   pub step-at-most-3 : step ≤ 3
   pub step-fits : step ≤ k
 
-pub in-range : (k step : ℕ) → rangesOutcome k step ≡ Done → InRange k step
+pub in-range : (k step : ℕ) → foldRangesOutcome k step ≡ Done → InRange k step
 in-range k step e =
     let first = unless-done (leb 2 k && leb k 20) DimensionOutOfRange (stepChecked k step) e in
     let second = unless-done (leb 1 step && leb step 3) StepOutOfRange (smallEnough k step) (first .1) in
@@ -83,32 +83,32 @@ module _ (k step length1 length3 length6 length7 : ℕ) where
   abbrev pub after1 : Outcome
   after1 = refusedUnless (eqb length3 (2 ^ k)) (WrongLength 3) after3
 
-  pub list1-refused : eqb length1 k ≡ false → Refused (WrongLength 1) ≡ lengthsOutcome k step length1 length3 length6 length7
+  pub list1-refused : eqb length1 k ≡ false → Refused (WrongLength 1) ≡ foldLengthsOutcome k step length1 length3 length6 length7
   list1-refused e = refused-by (eqb length1 k) (WrongLength 1) after1 e
 
-  list1-passed : eqb length1 k ≡ true → after1 ≡ lengthsOutcome k step length1 length3 length6 length7
+  list1-passed : eqb length1 k ≡ true → after1 ≡ foldLengthsOutcome k step length1 length3 length6 length7
   list1-passed e = passed-by (eqb length1 k) (WrongLength 1) after1 e
 
-  pub list3-refused : eqb length1 k ≡ true → eqb length3 (2 ^ k) ≡ false → Refused (WrongLength 3) ≡ lengthsOutcome k step length1 length3 length6 length7
+  pub list3-refused : eqb length1 k ≡ true → eqb length3 (2 ^ k) ≡ false → Refused (WrongLength 3) ≡ foldLengthsOutcome k step length1 length3 length6 length7
   list3-refused e f = refused-by (eqb length3 (2 ^ k)) (WrongLength 3) after3 f ∙ list1-passed e
 
-  list3-passed : eqb length1 k ≡ true → eqb length3 (2 ^ k) ≡ true → after3 ≡ lengthsOutcome k step length1 length3 length6 length7
+  list3-passed : eqb length1 k ≡ true → eqb length3 (2 ^ k) ≡ true → after3 ≡ foldLengthsOutcome k step length1 length3 length6 length7
   list3-passed e f = passed-by (eqb length3 (2 ^ k)) (WrongLength 3) after3 f ∙ list1-passed e
 
   pub list6-refused : eqb length1 k ≡ true → eqb length3 (2 ^ k) ≡ true → eqb length6 (2 ^ (k - step)) ≡ false
-      → Refused (WrongLength 6) ≡ lengthsOutcome k step length1 length3 length6 length7
+      → Refused (WrongLength 6) ≡ foldLengthsOutcome k step length1 length3 length6 length7
   list6-refused e f g = refused-by (eqb length6 (2 ^ (k - step))) (WrongLength 6) after6 g ∙ list3-passed e f
 
   list6-passed : eqb length1 k ≡ true → eqb length3 (2 ^ k) ≡ true → eqb length6 (2 ^ (k - step)) ≡ true
-      → after6 ≡ lengthsOutcome k step length1 length3 length6 length7
+      → after6 ≡ foldLengthsOutcome k step length1 length3 length6 length7
   list6-passed e f g = passed-by (eqb length6 (2 ^ (k - step))) (WrongLength 6) after6 g ∙ list3-passed e f
 
   pub list7-refused : eqb length1 k ≡ true → eqb length3 (2 ^ k) ≡ true → eqb length6 (2 ^ (k - step)) ≡ true → eqb length7 (k - step) ≡ false
-      → Refused (WrongLength 7) ≡ lengthsOutcome k step length1 length3 length6 length7
+      → Refused (WrongLength 7) ≡ foldLengthsOutcome k step length1 length3 length6 length7
   list7-refused e f g h = refused-by (eqb length7 (k - step)) (WrongLength 7) Done h ∙ list6-passed e f g
 
   pub lengths-pass : eqb length1 k ≡ true → eqb length3 (2 ^ k) ≡ true → eqb length6 (2 ^ (k - step)) ≡ true → eqb length7 (k - step) ≡ true
-      → Done ≡ lengthsOutcome k step length1 length3 length6 length7
+      → Done ≡ foldLengthsOutcome k step length1 length3 length6 length7
   lengths-pass e f g h = passed-by (eqb length7 (k - step)) (WrongLength 7) Done h ∙ list6-passed e f g
 
 pub record Fitting (k step length1 length3 length6 length7 : ℕ) : Type 0 where
@@ -117,7 +117,7 @@ pub record Fitting (k step length1 length3 length6 length7 : ℕ) : Type 0 where
   pub list6-fits : length6 ≡ 2 ^ (k - step)
   pub list7-fits : length7 ≡ k - step
 
-pub fitting : (k step length1 length3 length6 length7 : ℕ) → lengthsOutcome k step length1 length3 length6 length7 ≡ Done → Fitting k step length1 length3 length6 length7
+pub fitting : (k step length1 length3 length6 length7 : ℕ) → foldLengthsOutcome k step length1 length3 length6 length7 ≡ Done → Fitting k step length1 length3 length6 length7
 fitting k step length1 length3 length6 length7 e =
     let first = unless-done (eqb length1 k) (WrongLength 1) (after1 k step length1 length3 length6 length7) e in
     let second = unless-done (eqb length3 (2 ^ k)) (WrongLength 3) (after3 k step length1 length3 length6 length7) (first .1) in
@@ -139,9 +139,9 @@ pub record Passed (k step : ℕ) (basis word values next : List ℕ) : Type 0 wh
 
 pub passed : (k step : ℕ) (basis word values next : List ℕ) → foldOutcome k step basis word values next ≡ Done → Passed k step basis word values next
 passed k step basis word values next e =
-    let lengths = lengthsOutcome k step (length basis) (length word) (length values) (length next) in
-    let first = then-done (rangesOutcome k step) (andThen lengths (basesOutcome step basis)) e in
-    let second = then-done lengths (basesOutcome step basis) (first .1) in
+    let lengths = foldLengthsOutcome k step (length basis) (length word) (length values) (length next) in
+    let first = then-done (foldRangesOutcome k step) (andThen lengths (foldBasesOutcome step basis)) e in
+    let second = then-done lengths (foldBasesOutcome step basis) (first .1) in
     let third = then-done (outcomeOfBasis (firstDependent basis)) (outcomeOfNextBasis (firstDependent (nextBasis step basis))) (second .1) in
     record {
       ranges = in-range k step (first .0);
@@ -169,15 +169,15 @@ passed-facts k step basis word values next p =
 
 pub done-all : (outcome : Outcome) (offset : Element) (wanted : ℕ) (values values′ wanted6 next next′ wanted7 : List ℕ) → outcome ≡ Done
     → offset .0 ≡ wanted → values′ ≡ wanted6 → next′ ≡ wanted7
-    → (answers.NextOffset offset ≡ answerOf outcome wanted) × ((values′ ≡ afterwards outcome wanted6 values) × (next′ ≡ afterwards outcome wanted7 next))
+    → (answers.NextOffset offset ≡ foldedOf outcome wanted) × ((values′ ≡ afterwards outcome wanted6 values) × (next′ ≡ afterwards outcome wanted7 next))
 done-all outcome offset wanted values values′ wanted6 next next′ wanted7 e o v n = (
-  ap (λ (x : ℕ). answers.NextOffset (record { 0 = x })) o ∙ sym (ap (λ (t : Outcome). answerOf t wanted) e),
+  ap (λ (x : ℕ). answers.NextOffset (record { 0 = x })) o ∙ sym (ap (λ (t : Outcome). foldedOf t wanted) e),
   (done-holds outcome wanted6 values values′ e v, done-holds outcome wanted7 next next′ e n),
 )
 
 pub refused-all : (outcome : Outcome) (cause : Cause) (wanted : ℕ) (values wanted6 next wanted7 : List ℕ) → outcome ≡ Refused cause
-    → (answers.Refused cause ≡ answerOf outcome wanted) × ((values ≡ afterwards outcome wanted6 values) × (next ≡ afterwards outcome wanted7 next))
+    → (answers.Refused cause ≡ foldedOf outcome wanted) × ((values ≡ afterwards outcome wanted6 values) × (next ≡ afterwards outcome wanted7 next))
 refused-all outcome cause wanted values wanted6 next wanted7 e = (
-  sym (ap (λ (t : Outcome). answerOf t wanted) e),
+  sym (ap (λ (t : Outcome). foldedOf t wanted) e),
   (refused-holds outcome cause wanted6 values e, refused-holds outcome cause wanted7 next e),
 )

@@ -23,11 +23,11 @@ use Rattle.coset.specs.Span.{firstDependent, Independent}
 use Rattle.coset.specs.Answers.{outcomeOfBasis}
 use Rattle.coset.specs.Subspace.{nextOffset, nextBasis}
 use Rattle.coset.proofs.Subspace.{next-independent}
-use Rattle.fold.specs.Answers.{rangesOutcome, lengthsOutcome, outcomeOfNextBasis, basesOutcome, foldOutcome, answerOf, foldAnswer, foldValuesAfter, nextBasisAfter, numberOfFolded, placeOfFolded, roundOfFolded, valueOfFolded}
+use Rattle.fold.specs.Answers.{foldRangesOutcome, foldLengthsOutcome, outcomeOfNextBasis, foldBasesOutcome, foldOutcome, foldedOf, foldAnswer, foldValuesAfter, nextBasisAfter, numberOfFolded, placeOfFolded, roundOfFolded, valueOfFolded}
 use Rattle.fold.specs.declared.Folded.{Folded}
 use Rattle.fold.specs.declared.Folded.the-variants.{NextOffset}
 use Rattle.fold.specs.Fold.{folded}
-use Rattle.fold.specs.Theorems.{InRange, Fits, Tells, FoldAccepted, Refuses, FoldRefusals}
+use Rattle.fold.specs.Theorems.{InRange, FoldFits, FoldTells, FoldAccepted, Refuses, FoldRefusals}
 use Rattle.fold.proofs.Checks as checks
 
 in-range-k : (k step : ℕ) → InRange k step → (leb 2 k && leb k 20) ≡ true
@@ -41,38 +41,38 @@ module _ (k step : ℕ) (basis word values next : List ℕ) where
   outcome = foldOutcome k step basis word values next
 
   abbrev lengths : Outcome
-  lengths = lengthsOutcome k step (length basis) (length word) (length values) (length next)
+  lengths = foldLengthsOutcome k step (length basis) (length word) (length values) (length next)
 
   abbrev bases : Outcome
-  bases = basesOutcome step basis
+  bases = foldBasesOutcome step basis
 
-  ranges-refuse : (cause : Cause) → Refused cause ≡ rangesOutcome k step → Refused cause ≡ outcome
-  ranges-refuse cause e = then-refused (rangesOutcome k step) (andThen lengths bases) cause (sym e)
+  ranges-refuse : (cause : Cause) → Refused cause ≡ foldRangesOutcome k step → Refused cause ≡ outcome
+  ranges-refuse cause e = then-refused (foldRangesOutcome k step) (andThen lengths bases) cause (sym e)
 
   module _ (r : InRange k step) (fits : step ≤ k) where
-    ranges-passed : rangesOutcome k step ≡ Done
+    ranges-passed : foldRangesOutcome k step ≡ Done
     ranges-passed = sym (checks.ranges-pass k step (in-range-k k step r) (in-range-step k step r) (le-leb step k fits))
 
     lengths-refuse : (cause : Cause) → Refused cause ≡ lengths → Refused cause ≡ outcome
-    lengths-refuse cause e = then-refused lengths bases cause (sym e) ∙ then-passed (rangesOutcome k step) (andThen lengths bases) ranges-passed
+    lengths-refuse cause e = then-refused lengths bases cause (sym e) ∙ then-passed (foldRangesOutcome k step) (andThen lengths bases) ranges-passed
 
-    bases-decide : Fits k step basis word values next → bases ≡ outcome
+    bases-decide : FoldFits k step basis word values next → bases ≡ outcome
     bases-decide f =
         then-passed lengths bases
         (sym
         (checks.lengths-pass k step (length basis) (length word) (length values) (length next) (eq-eqb (length basis) k (f .0)) (eq-eqb (length word) (2 ^ k) (f .1))
         (eq-eqb (length values) (2 ^ (k - step)) (f .2)) (eq-eqb (length next) (k - step) (f .3))))
-        ∙ then-passed (rangesOutcome k step) (andThen lengths bases) ranges-passed
+        ∙ then-passed (foldRangesOutcome k step) (andThen lengths bases) ranges-passed
 
 -- an independent basis passes, and number 16 does not come
-bases-pass : (step : ℕ) (basis : List ℕ) → All IsElement basis → Independent basis → basesOutcome step basis ≡ Done
+bases-pass : (step : ℕ) (basis : List ℕ) → All IsElement basis → Independent basis → foldBasesOutcome step basis ≡ Done
 bases-pass step basis h d =
     sym (then-passed (outcomeOfBasis (firstDependent basis)) (outcomeOfNextBasis (firstDependent (nextBasis step basis))) (ap outcomeOfBasis d))
     ∙ ap outcomeOfNextBasis (next-independent step basis h d)
 
 accepts : (k step : ℕ) (basis word values next : List ℕ) → All IsElement basis
     → (foldOutcome k step basis word values next ≡ Done)
-    ↔ (InRange k step × (step ≤ k) × Fits k step basis word values next × Independent basis)
+    ↔ (InRange k step × (step ≤ k) × FoldFits k step basis word values next × Independent basis)
 accepts k step basis word values next h = (
   λ e.
       let p = checks.passed k step basis word values next e in
@@ -88,15 +88,15 @@ refuses : (k step : ℕ) (basis word values next : List ℕ) (cause : Cause) →
 refuses k step basis word values next cause e offset x =
     subst
     (λ (o : Outcome).
-    Tells (answerOf o (nextOffset step offset basis)) (numberOf cause) (placeOf cause) (roundOf cause)
-    × ((none : ℕ) → valueOfFolded (answerOf o (nextOffset step offset basis)) none ≡ none)
+    FoldTells (foldedOf o (nextOffset step offset basis)) (numberOf cause) (placeOf cause) (roundOf cause)
+    × ((none : ℕ) → valueOfFolded (foldedOf o (nextOffset step offset basis)) none ≡ none)
     × (afterwards o (folded step offset basis word x) values ≡ values)
     × (afterwards o (nextBasis step basis) next ≡ next))
     e ((refl, refl, refl), (λ none. refl), refl, refl)
 
 answers-done : (k step offset : ℕ) (basis word : List ℕ) (x : ℕ) (values next : List ℕ) → foldOutcome k step basis word values next ≡ Done
     → (foldAnswer k step offset basis word values next ≡ NextOffset (record { 0 = nextOffset step offset basis }))
-    × Tells (foldAnswer k step offset basis word values next) 0 Absent Absent
+    × FoldTells (foldAnswer k step offset basis word values next) 0 Absent Absent
     × ((none : ℕ) → valueOfFolded (foldAnswer k step offset basis word values next) none ≡ nextOffset step offset basis)
     × (foldValuesAfter k step offset basis word x values next ≡ folded step offset basis word x)
     × (nextBasisAfter k step basis word values next ≡ nextBasis step basis)
@@ -109,9 +109,9 @@ answers-done k step offset basis word x values next e = (
 )
   where
     is-offset : foldAnswer k step offset basis word values next ≡ NextOffset (record { 0 = nextOffset step offset basis })
-    is-offset = ap (λ (o : Outcome). answerOf o (nextOffset step offset basis)) e
+    is-offset = ap (λ (o : Outcome). foldedOf o (nextOffset step offset basis)) e
 
-dependent-refused : (step : ℕ) (basis : List ℕ) (place : ℕ) → firstDependent basis ≡ At place → Refused (BasisDependent place) ≡ basesOutcome step basis
+dependent-refused : (step : ℕ) (basis : List ℕ) (place : ℕ) → firstDependent basis ≡ At place → Refused (BasisDependent place) ≡ foldBasesOutcome step basis
 dependent-refused step basis place e =
     then-refused (outcomeOfBasis (firstDependent basis)) (outcomeOfNextBasis (firstDependent (nextBasis step basis))) (BasisDependent place) (ap outcomeOfBasis e)
 
@@ -121,21 +121,21 @@ dependent-refused step basis place e =
 abbrev Other : Outcome → Type 0
 Other outcome = numberOfOutcome outcome < 16
 
-other-bases : (step : ℕ) (basis : List ℕ) → All IsElement basis → Other (basesOutcome step basis)
+other-bases : (step : ℕ) (basis : List ℕ) → All IsElement basis → Other (foldBasesOutcome step basis)
 other-bases step basis h = by (firstDependent basis) refl
   where
-    by : (p : Position) → firstDependent basis ≡ p → numberOfOutcome (basesOutcome step basis) < 16
+    by : (p : Position) → firstDependent basis ≡ p → numberOfOutcome (foldBasesOutcome step basis) < 16
     by (At place) e = subst (λ (o : Outcome). numberOfOutcome o < 16) (dependent-refused step basis place e) (omega arith)
     by Absent e = subst (λ (o : Outcome). numberOfOutcome o < 16) (sym (bases-pass step basis h e)) (omega arith)
 
 other-all : (k step : ℕ) (basis word values next : List ℕ) → All IsElement basis → Other (foldOutcome k step basis word values next)
 other-all k step basis word values next h =
-    number-then (λ n. n < 16) (rangesOutcome k step) (andThen lengths (basesOutcome step basis)) ranges-other (number-then (λ n. n < 16) lengths (basesOutcome step basis) lengths-other (other-bases step basis h))
+    number-then (λ n. n < 16) (foldRangesOutcome k step) (andThen lengths (foldBasesOutcome step basis)) ranges-other (number-then (λ n. n < 16) lengths (foldBasesOutcome step basis) lengths-other (other-bases step basis h))
   where
     lengths : Outcome
-    lengths = lengthsOutcome k step (length basis) (length word) (length values) (length next)
+    lengths = foldLengthsOutcome k step (length basis) (length word) (length values) (length next)
 
-    ranges-other : Other (rangesOutcome k step)
+    ranges-other : Other (foldRangesOutcome k step)
     ranges-other =
         number-unless (λ n. n < 16) (leb 2 k && leb k 20) DimensionOutOfRange (checks.stepChecked k step) (omega arith)
         (number-unless (λ n. n < 16) (leb 1 step && leb step 3) StepOutOfRange (checks.smallEnough k step) (omega arith)
@@ -157,7 +157,7 @@ other-all k step basis word values next h =
         (number-unless (λ n. n < 16) (eqb (length values) (2 ^ (k - step))) (WrongLength 6) after6 (omega arith)
         (number-unless (λ n. n < 16) (eqb (length next) (k - step)) (WrongLength 7) Done (omega arith) (omega arith))))
 
-same-number : (outcome : Outcome) (offset : ℕ) → numberOfFolded (answerOf outcome offset) ≡ numberOfOutcome outcome
+same-number : (outcome : Outcome) (offset : ℕ) → numberOfFolded (foldedOf outcome offset) ≡ numberOfOutcome outcome
 same-number Done offset = refl
 same-number (Refused cause) offset = refl
 

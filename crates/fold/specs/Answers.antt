@@ -19,16 +19,16 @@ use Rattle.fold.specs.declared.Folded.the-variants as answers
 use Rattle.fold.specs.Fold.{folded}
 
 -- the ranges: k 2..20 (number 4), the step 1..3 (6), k at least the step (7)
-abbrev pub rangesOutcome : ℕ → ℕ → Outcome
-rangesOutcome k step =
+abbrev pub foldRangesOutcome : ℕ → ℕ → Outcome
+foldRangesOutcome k step =
     refusedUnless (leb 2 k && leb k 20) DimensionOutOfRange
     (refusedUnless (leb 1 step && leb step 3) StepOutOfRange
     (refusedUnless (leb step k) DimensionTooSmall
     Done))
 
 -- the lengths of lists 1, 3, 6 and 7, which are basis, word, values and next basis: the lowest list whose length is not the one due (13)
-abbrev pub lengthsOutcome : ℕ → ℕ → ℕ → ℕ → ℕ → ℕ → Outcome
-lengthsOutcome k step length1 length3 length6 length7 =
+abbrev pub foldLengthsOutcome : ℕ → ℕ → ℕ → ℕ → ℕ → ℕ → Outcome
+foldLengthsOutcome k step length1 length3 length6 length7 =
     refusedUnless (eqb length1 k) (WrongLength 1)
     (refusedUnless (eqb length3 (2 ^ k)) (WrongLength 3)
     (refusedUnless (eqb length6 (2 ^ (k - step))) (WrongLength 6)
@@ -40,25 +40,25 @@ abbrev pub outcomeOfNextBasis : Position → Outcome
 outcomeOfNextBasis next = outcomeOfLaterBasis 0 next
 
 -- the basis (8), then the next one
-abbrev pub basesOutcome : ℕ → List ℕ → Outcome
-basesOutcome step basis =
+abbrev pub foldBasesOutcome : ℕ → List ℕ → Outcome
+foldBasesOutcome step basis =
     andThen (outcomeOfBasis (firstDependent basis)) (outcomeOfNextBasis (firstDependent (nextBasis step basis)))
 
 -- all checks, in the order of document 01: 4, 6, 7, 13, 8, 16
 abbrev pub foldOutcome : ℕ → ℕ → List ℕ → List ℕ → List ℕ → List ℕ → Outcome
 foldOutcome k step basis word values next =
-    andThen (rangesOutcome k step)
-    (andThen (lengthsOutcome k step (length basis) (length word) (length values) (length next))
-    (basesOutcome step basis))
+    andThen (foldRangesOutcome k step)
+    (andThen (foldLengthsOutcome k step (length basis) (length word) (length values) (length next))
+    (foldBasesOutcome step basis))
 
 -- the next offset, or the refusal
-abbrev pub answerOf : Outcome → ℕ → Folded
-answerOf Done offset = answers.NextOffset (record { 0 = offset })
-answerOf (Refused cause) offset = answers.Refused cause
+abbrev pub foldedOf : Outcome → ℕ → Folded
+foldedOf Done offset = answers.NextOffset (record { 0 = offset })
+foldedOf (Refused cause) offset = answers.Refused cause
 
 -- the answer of a call
 abbrev pub foldAnswer : ℕ → ℕ → ℕ → List ℕ → List ℕ → List ℕ → List ℕ → Folded
-foldAnswer k step offset basis word values next = answerOf (foldOutcome k step basis word values next) (nextOffset step offset basis)
+foldAnswer k step offset basis word values next = foldedOf (foldOutcome k step basis word values next) (nextOffset step offset basis)
 
 -- what list 6 holds afterwards
 abbrev pub foldValuesAfter : ℕ → ℕ → ℕ → List ℕ → List ℕ → ℕ → List ℕ → List ℕ → List ℕ

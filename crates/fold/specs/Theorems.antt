@@ -104,23 +104,23 @@ abbrev pub InRange : ℕ → ℕ → Type 0
 InRange k step = (2 ≤ k) × (k ≤ 20) × (1 ≤ step) × (step ≤ 3)
 
 -- the lists have the lengths due
-abbrev pub Fits : ℕ → ℕ → List ℕ → List ℕ → List ℕ → List ℕ → Type 0
-Fits k step basis word values next =
+abbrev pub FoldFits : ℕ → ℕ → List ℕ → List ℕ → List ℕ → List ℕ → Type 0
+FoldFits k step basis word values next =
     (length basis ≡ k) × (length word ≡ 2 ^ k) × (length values ≡ 2 ^ (k - step)) × (length next ≡ k - step)
 
 -- an answer's number, place and round
-abbrev pub Tells : Folded → ℕ → Position → Position → Type 0
-Tells answer number place round =
+abbrev pub FoldTells : Folded → ℕ → Position → Position → Type 0
+FoldTells answer number place round =
     (numberOfFolded answer ≡ number) × (placeOfFolded answer ≡ place) × (roundOfFolded answer ≡ round)
 
 -- which calls are done, and what they answer and leave; number 16 has no part in it
 pub record FoldAccepted : Type 0 where
   pub done : (k step : ℕ) (basis word values next : List ℕ) → All IsElement basis
       → (foldOutcome k step basis word values next ≡ Done)
-      ↔ (InRange k step × (step ≤ k) × Fits k step basis word values next × Independent basis)
+      ↔ (InRange k step × (step ≤ k) × FoldFits k step basis word values next × Independent basis)
   pub answer : (k step offset : ℕ) (basis word : List ℕ) (x : ℕ) (values next : List ℕ) → foldOutcome k step basis word values next ≡ Done
       → (foldAnswer k step offset basis word values next ≡ NextOffset (record { 0 = nextOffset step offset basis }))
-      × Tells (foldAnswer k step offset basis word values next) 0 Absent Absent
+      × FoldTells (foldAnswer k step offset basis word values next) 0 Absent Absent
       × ((none : ℕ) → valueOfFolded (foldAnswer k step offset basis word values next) none ≡ nextOffset step offset basis)
       × (foldValuesAfter k step offset basis word x values next ≡ folded step offset basis word x)
       × (nextBasisAfter k step basis word values next ≡ nextBasis step basis)
@@ -129,7 +129,7 @@ pub record FoldAccepted : Type 0 where
 abbrev pub Refuses : ℕ → ℕ → List ℕ → List ℕ → List ℕ → List ℕ → ℕ → Position → Position → Type 0
 Refuses k step basis word values next number place round =
     (offset x : ℕ)
-    → Tells (foldAnswer k step offset basis word values next) number place round
+    → FoldTells (foldAnswer k step offset basis word values next) number place round
     × ((none : ℕ) → valueOfFolded (foldAnswer k step offset basis word values next) none ≡ none)
     × (foldValuesAfter k step offset basis word x values next ≡ values)
     × (nextBasisAfter k step basis word values next ≡ next)
@@ -149,7 +149,7 @@ pub record FoldRefusals : Type 0 where
       → length values ≢ 2 ^ (k - step) → Refuses k step basis word values next 13 (At 6) Absent
   pub list7 : (k step : ℕ) (basis word values next : List ℕ) → InRange k step → step ≤ k → length basis ≡ k → length word ≡ 2 ^ k
       → length values ≡ 2 ^ (k - step) → length next ≢ k - step → Refuses k step basis word values next 13 (At 7) Absent
-  pub dependent : (k step : ℕ) (basis word values next : List ℕ) (place : ℕ) → InRange k step → step ≤ k → Fits k step basis word values next
+  pub dependent : (k step : ℕ) (basis word values next : List ℕ) (place : ℕ) → InRange k step → step ≤ k → FoldFits k step basis word values next
       → firstDependent basis ≡ At place → Refuses k step basis word values next 8 (At place) Absent
   -- number 16 is given to no call
   pub never16 : (k step offset : ℕ) (basis word values next : List ℕ) → All IsElement basis

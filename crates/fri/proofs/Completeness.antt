@@ -32,7 +32,7 @@ use Rattle.fri.specs.declared.Verdict.{Verdict}
 use Rattle.fri.specs.Layout.{dimension, lastCount, storeLength, indexIn}
 use Rattle.fri.specs.Run.{Run, stepsIn, roundsIn, stepIn}
 use Rattle.fri.specs.Layers.{basisIn, offsetIn, foldOf, honestLayer, honestStore, lastInterpolant, honestLast, honest}
-use Rattle.fri.specs.Layout.{joined}
+use Rattle.fri.specs.Layout.{joinedLayers}
 use Rattle.fri.specs.Checks.{runOutcome}
 use Rattle.fri.specs.Judge.{verdictOf, numberOfAnswer}
 use Rattle.fri.specs.Rounds.{valueComputed, valueFound}
@@ -189,11 +189,11 @@ proves run v p low ls ll =
 
 -- ---- the numbers of an honest run
 
-joined-elements : (run : Run) → ValidCoset run → ProverInput run → (n : ℕ) → n ≤ roundsIn run → All IsElement (joined (honestLayer run) n)
-unfolding joined
+joined-elements : (run : Run) → ValidCoset run → ProverInput run → (n : ℕ) → n ≤ roundsIn run → All IsElement (joinedLayers (honestLayer run) n)
+unfolding joinedLayers
 joined-elements run v p zero h = record {}
 joined-elements run v p (suc n) h =
-    all-append IsElement (joined (honestLayer run) n) (honestLayer run (suc n)) (joined-elements run v p n (omega arith)) (honest-is-word run v p (suc n) h .word-elements)
+    all-append IsElement (joinedLayers (honestLayer run) n) (honestLayer run (suc n)) (joined-elements run v p n (omega arith)) (honest-is-word run v p (suc n) h .word-elements)
 
 pub honestStore-elements : (run : Run) → ValidCoset run → ProverInput run → All IsElement (honestStore run)
 unfolding honestStore

@@ -1,4 +1,4 @@
--- The cosets of the layers of a valid run, and its honest layers: words over these cosets, joined in the store. Assumes nothing.
+-- The cosets of the layers of a valid run, and its honest layers: words over these cosets, joinedLayers in the store. Assumes nothing.
 use mathlib.Core.Path.{_≡_, refl, sym, ap, _∙_, subst}
 use mathlib.Core.List.{List}
 use Prim.Native.Nat.{ℕ, zero, suc, _+_, _*_, _-_, _^_, _≤_, _<_}
@@ -18,7 +18,7 @@ use Rattle.fold.proofs.Folding.{length-folded, fold-is-word, fold-keeps-degree}
 use Rattle.fri.specs.Layout.{stepAt, dimension, layerStart, storeLength, storedLayer}
 use Rattle.fri.specs.Run.{Run, stepsIn, roundsIn, challengeIn, layerIn, stepIn}
 use Rattle.fri.specs.Layers.{layerBasis, layerOffset, basisIn, offsetIn, foldOf, honestLayer, honestStore, honest}
-use Rattle.fri.specs.Layout.{joined}
+use Rattle.fri.specs.Layout.{joinedLayers}
 use Rattle.fri.specs.Demand.{ValidCoset, ProverInput, LowDegree}
 use Rattle.fri.proofs.Layouts.{StepsFit, step-fits, length-storedLayer, joined-length, joined-found, some-round}
 
@@ -162,7 +162,7 @@ module _ (run : Run) (v : ValidCoset run) where
 
   -- ---- the honest store
 
-  pub length-joined : length (run .word) ≡ 2 ^ run .k → (n : ℕ) → length (joined (honestLayer run) n) ≡ layerStart (run .k) (stepsIn run) (suc n)
+  pub length-joined : length (run .word) ≡ 2 ^ run .k → (n : ℕ) → length (joinedLayers (honestLayer run) n) ≡ layerStart (run .k) (stepsIn run) (suc n)
   length-joined l n = joined-length (run .k) (stepsIn run) (honestLayer run) n (λ i least most. length-honest l i)
 
   pub length-honestStore : length (run .word) ≡ 2 ^ run .k → length (honestStore run) ≡ storeLength (run .k) (stepsIn run)

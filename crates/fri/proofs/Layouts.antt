@@ -8,7 +8,7 @@ use native.Mathlib.Omega.{arith}
 use lib.Pow.{shr-lt, shr-shr}
 use lib.ListN.{length, take, drop, length-append, length-drop, length-replicate, getD-replicate}
 use lib.Seq.{length-take-le, take-all, take-append-le, drop-append-le, drop-at}
-use Rattle.fri.specs.Layout.{roundsOf, stepsOf, stepAt, dimension, lastCount, layerStart, storeLength, joined, storedLayer, indexIn}
+use Rattle.fri.specs.Layout.{roundsOf, stepsOf, stepAt, dimension, lastCount, layerStart, storeLength, joinedLayers, storedLayer, indexIn}
 
 -- ---- over any list of steps
 
@@ -51,43 +51,43 @@ length-storedLayer k steps store i least most fits =
     length-take-le (2 ^ dimension k steps i) (drop (layerStart k steps i) store)
     (omega (arith, length-drop (layerStart k steps i) store, fits, layer-before k steps i (length steps) least most))
 
--- ---- layers 1 to n, joined, where each has the size due
+-- ---- layers 1 to n, joinedLayers, where each has the size due
 
 module _ (k : ℕ) (steps : List ℕ) (layer : ℕ → List ℕ) where
   abbrev pub Sized : ℕ → Type 0
   Sized n = (i : ℕ) → 1 ≤ i → i ≤ n → length (layer i) ≡ 2 ^ dimension k steps i
 
-  pub joined-length : (n : ℕ) → Sized n → length (joined layer n) ≡ layerStart k steps (suc n)
-  unfolding joined layerStart
+  pub joined-length : (n : ℕ) → Sized n → length (joinedLayers layer n) ≡ layerStart k steps (suc n)
+  unfolding joinedLayers layerStart
   joined-length zero sized = refl
   joined-length (suc n) sized =
-      length-append (joined layer n) (layer (suc n))
+      length-append (joinedLayers layer n) (layer (suc n))
       ∙ ap₂ _+_ (joined-length n (λ i least most. sized i least (omega arith))) (sized (suc n) (omega arith) (omega arith))
 
-  found-last : (n : ℕ) → Sized (suc n) → storedLayer k steps (joined layer (suc n)) (suc n) ≡ layer (suc n)
-  unfolding storedLayer joined
+  found-last : (n : ℕ) → Sized (suc n) → storedLayer k steps (joinedLayers layer (suc n)) (suc n) ≡ layer (suc n)
+  unfolding storedLayer joinedLayers
   found-last n sized =
       ap (take (2 ^ dimension k steps (suc n)))
-      (drop-at (joined layer n) (layer (suc n)) (layerStart k steps (suc n)) (joined-length n (λ i least most. sized i least (omega arith))))
+      (drop-at (joinedLayers layer n) (layer (suc n)) (layerStart k steps (suc n)) (joined-length n (λ i least most. sized i least (omega arith))))
       ∙ take-all (2 ^ dimension k steps (suc n)) (layer (suc n)) (le-of-eq (sized (suc n) (omega arith) (omega arith)))
 
-  found-earlier : (n i : ℕ) → Sized n → 1 ≤ i → i ≤ n → storedLayer k steps (joined layer (suc n)) i ≡ storedLayer k steps (joined layer n) i
-  unfolding storedLayer joined
+  found-earlier : (n i : ℕ) → Sized n → 1 ≤ i → i ≤ n → storedLayer k steps (joinedLayers layer (suc n)) i ≡ storedLayer k steps (joinedLayers layer n) i
+  unfolding storedLayer joinedLayers
   found-earlier n i sized least most =
       let start : ℕ = layerStart k steps i in
       let size : ℕ = 2 ^ dimension k steps i in
       let ends : start + size ≤ layerStart k steps (suc n) = layer-before k steps i (suc n) least (omega arith) in
-      ap (take size) (drop-append-le start (joined layer n) (layer (suc n)) (omega (arith, ends, joined-length n sized)))
-      ∙ take-append-le size (drop start (joined layer n)) (layer (suc n))
-      (omega (arith, ends, joined-length n sized, length-drop start (joined layer n)))
+      ap (take size) (drop-append-le start (joinedLayers layer n) (layer (suc n)) (omega (arith, ends, joined-length n sized)))
+      ∙ take-append-le size (drop start (joinedLayers layer n)) (layer (suc n))
+      (omega (arith, ends, joined-length n sized, length-drop start (joinedLayers layer n)))
 
-  -- a layer that is joined is found where it begins
-  pub joined-found : (n : ℕ) → Sized n → (i : ℕ) → 1 ≤ i → i ≤ n → storedLayer k steps (joined layer n) i ≡ layer i
+  -- a layer that is joinedLayers is found where it begins
+  pub joined-found : (n : ℕ) → Sized n → (i : ℕ) → 1 ≤ i → i ≤ n → storedLayer k steps (joinedLayers layer n) i ≡ layer i
   joined-found zero sized i least most = absurd (omega arith)
   joined-found (suc n) sized i least most =
       let before : Sized n = λ j l m. sized j l (omega arith) in
       ⊎-elim
-      (λ (e : i ≡ suc n). subst (λ (m : ℕ). storedLayer k steps (joined layer (suc n)) m ≡ layer m) (sym e) (found-last n sized))
+      (λ (e : i ≡ suc n). subst (λ (m : ℕ). storedLayer k steps (joinedLayers layer (suc n)) m ≡ layer m) (sym e) (found-last n sized))
       (λ (h : i < suc n). found-earlier n i before least (omega arith) ∙ joined-found n before i least (omega arith))
       (eq-or-lt-of-le most)
 

@@ -5,7 +5,7 @@ use lib.ListN.{take}
 use Rattle.coset.specs.Subspace.{nextOffset, nextBasis}
 use Rattle.reed_solomon.specs.Codes.{interpolated}
 use Rattle.fold.specs.Fold.{folded}
-use Rattle.fri.specs.Layout.{stepAt, lastCount, joined}
+use Rattle.fri.specs.Layout.{stepAt, lastCount, joinedLayers}
 use Rattle.fri.specs.Run.{Run, stepsIn, roundsIn, challengeIn, stepIn}
 
 -- the basis of layer i: that of the coset after layer i - 1's
@@ -36,7 +36,7 @@ honestLayer run (suc i) = foldOf run i (honestLayer run i)
 
 -- the honest store: layers 1 to r - 1
 unfoldable pub honestStore : Run → List ℕ
-honestStore run = joined (honestLayer run) (roundsIn run - 1)
+honestStore run = joinedLayers (honestLayer run) (roundsIn run - 1)
 
 -- layer r's interpolant
 unfoldable pub lastInterpolant : Run → List ℕ

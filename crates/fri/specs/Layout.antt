@@ -24,7 +24,7 @@ dimension k steps (suc i) = dimension k steps i - stepAt steps i
 unfoldable pub lastCount : ℕ → ℕ → List ℕ → ℕ
 lastCount k rate steps = 2 ^ (dimension k steps (length steps) - rate)
 
--- where layer i, from 1 on, begins in the store, which holds layers 1 to r - 1 joined
+-- where layer i, from 1 on, begins in the store, which holds layers 1 to r - 1 joinedLayers
 unfoldable pub layerStart : ℕ → List ℕ → ℕ → ℕ
 layerStart k steps zero = 0
 layerStart k steps (suc zero) = 0
@@ -34,10 +34,10 @@ layerStart k steps (suc (suc i)) = layerStart k steps (suc i) + 2 ^ dimension k 
 unfoldable pub storeLength : ℕ → List ℕ → ℕ
 storeLength k steps = layerStart k steps (length steps)
 
--- layers 1 to n, joined
-unfoldable pub joined : (ℕ → List ℕ) → ℕ → List ℕ
-joined layer zero = []
-joined layer (suc n) = joined layer n ++ layer (suc n)
+-- layers 1 to n, joinedLayers
+unfoldable pub joinedLayers : (ℕ → List ℕ) → ℕ → List ℕ
+joinedLayers layer zero = []
+joinedLayers layer (suc n) = joinedLayers layer n ++ layer (suc n)
 
 -- layer i of a store, 1 ≤ i < r
 unfoldable pub storedLayer : ℕ → List ℕ → List ℕ → ℕ → List ℕ

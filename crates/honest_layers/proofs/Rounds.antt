@@ -14,17 +14,17 @@ use Rattle.fold.specs.Fold.{folded}
 use Rattle.fri.specs.Layout.{dimension, layerStart, storeLength, storedLayer}
 use Rattle.fri.specs.Run.{Run, stepsIn, roundsIn, challengeIn, layerIn}
 use Rattle.fri.specs.Layers.{basisIn, offsetIn, honestLayer, honestStore}
-use Rattle.fri.specs.Layout.{joined}
+use Rattle.fri.specs.Layout.{joinedLayers}
 use Rattle.fri.specs.Demand.{ValidCoset}
 use Rattle.fri.proofs.Cosets.{first-coset, some-rounds, length-layerBasis, layerBasis-independent, length-joined}
 use Rattle.fri.proofs.Layouts.{start-next}
 use Rattle.fri.proofs.Layers.{honest-run}
-use Rattle.layers.specs.declared.Parameters.{Parameters}
-use Rattle.layers.specs.declared.cosets.LayerCoset.{LayerCoset}
-use Rattle.layers.specs.Cosets.{cosetOf, basisOf}
-use Rattle.layers.proofs.Sizes.{start-of-first, storeLength-is}
-use Rattle.layers.proofs.LayerCosets.{basisOf-coset}
-use Rattle.layers.proofs.LaterBases.{basis-next, offset-next}
+use Rattle.layout.specs.declared.Parameters.{Parameters}
+use Rattle.layer_cosets.specs.declared.LayerCoset.{LayerCoset}
+use Rattle.layer_cosets.specs.Cosets.{cosetOf, basisOf}
+use Rattle.layout.proofs.Sizes.{start-of-first, storeLength-is}
+use Rattle.layer_cosets.proofs.LayerCosets.{basisOf-coset}
+use Rattle.layer_cosets.proofs.NextLayers.{basis-next, offset-next}
 use Rattle.honest_layers.specs.Input.{inputOf, Passed, cosetIn, layerFrom}
 
 -- any offset and a basis that passed are a coset
@@ -51,7 +51,7 @@ module _ (run : Run) where
     pub count : rounds ≡ roundsIn run
     pub within : suc i ≤ rounds
     pub coset-is : coset ≡ cosetIn run i
-    pub joined-so-far : take (layerStart (run .k) (stepsIn run) (suc i)) store ≡ joined (honestLayer run) i
+    pub joined-so-far : take (layerStart (run .k) (stepsIn run) (suc i)) store ≡ joinedLayers (honestLayer run) i
     pub kept : length store ≡ storeLength (run .k) (stepsIn run)
 
   -- ---- the cosets
@@ -87,29 +87,29 @@ module _ (run : Run) where
 
   -- ---- the layers in the store
 
-  pub joined-first : (store : List ℕ) → take (start 1) store ≡ joined (honestLayer run) 0
-  unfolding joined
+  pub joined-first : (store : List ℕ) → take (start 1) store ≡ joinedLayers (honestLayer run) 0
+  unfolding joinedLayers
   joined-first store = ap (λ (n : ℕ). take n store) (sym (start-of-first (run .k) (stepsIn run)))
 
-  joined-next : (i : ℕ) → joined (honestLayer run) i ++ honestLayer run (suc i) ≡ joined (honestLayer run) (suc i)
-  unfolding joined
+  joined-next : (i : ℕ) → joinedLayers (honestLayer run) i ++ honestLayer run (suc i) ≡ joinedLayers (honestLayer run) (suc i)
+  unfolding joinedLayers
   joined-next i = refl
 
-  store-is : joined (honestLayer run) (roundsIn run - 1) ≡ honestStore run
+  store-is : joinedLayers (honestLayer run) (roundsIn run - 1) ≡ honestStore run
   unfolding honestStore
   store-is = refl
 
-  -- the store is whole when layer r - 1 is joined
+  -- the store is whole when layer r - 1 is joinedLayers
   pub store-whole : (store : List ℕ) (i : ℕ) → suc i ≡ roundsIn run → length store ≡ storeLength (run .k) (stepsIn run)
-      → take (start (suc i)) store ≡ joined (honestLayer run) i → store ≡ honestStore run
+      → take (start (suc i)) store ≡ joinedLayers (honestLayer run) i → store ≡ honestStore run
   store-whole store i e fits so-far =
       let ends : start (suc i) ≡ length store = ap start e ∙ storeLength-is (run .k) (stepsIn run) ∙ sym fits in
       let last : i ≡ roundsIn run - 1 = omega (arith, e) in
-      sym (take-all (start (suc i)) store (le-of-eq (sym ends))) ∙ so-far ∙ ap (joined (honestLayer run)) last ∙ store-is
+      sym (take-all (start (suc i)) store (le-of-eq (sym ends))) ∙ so-far ∙ ap (joinedLayers (honestLayer run)) last ∙ store-is
 
   module _ (v : ValidCoset run) (whole : length (run .word) ≡ 2 ^ run .k) where
-    -- a layer that is joined is the one that word and store have
-    layer-found : (i : ℕ) (store : List ℕ) → start (suc i) ≤ length store → take (start (suc i)) store ≡ joined (honestLayer run) i
+    -- a layer that is joinedLayers is the one that word and store have
+    layer-found : (i : ℕ) (store : List ℕ) → start (suc i) ≤ length store → take (start (suc i)) store ≡ joinedLayers (honestLayer run) i
         → layerFrom p (run .word) store i ≡ honestLayer run i
     unfolding layerIn honestLayer storedLayer
     layer-found zero store h e = refl
@@ -118,7 +118,7 @@ module _ (run : Run) where
         let after = start-next (run .k) (stepsIn run) (suc i) (omega arith) in
         sym (drop-at (take (start (suc i)) store) (take size (drop (start (suc i)) store)) (start (suc i)) (length-take-le (start (suc i)) store (omega (arith, h, after))))
         ∙ ap (drop (start (suc i))) (sym (take-add (start (suc i)) size store) ∙ ap (λ (n : ℕ). take n store) (sym after) ∙ e ∙ sym (joined-next i))
-        ∙ drop-at (joined (honestLayer run) i) (honestLayer run (suc i)) (start (suc i)) (length-joined run v whole i)
+        ∙ drop-at (joinedLayers (honestLayer run) i) (honestLayer run (suc i)) (start (suc i)) (length-joined run v whole i)
 
     -- layer r - 1 is the word or in the honest store
     pub last-found : (store : List ℕ) → store ≡ honestStore run → length store ≡ storeLength (run .k) (stepsIn run)
@@ -130,11 +130,11 @@ module _ (run : Run) where
 
     -- one more layer in the store
     pub round-joined : (i : ℕ) (coset : LayerCoset) → coset ≡ cosetIn run i → i < roundsIn run → (store store′ : List ℕ)
-        → start (suc i) ≤ length store → take (start (suc i)) store ≡ joined (honestLayer run) i
+        → start (suc i) ≤ length store → take (start (suc i)) store ≡ joinedLayers (honestLayer run) i
         → take (start (suc (suc i))) store′
         ≡ take (start (suc i)) store ++ folded (run .step) (coset .offset .0) (basisOf coset) (layerFrom p (run .word) store i) (challengeIn run i)
-        → take (start (suc (suc i))) store′ ≡ joined (honestLayer run) (suc i)
+        → take (start (suc (suc i))) store′ ≡ joinedLayers (honestLayer run) (suc i)
     round-joined i coset is h store store′ fits so-far written =
         written
         ∙ ap₂ {B = List ℕ} (λ (front layer : List ℕ). front ++ folded (run .step) (coset .offset .0) (basisOf coset) layer (challengeIn run i)) so-far (layer-found i store fits so-far)
-        ∙ ap (λ (l : List ℕ). joined (honestLayer run) i ++ l) (honest-folded i coset is h) ∙ joined-next i
+        ∙ ap (λ (l : List ℕ). joinedLayers (honestLayer run) i ++ l) (honest-folded i coset is h) ∙ joined-next i

@@ -10,9 +10,9 @@ use borrow.Rule.Slice.PartMut.{midOf, putMid, postOf}
 use Rattle.fri.specs.Layout.{dimension, layerStart, storeLength, storedLayer}
 use Rattle.fri.specs.Run.{layerIn}
 use Rattle.fri.proofs.Layouts.{start-next, layer-before, step-of-round}
-use Rattle.layers.specs.declared.Parameters.{Parameters}
-use Rattle.layers.specs.Parameters.{stepsBy}
-use Rattle.layers.proofs.Sizes.{start-of-first, storeLength-is}
+use Rattle.layout.specs.declared.Parameters.{Parameters}
+use Rattle.layout.specs.Parameters.{stepsBy}
+use Rattle.layout.proofs.Sizes.{start-of-first, storeLength-is}
 use Rattle.poly.proofs.Parts.{mid-suffix}
 use Rattle.honest_layers.specs.Input.{layerFrom}
 

@@ -8,10 +8,10 @@ use Rattle.fri.specs.Layout.{storeLength}
 use Rattle.fri.specs.Run.{Run, stepsIn, roundsIn, layerIn}
 use Rattle.fri.specs.Layers.{basisIn, offsetIn}
 use Rattle.fri.specs.Demand.{ValidParameters}
-use Rattle.layers.specs.declared.Parameters.{Parameters}
-use Rattle.layers.specs.declared.cosets.LayerCoset.{LayerCoset}
-use Rattle.layers.specs.Parameters.{runOf}
-use Rattle.layers.specs.Cosets.{cosetOf}
+use Rattle.layout.specs.declared.Parameters.{Parameters}
+use Rattle.layer_cosets.specs.declared.LayerCoset.{LayerCoset}
+use Rattle.layout.specs.Parameters.{runOf}
+use Rattle.layer_cosets.specs.Cosets.{cosetOf}
 
 -- the run of a prover, with empty lists in the place of the lent ones
 abbrev pub inputOf : Parameters → ℕ → List ℕ → List ℕ → List ℕ → Run

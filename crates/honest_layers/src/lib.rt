@@ -1,7 +1,7 @@
 // The layers of a prover: the word folded at one challenge after the other.
 use field::Element;
-use layers::Parameters;
-use layers::cosets::LayerCoset;
+use layer_cosets::LayerCoset;
+use layout::Parameters;
 ghost use mathlib.Core.Path.{_≡_};
 ghost use mathlib.Core.List.{_++_};
 ghost use Prim.Native.Nat.{suc, _+_, _-_, _^_, _≤_};
@@ -10,8 +10,8 @@ ghost use Rattle.coset.specs.Span.{Independent};
 ghost use Rattle.fold.specs.Fold.{folded};
 ghost use Rattle.fri.specs.Layout.{dimension, layerStart, storeLength};
 ghost use Rattle.fri.specs.Layers.{honestLayer, honestStore};
-ghost use Rattle.layers.specs.Parameters.{stepsBy, Valid};
-ghost use Rattle.layers.specs.Cosets.{basisOf};
+ghost use Rattle.layout.specs.Parameters.{stepsBy, Valid};
+ghost use Rattle.layer_cosets.specs.Cosets.{basisOf};
 ghost use Rattle.honest_layers.specs.Input.{inputOf, Passed, cosetIn, layerFrom};
 
 // All layers: 1 to r - 1 into the store, layer r into a list of its own. The answer is the coset of layer r.
@@ -117,7 +117,7 @@ fn fold_layer(coset: LayerCoset, step: usize, challenge: Element, layer: &[u64],
     let elements = coset.step_elements(step);
     let basis = coset.basis;
     let dimension = coset.dimension;
-    folding::fill_values(
+    word_fold::fill_values(
         &elements[..step],
         coset.offset,
         &basis[..dimension],
@@ -136,7 +136,7 @@ fn fold_behind(coset: LayerCoset, step: usize, challenge: Element, joined: &mut 
     let elements = coset.step_elements(step);
     let basis = coset.basis;
     let dimension = coset.dimension;
-    folding::fill_behind(
+    word_fold::fill_behind(
         &elements[..step],
         coset.offset,
         &basis[..dimension],

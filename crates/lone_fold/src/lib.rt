@@ -11,7 +11,7 @@ ghost use Rattle.refusal.specs.Checks.{andThen};
 ghost use Rattle.coset.specs.Span.{firstDependent, Independent};
 ghost use Rattle.coset.specs.Subspace.{nextOffset, nextBasis};
 ghost use Rattle.fold.specs.Fold.{folded};
-ghost use Rattle.fold.specs.Answers.{rangesOutcome, lengthsOutcome, outcomeOfNextBasis, basesOutcome, foldAnswer, foldValuesAfter, nextBasisAfter};
+ghost use Rattle.fold.specs.Answers.{foldRangesOutcome, foldLengthsOutcome, outcomeOfNextBasis, foldBasesOutcome, foldAnswer, foldValuesAfter, nextBasisAfter};
 
 // The fold of a word at the challenge, with the step, into `values`; the basis of the next coset into `next_basis`; its offset as the
 // answer. Refused, in this order: k outside 2..20 (4); a step outside 1..3 (6); k below the step (7); a list whose length is not the one
@@ -64,7 +64,7 @@ fn fold_checked(
     ensures next { λ _. ⌜ now (next .exit) ≡ nextBasis step (now (basis .entry)) ⌝ }
 {
     let elements = next_coset::step_elements(basis, step);
-    folding::fill_values(&elements[..step], offset, basis, word, challenge, values);
+    word_fold::fill_values(&elements[..step], offset, basis, word, challenge, values);
     next_coset::fill_images(&elements[..step], &basis[step..], next);
     next_coset::composed_maps(&elements[..step], offset)
 }
@@ -77,7 +77,7 @@ fn checked(
     length6: usize,
     length7: usize,
 ) -> Outcome
-    ensures { λ r. ⌜ r ≡ andThen (rangesOutcome k step) (andThen (lengthsOutcome k step (length (now (basis .entry))) length3 length6 length7) (basesOutcome step (now (basis .entry)))) ⌝ }
+    ensures { λ r. ⌜ r ≡ andThen (foldRangesOutcome k step) (andThen (foldLengthsOutcome k step (length (now (basis .entry))) length3 length6 length7) (foldBasesOutcome step (now (basis .entry)))) ⌝ }
 {
     let ranges = checked_ranges(k, step);
     match ranges {
@@ -93,7 +93,7 @@ fn checked(
 }
 
 fn checked_ranges(k: usize, step: usize) -> Outcome
-    ensures { λ r. ⌜ r ≡ rangesOutcome k step ⌝ }
+    ensures { λ r. ⌜ r ≡ foldRangesOutcome k step ⌝ }
 {
     if k < 2 || k > 20 {
         return Outcome::Refused(Cause::DimensionOutOfRange);
@@ -116,7 +116,7 @@ fn checked_lengths(
     length7: usize,
 ) -> Outcome
     requires { ⌜ (k ≤ 20) × (step ≤ k) ⌝ }
-    ensures { λ r. ⌜ r ≡ lengthsOutcome k step length1 length3 length6 length7 ⌝ }
+    ensures { λ r. ⌜ r ≡ foldLengthsOutcome k step length1 length3 length6 length7 ⌝ }
 {
     if length1 != k {
         return Outcome::Refused(Cause::WrongLength { list: 1 });
@@ -135,7 +135,7 @@ fn checked_lengths(
 
 fn checked_bases(step: usize, basis: &[u64]) -> Outcome
     requires { ⌜ (step ≤ 3) × (step ≤ length (now basis)) × (length (now basis) ≤ 20) ⌝ }
-    ensures { λ r. ⌜ r ≡ basesOutcome step (now (basis .entry)) ⌝ }
+    ensures { λ r. ⌜ r ≡ foldBasesOutcome step (now (basis .entry)) ⌝ }
 {
     let outcome = independence::checked_basis(basis);
     match outcome {

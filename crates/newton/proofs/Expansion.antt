@@ -8,7 +8,7 @@ use lib.ListN.{length, getD, take, drop, length-drop, length-append}
 use lib.Seq.{drop-cons, drop-length, take-length, take-suc, take-at, drop-at, length-take-le}
 use borrow.Rule.Slice.PartMut.{midOf, putMid}
 use Rattle.poly.specs.Carrier.{gf64}
-use Rattle.poly.specs.Newton.{joined, expanded}
+use Rattle.poly.specs.Newton.{hornerStep, expanded}
 use Rattle.poly.proofs.Parts.{mid-suffix, put-suffix}
 use Rattle.poly.proofs.Newton.{length-expanded}
 
@@ -41,10 +41,10 @@ module _ (points cs now : List ℕ) (j : ℕ) (same : length points ≡ length c
   back : drop j now ≡ getD cs j 0 ∷ rest
   back = ap (drop j) parted ∙ drop-at (take j cs) (getD cs j 0 ∷ rest) j (length-take-le j cs (le-of-lt inside))
 
-  from-here : (x : ℕ) → x ≡ getD points j 0 → joined gf64 x (getD cs j 0 ∷ rest) ≡ expanded gf64 (drop j points) (drop j cs)
+  from-here : (x : ℕ) → x ≡ getD points j 0 → hornerStep gf64 x (getD cs j 0 ∷ rest) ≡ expanded gf64 (drop j points) (drop j cs)
   unfolding expanded rest
   from-here x at =
-      ap (λ (z : ℕ). joined gf64 z (getD cs j 0 ∷ expanded gf64 (drop (suc j) points) (drop (suc j) cs))) at
+      ap (λ (z : ℕ). hornerStep gf64 z (getD cs j 0 ∷ expanded gf64 (drop (suc j) points) (drop (suc j) cs))) at
       ∙ sym (ap₂ (expanded gf64) (drop-cons points j 0 (omega arith)) (drop-cons cs j 0 inside))
 
   now-length : j ≤ length now
@@ -54,20 +54,20 @@ module _ (points cs now : List ℕ) (j : ℕ) (same : length points ≡ length c
       (omega (arith, length-take-le j cs (le-of-lt inside)))
 
   expanded-suc : (x : ℕ) (changed : List ℕ) → x ≡ getD points j 0
-      → changed ≡ joined gf64 x (midOf j (length now - j) now) → putMid j (length now - j) now changed ≡ expandedFrom points cs j
+      → changed ≡ hornerStep gf64 x (midOf j (length now - j) now) → putMid j (length now - j) now changed ≡ expandedFrom points cs j
   unfolding expandedFrom
   expanded-suc x changed at e =
       put-suffix j now changed now-length
-      ∙ ap₂ _++_ front (e ∙ ap (joined gf64 x) (mid-suffix j now ∙ back) ∙ from-here x at)
+      ∙ ap₂ _++_ front (e ∙ ap (hornerStep gf64 x) (mid-suffix j now ∙ back) ∙ from-here x at)
 
 -- the point before joins
 pub expanded-next : (points cs now : List ℕ) (i x : ℕ) (changed : List ℕ) → length points ≡ length cs → 0 < i → i ≤ length cs
     → now ≡ expandedFrom points cs i → x ≡ getD points (i - 1) 0
-    → changed ≡ joined gf64 x (midOf (i - 1) (length now - (i - 1)) now)
+    → changed ≡ hornerStep gf64 x (midOf (i - 1) (length now - (i - 1)) now)
     → putMid (i - 1) (length now - (i - 1)) now changed ≡ expandedFrom points cs (i - 1)
 expanded-next points cs now i x changed same pos h inv at e = by (i - 1) (omega arith) at e
   where
-    by : (j : ℕ) → suc j ≡ i → x ≡ getD points j 0 → changed ≡ joined gf64 x (midOf j (length now - j) now)
+    by : (j : ℕ) → suc j ≡ i → x ≡ getD points j 0 → changed ≡ hornerStep gf64 x (midOf j (length now - j) now)
         → putMid j (length now - j) now changed ≡ expandedFrom points cs j
     by j s at e =
         expanded-suc points cs now j same (omega arith) (inv ∙ ap (expandedFrom points cs) (sym s)) x changed at e

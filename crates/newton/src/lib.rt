@@ -4,7 +4,7 @@ ghost use mathlib.Core.Path.{_≡_};
 ghost use Prim.Native.Nat.{_^_, _≤_};
 ghost use lib.ListN.{length, take};
 ghost use Rattle.poly.specs.Carrier.{gf64};
-ghost use Rattle.poly.specs.Newton.{newtonCoefficient, newtonCoefficients, joined, expanded};
+ghost use Rattle.poly.specs.Newton.{newtonCoefficient, newtonCoefficients, hornerStep, expanded};
 ghost use Rattle.coset.specs.Coset.{points};
 ghost use Rattle.coset.specs.Span.{Independent};
 ghost use Rattle.reed_solomon.specs.Codes.{interpolated};
@@ -72,7 +72,7 @@ fn expand(offset: Element, basis: &[u64], coefficients: &mut [u64])
 
 // The coefficients c, p become those of c + (X - x) · p.
 fn join(coefficients: &mut [u64], x: Element)
-    ensures { λ _. ⌜ now (coefficients .exit) ≡ joined gf64 (x .0) (now (coefficients .entry)) ⌝ }
+    ensures { λ _. ⌜ now (coefficients .exit) ≡ hornerStep gf64 (x .0) (now (coefficients .entry)) ⌝ }
 {
     let mut next: usize = 1;
     while next < coefficients.len() {

@@ -8,7 +8,7 @@ use native.Mathlib.Omega.{arith}
 use lib.ListN.{length, getD, take, length-append}
 use Rattle.poly.specs.Carrier.{Operations, Laws}
 use Rattle.poly.specs.Polynomial.{All, Distinct, evaluate, plus, scale, timesLinear, interpolant}
-use Rattle.poly.specs.Newton.{newtonValue, vanishing, newtonCoefficient, newtonAfter, newtonCoefficients, joined, expanded}
+use Rattle.poly.specs.Newton.{newtonValue, vanishing, newtonCoefficient, newtonAfter, newtonCoefficients, hornerStep, expanded}
 use Rattle.poly.proofs.Sums.{sum-zero-r, sum-cancel, sum-not-zero, product-zero-l, divides, no-zero-divisors}
 use Rattle.poly.proofs.Evaluation.{evaluate-timesLinear, length-timesLinear, timesLinear-elements}
 use Rattle.poly.proofs.Interpolation.{interpolant-unique}
@@ -25,8 +25,8 @@ length-newtonAfter F earlier known (x ∷ points) (y ∷ values) h =
     ap suc
     (length-newtonAfter F (earlier ++ (x ∷ [])) (known ++ (newtonCoefficient F earlier known x y ∷ [])) points values (omega arith))
 
-pub length-joined : {A : Type 0} (F : Operations A) (x : A) (p : List A) → length (joined F x p) ≡ length p
-unfolding joined
+pub length-joined : {A : Type 0} (F : Operations A) (x : A) (p : List A) → length (hornerStep F x p) ≡ length p
+unfolding hornerStep
 length-joined F x [] = refl
 length-joined F x (c ∷ p) = length-timesLinear F c x p
 
@@ -205,7 +205,7 @@ module _ {A : Type 0} (F : Operations A) (Element : A → Type 0) (L : Laws A F 
   -- ---- the expanded form
 
   evaluate-expanded : (points cs : List A) (z : A) → evaluate F (expanded F points cs) z ≡ newtonValue F points cs z
-  unfolding evaluate expanded joined newtonValue
+  unfolding evaluate expanded hornerStep newtonValue
   evaluate-expanded [] cs z = refl
   evaluate-expanded (x ∷ points) [] z = refl
   evaluate-expanded (x ∷ points) (c ∷ cs) z =
@@ -216,7 +216,7 @@ module _ {A : Type 0} (F : Operations A) (Element : A → Type 0) (L : Laws A F 
   values-expanded points cs (z ∷ at) = ap₂ (λ (a : A) (s : List A). a ∷ s) (evaluate-expanded points cs z) (values-expanded points cs at)
 
   expanded-elements : (points cs : List A) → All Element points → All Element cs → All Element (expanded F points cs)
-  unfolding expanded joined
+  unfolding expanded hornerStep
   expanded-elements [] cs ep ec = record {}
   expanded-elements (x ∷ points) [] ep ec = record {}
   expanded-elements (x ∷ points) (c ∷ cs) ep ec =
@@ -236,16 +236,16 @@ module _ {A : Type 0} (F : Operations A) (Element : A → Type 0) (L : Laws A F 
 
 -- an entry of c + (X - x) · p: the entry there plus x times the next
 pub joined-getD : {A : Type 0} (F : Operations A) (d x : A) (p : List A) (j : ℕ) → suc j < length p
-    → getD (joined F x p) j d ≡ F .sum (getD p j d) (F .product x (getD p (suc j) d))
-unfolding joined timesLinear plus scale
+    → getD (hornerStep F x p) j d ≡ F .sum (getD p j d) (F .product x (getD p (suc j) d))
+unfolding hornerStep timesLinear plus scale
 joined-getD F d x [] j h = absurd (omega arith)
 joined-getD F d x (c ∷ []) j h = absurd (omega arith)
 joined-getD F d x (c ∷ e ∷ p) zero h = refl
 joined-getD F d x (c ∷ e ∷ p) (suc j) h = joined-getD F d x (e ∷ p) j (omega arith)
 
 -- the last entry is as it was
-pub joined-last : {A : Type 0} (F : Operations A) (d x : A) (p : List A) (j : ℕ) → length p ≤ suc j → getD (joined F x p) j d ≡ getD p j d
-unfolding joined timesLinear plus scale
+pub joined-last : {A : Type 0} (F : Operations A) (d x : A) (p : List A) (j : ℕ) → length p ≤ suc j → getD (hornerStep F x p) j d ≡ getD p j d
+unfolding hornerStep timesLinear plus scale
 joined-last F d x [] j h = refl
 joined-last F d x (c ∷ []) zero h = refl
 joined-last F d x (c ∷ []) (suc j) h = refl

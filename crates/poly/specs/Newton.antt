@@ -31,12 +31,12 @@ unfoldable pub newtonCoefficients : {A : Type 0} → Operations A → List A →
 newtonCoefficients F points values = newtonAfter F [] [] points values
 
 -- the coefficients c, p as those of c + (X - x) · p
-unfoldable pub joined : {A : Type 0} → Operations A → A → List A → List A
-joined F x [] = []
-joined F x (c ∷ p) = timesLinear F c x p
+unfoldable pub hornerStep : {A : Type 0} → Operations A → A → List A → List A
+hornerStep F x [] = []
+hornerStep F x (c ∷ p) = timesLinear F c x p
 
 -- the polynomial itself: from the last point to the first
 unfoldable pub expanded : {A : Type 0} → Operations A → List A → List A → List A
 expanded F [] cs = []
 expanded F (x ∷ points) [] = []
-expanded F (x ∷ points) (c ∷ cs) = joined F x (c ∷ expanded F points cs)
+expanded F (x ∷ points) (c ∷ cs) = hornerStep F x (c ∷ expanded F points cs)

@@ -18,15 +18,15 @@ use Rattle.reed_solomon.specs.Codes.{interpolated}
 use Rattle.fri.specs.Layout.{dimension, lastCount}
 use Rattle.fri.specs.Run.{Run, stepsIn, roundsIn}
 use Rattle.fri.specs.Layers.{basisIn, offsetIn, foldOf, honestLayer, honestStore, lastInterpolant, honestLast}
-use Rattle.fri.specs.Layout.{joined}
+use Rattle.fri.specs.Layout.{joinedLayers}
 use Rattle.fri.specs.Checks.{runOutcome}
 use Rattle.fri.specs.Prover.{degreeOutcome}
 use Rattle.fri.proofs.Checks.{run-valid}
 use Rattle.fri.proofs.Layouts.{length-steps}
 use Rattle.fri.proofs.Layers.{layouts}
-use Rattle.layers.specs.declared.Parameters.{Parameters}
-use Rattle.layers.specs.Parameters.{stepsBy, Valid}
-use Rattle.layers.proofs.Sizes.{lastCount-is}
+use Rattle.layout.specs.declared.Parameters.{Parameters}
+use Rattle.layout.specs.Parameters.{stepsBy, Valid}
+use Rattle.layout.proofs.Sizes.{lastCount-is}
 use Rattle.prover.specs.Last.{lastOutcome, lastCoefficients}
 use Rattle.honest_layers.specs.Input.{inputOf, Passed}
 
@@ -86,8 +86,8 @@ module _ (called : Run) where
   same-layer zero = refl
   same-layer (suc i) = ap (foldOf called i) (same-layer i)
 
-  same-joined : (n : ℕ) → joined (honestLayer given) n ≡ joined (honestLayer called) n
-  unfolding joined
+  same-joined : (n : ℕ) → joinedLayers (honestLayer given) n ≡ joinedLayers (honestLayer called) n
+  unfolding joinedLayers
   same-joined zero = refl
   same-joined (suc n) = ap₂ {B = List ℕ} (λ (front layer : List ℕ). front ++ layer) (same-joined n) (same-layer (suc n))
 

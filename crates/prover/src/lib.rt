@@ -1,7 +1,7 @@
 // The prover: it folds a word at the challenges and leaves layers 1 to r - 1 in the store and, in a list of their own, the first d
 // coefficients of layer r's interpolant.
 use field::Element;
-use layers::Parameters;
+use layout::Parameters;
 use refusal::Cause;
 use refusal::Outcome;
 ghost use mathlib.Core.Path.{_≡_};
@@ -13,7 +13,7 @@ ghost use Rattle.refusal.specs.Checks.{afterwards};
 ghost use Rattle.fri.specs.Layers.{honestStore, honestLast};
 ghost use Rattle.fri.specs.Checks.{runOutcome};
 ghost use Rattle.fri.specs.Prover.{degreeOutcome, proveOutcome, storeAfter, lastAfter};
-ghost use Rattle.layers.specs.Parameters.{stepsBy, runOf};
+ghost use Rattle.layout.specs.Parameters.{stepsBy, runOf};
 ghost use Rattle.prover.specs.Last.{lastOutcome, lastCoefficients};
 
 // The honest proof of a word at its challenges: layers 1 to r - 1, joined, into the store, and the first d coefficients of layer r's
@@ -35,7 +35,7 @@ pub fn prove(
     ensures store { λ _. ⌜ now (store .exit) ≡ storeAfter (runOf parameters (offset .0) (now (basis .entry)) (now (challenges .entry)) (now (word .entry)) (now (store .entry)) (now (last .entry))) ⌝ }
     ensures last { λ _. ⌜ now (last .exit) ≡ lastAfter (runOf parameters (offset .0) (now (basis .entry)) (now (challenges .entry)) (now (word .entry)) (now (store .entry)) (now (last .entry))) ⌝ }
 {
-    let outcome = layers::checked(
+    let outcome = run_checks::checked(
         parameters,
         offset,
         basis,

@@ -28,7 +28,7 @@ impl<'a> Reader<'a> {
         requires { ⌜ self .sections ≡ sectionsIn (now (self .bytes)) ⌝ }
         ensures { λ r. ⌜ r ≡ transcriptVerdict (now (self .entry .bytes)) ⌝ }
     {
-        carried::verdict(self.bytes, self.sections)
+        byte_judge::verdict(self.bytes, self.sections)
     }
 }
 

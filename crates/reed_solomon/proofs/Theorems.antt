@@ -14,7 +14,7 @@ use Rattle.coset.specs.Coset.{points}
 use Rattle.coset.specs.Span.{Independent}
 use Rattle.coset.proofs.Points.{length-points, points-distinct, points-elements}
 use Rattle.reed_solomon.specs.Codes.{encoded, interpolated, WordDegreeBelow}
-use Rattle.reed_solomon.specs.Theorems.{RoundTrips, Accepted, Told, Refusals, Encoding}
+use Rattle.reed_solomon.specs.Theorems.{RoundTrips, CodesAccepted, Told, CodeRefusals, Encoding}
 use Rattle.reed_solomon.specs.Answers.{checked}
 use Rattle.coset.specs.Answers.{outcomeOfBasis}
 use Rattle.refusal.specs.declared.Cause.the-variants.{DimensionOutOfRange, BasisDependent, WrongLength}
@@ -82,7 +82,7 @@ accepted-by basis fits3 fits6 P Q p p′ q q′ = (
   λ a. passes basis fits3 fits6 (a .0) (p′ (a .1)) (q′ (a .2)) (a .3),
 )
 
-pub accepted : Accepted
+pub accepted : CodesAccepted
 accepted =
     record {
       encode =
@@ -103,7 +103,7 @@ accepted =
 told : (outcome known : Outcome) → known ≡ outcome → Told outcome (numberOfOutcome known) (placeOfOutcome known)
 told outcome known e = (ap numberOfOutcome (sym e), ap placeOfOutcome (sym e))
 
-pub refusals : Refusals
+pub refusals : CodeRefusals
 refusals =
     record {
       dimension = λ basis a b h. told (checked basis a b) (Refused DimensionOutOfRange) (dimension-refused basis a b h);

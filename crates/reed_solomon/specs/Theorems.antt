@@ -32,7 +32,7 @@ pub record RoundTrips : Type 0 where
       → encoded offset basis (interpolated offset basis word) ≡ word
 
 -- which calls are done: those with k at most 12, lists that fit and an independent basis
-pub record Accepted : Type 0 where
+pub record CodesAccepted : Type 0 where
   pub encode : (basis coefficients values : List ℕ)
       → (encodeOutcome basis coefficients values ≡ Done)
       ↔ ((length basis ≤ 12) × (length coefficients ≤ 2 ^ length basis) × (length values ≡ 2 ^ length basis) × Independent basis)
@@ -45,7 +45,7 @@ abbrev pub Told : Outcome → ℕ → Position → Type 0
 Told outcome number place = (numberOfOutcome outcome ≡ number) × (placeOfOutcome outcome ≡ place)
 
 -- the numbers and places of the refusals, by the first check that fails
-pub record Refusals : Type 0 where
+pub record CodeRefusals : Type 0 where
   pub dimension : (basis : List ℕ) (fits3 fits6 : Bool) → 12 < length basis → Told (checked basis fits3 fits6) 4 Absent
   pub list3 : (basis : List ℕ) (fits3 fits6 : Bool) → length basis ≤ 12 → fits3 ≡ false → Told (checked basis fits3 fits6) 13 (At 3)
   pub list6 : (basis : List ℕ) (fits3 fits6 : Bool) → length basis ≤ 12 → fits3 ≡ true → fits6 ≡ false

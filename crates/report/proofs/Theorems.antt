@@ -2,12 +2,12 @@
 use mathlib.Core.Path.{refl}
 use Prim.Native.Nat.{_-_}
 use Rattle.report.specs.Digits.{bytes, digits, placesWithin, decimal}
-use Rattle.report.specs.Lines.{orHyphen, answerText, numbersOf, lineOf, linesOf}
+use Rattle.report.specs.Lines.{orHyphen, answerText, numbersText, lineOf, linesOf}
 use Rattle.report.specs.Theorems.{Examples, Decimals}
 use Rattle.report.proofs.Decimals as laws
 
 pub examples : Examples
-unfolding linesOf lineOf numbersOf answerText orHyphen decimal digits placesWithin bytes
+unfolding linesOf lineOf numbersText answerText orHyphen decimal digits placesWithin bytes
 examples = record { header = refl; answers = (refl, refl); others = refl; accepted = refl; refused = refl }
 
 pub decimals : Decimals

@@ -19,8 +19,8 @@ answerText Accepted = bytes "accepted"
 answerText (Refused cause) = bytes "refused"
 
 -- what follows the answer: number, place, round and reads, each after a space, and a line feed
-unfoldable pub numbersOf : ℕ → Position → Position → ℕ → List ℕ
-numbersOf number place round reads =
+unfoldable pub numbersText : ℕ → Position → Position → ℕ → List ℕ
+numbersText number place round reads =
     (bytes " " ++ decimal number)
     ++ (bytes " " ++ orHyphen place)
     ++ (bytes " " ++ orHyphen round)
@@ -30,7 +30,7 @@ numbersOf number place round reads =
 unfoldable pub lineOf : Verdict → List ℕ
 lineOf verdict =
     answerText (verdict .answer)
-    ++ numbersOf (numberOfAnswer (verdict .answer)) (placeOfAnswer (verdict .answer)) (roundOfAnswer (verdict .answer)) (verdict .reads)
+    ++ numbersText (numberOfAnswer (verdict .answer)) (placeOfAnswer (verdict .answer)) (roundOfAnswer (verdict .answer)) (verdict .reads)
 
 -- the header and the line
 unfoldable pub linesOf : Verdict → List ℕ

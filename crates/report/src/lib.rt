@@ -12,7 +12,7 @@ ghost use Prim.Native.Nat.{_+_, _-_, _≤_};
 ghost use lib.ListN.{length, take, drop, replicate};
 ghost use Rattle.report.specs.Digits.{bytes};
 ghost use Rattle.report.specs.Put.{Put};
-ghost use Rattle.report.specs.Lines.{orHyphen, numbersOf, lineOf, linesOf};
+ghost use Rattle.report.specs.Lines.{orHyphen, numbersText, lineOf, linesOf};
 
 // `length` bytes at the front of the array, and zeros after them.
 pub struct Text {
@@ -74,7 +74,7 @@ fn put_numbers(
     out: &mut [u8],
 ) -> usize
     requires { ⌜ at + 85 ≤ length (now out) ⌝ }
-    ensures { λ r. ⌜ Put (now (out .entry)) at (numbersOf number place round reads) r (now (out .exit)) ⌝ }
+    ensures { λ r. ⌜ Put (now (out .entry)) at (numbersText number place round reads) r (now (out .exit)) ⌝ }
 {
     let number_end = put_number(number, at, out);
     let place_end = put_position(place, number_end, out);

@@ -9,7 +9,7 @@ use Rattle.refusal.specs.declared.Outcome.the-variants.{Done}
 use Rattle.refusal.specs.Checks.{andThen}
 use Rattle.fri.specs.Layout.{dimension}
 use Rattle.transcript.specs.Numerals.{entryAt, entriesAt}
-use Rattle.transcript.specs.Sections.{sectionStart, sectionCount, sectionEntries, layerSection, kIn, stepsIn, runIn}
+use Rattle.transcript.specs.Sections.{sectionStart, sectionCount, sectionEntries, layerSection, transcriptK, transcriptSteps, runIn}
 use Rattle.transcript.specs.Checks.{dueOutcome, layersFrom}
 use Rattle.transcript.proofs.Numerals.{entry-of}
 use Rattle.transcript.proofs.Sections.{first-start}
@@ -38,7 +38,7 @@ module _ (bytes : List ℕ) where
   -- ---- the layers
 
   pub layers-one : (i left : ℕ) → layersFrom bytes i (suc left)
-      ≡ andThen (dueOutcome bytes (layerSection i) (2 ^ dimension (kIn bytes) (stepsIn bytes) i)) (layersFrom bytes (suc i) left)
+      ≡ andThen (dueOutcome bytes (layerSection i) (2 ^ dimension (transcriptK bytes) (transcriptSteps bytes) i)) (layersFrom bytes (suc i) left)
   unfolding layersFrom
   layers-one i left = refl
 

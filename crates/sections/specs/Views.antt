@@ -1,8 +1,8 @@
 -- What the code has of a transcript by value.
 use mathlib.Core.List.{List}
 use Prim.Native.Nat.{ℕ}
-use Rattle.layers.specs.declared.Parameters.{Parameters}
-use Rattle.transcript.specs.Sections.{sectionStart, kIn, rateIn, stepIn}
+use Rattle.layout.specs.declared.Parameters.{Parameters}
+use Rattle.transcript.specs.Sections.{sectionStart, transcriptK, transcriptRate, transcriptStep}
 use Rattle.sections.specs.declared.Sections.{Sections}
 
 -- where sections 2 to 5 begin
@@ -17,4 +17,4 @@ sectionsIn bytes =
 
 -- k, R and η
 abbrev pub parametersIn : List ℕ → Parameters
-parametersIn bytes = record { k = kIn bytes; rate = rateIn bytes; step = stepIn bytes }
+parametersIn bytes = record { k = transcriptK bytes; rate = transcriptRate bytes; step = transcriptStep bytes }

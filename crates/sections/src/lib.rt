@@ -1,11 +1,11 @@
-// The sections of a transcript: where they begin, their counts and entries, and the refusals before the round checks.
-pub mod checks;
-pub mod entries;
-
-use layers::Parameters;
+// The sections of a transcript: where they begin, and whether their counts and bytes are right.
+use layout::Parameters;
+use refusal::Cause;
+use refusal::Outcome;
 ghost use mathlib.Core.Path.{_≡_};
 ghost use Prim.Native.Nat.{_≤_};
-ghost use Rattle.transcript.specs.Sections.{sectionEnd, sectionCount};
+ghost use Rattle.transcript.specs.Sections.{sectionStart, sectionEnd, sectionCount};
+ghost use Rattle.transcript.specs.Checks.{sectionOutcome, dueOutcome};
 ghost use Rattle.sections.specs.Views.{sectionsIn, parametersIn};
 
 // Where sections 2, 3, 4 and 5 begin; section 1 begins at 0.
@@ -50,4 +50,36 @@ pub fn parameters(bytes: &[u8]) -> Parameters
         rate: entries::entry_at(bytes, 12) as usize,
         step: entries::entry_at(bytes, 20) as usize,
     }
+}
+
+// A section whose count must be the one due (2).
+pub fn checked_due(bytes: &[u8], section: usize, at: usize, due: usize) -> Outcome
+    requires { ⌜ (at ≡ sectionStart (now bytes) section) × (1 ≤ section) × (section ≤ 24) ⌝ }
+    ensures { λ r. ⌜ r ≡ dueOutcome (now (bytes .entry)) section due ⌝ }
+{
+    let count = entries::count_at(bytes, at);
+    checked_section(
+        bytes,
+        section,
+        at,
+        count == due,
+        Cause::CountDiffers { section },
+    )
+}
+
+// A section whose count passes a test, else the cause.
+pub fn checked_section(bytes: &[u8], section: usize, at: usize, test: bool, cause: Cause) -> Outcome
+    requires { ⌜ (at ≡ sectionStart (now bytes) section) × (1 ≤ section) × (section ≤ 24) ⌝ }
+    ensures { λ r. ⌜ r ≡ sectionOutcome (now (bytes .entry)) section test cause ⌝ }
+{
+    if at + 4 > bytes.len() {
+        return Outcome::Refused(Cause::BytesEnd { section });
+    }
+    if !test {
+        return Outcome::Refused(cause);
+    }
+    if end_of(bytes, at) > bytes.len() {
+        return Outcome::Refused(Cause::BytesEnd { section });
+    }
+    Outcome::Done
 }

@@ -26,7 +26,7 @@ use Rattle.fold.proofs.Cases.{fold-cases, d-offset, d-basis}
 use Rattle.fri.specs.Layout.{dimension, lastCount, layerStart, storeLength, storedLayer, indexIn}
 use Rattle.fri.specs.Run.{Run, stepsIn, layerIn}
 use Rattle.fri.specs.Layers.{layerBasis, layerOffset, foldOf, honestLayer, honestStore, lastInterpolant, honestLast}
-use Rattle.fri.specs.Layout.{joined}
+use Rattle.fri.specs.Layout.{joinedLayers}
 use Rattle.fri.specs.Checks.{laterBasesOutcome, runOutcome, firstOutside}
 use Rattle.fri.specs.Judge.{verdictOf}
 use Rattle.fri.specs.Rounds.{valueComputed, valueFound, firstFailingRound, roundsOutcome}
@@ -93,37 +93,37 @@ unfolding product inverse power powerIn timesWhere carryless carrylessIn remaind
 k-interpolant = refl
 
 j-store : honestStore (small 4 (0 ∷ 0 ∷ 0 ∷ 1 ∷ []) (7 ∷ [])) ≡ []
-unfolding joined honestStore
+unfolding joinedLayers honestStore
 j-store = refl
 
 k-store : honestStore (twoRounds (0 ∷ 0 ∷ 0 ∷ 0 ∷ []) (0 ∷ [])) ≡ 2 ∷ 4 ∷ 0x16 ∷ 0x10 ∷ []
-unfolding product inverse power powerIn timesWhere carryless carrylessIn remainder remainderIn timesT evaluate interpolant plus scale timesLinear dividedDifferences vanishingPolynomial point points tabulated inSpan firstDependentAfter firstDependent nextOffset nextBasis image subspacePolynomial interpolated folded foldEntry cosetPoints cosetEntries layerBasis layerOffset foldOf honestLayer joined honestStore
+unfolding product inverse power powerIn timesWhere carryless carrylessIn remainder remainderIn timesT evaluate interpolant plus scale timesLinear dividedDifferences vanishingPolynomial point points tabulated inSpan firstDependentAfter firstDependent nextOffset nextBasis image subspacePolynomial interpolated folded foldEntry cosetPoints cosetEntries layerBasis layerOffset foldOf honestLayer joinedLayers honestStore
 k-store = refl
 
 -- ---- cases G, H, I, K and L: the judge
 
 g : Tells (verdictOf (small 4 (7 ∷ 4 ∷ 1 ∷ 2 ∷ []) (0xb ∷ [])) (0 ∷ 3 ∷ [])) 0 Absent Absent 4
-unfolding product inverse power powerIn timesWhere carryless carrylessIn remainder remainderIn timesT evaluate interpolant plus scale timesLinear dividedDifferences vanishingPolynomial point points tabulated inSpan firstDependentAfter firstDependent nextOffset nextBasis image subspacePolynomial interpolated folded foldEntry cosetPoints cosetEntries dimension lastCount layerStart storeLength storedLayer indexIn layerIn layerBasis layerOffset foldOf honestLayer joined honestStore lastInterpolant laterBasesOutcome firstOutside valueComputed valueFound firstFailingRound roundsOutcome entryCount entriesRead
+unfolding product inverse power powerIn timesWhere carryless carrylessIn remainder remainderIn timesT evaluate interpolant plus scale timesLinear dividedDifferences vanishingPolynomial point points tabulated inSpan firstDependentAfter firstDependent nextOffset nextBasis image subspacePolynomial interpolated folded foldEntry cosetPoints cosetEntries dimension lastCount layerStart storeLength storedLayer indexIn layerIn layerBasis layerOffset foldOf honestLayer joinedLayers honestStore lastInterpolant laterBasesOutcome firstOutside valueComputed valueFound firstFailingRound roundsOutcome entryCount entriesRead
 g = (refl, refl, refl, refl)
 
 h : Tells (verdictOf (small 4 (7 ∷ 4 ∷ 1 ∷ 3 ∷ []) (0xb ∷ [])) (0 ∷ 3 ∷ [])) 11 (At 1) (At 0) 4
-unfolding product inverse power powerIn timesWhere carryless carrylessIn remainder remainderIn timesT evaluate interpolant plus scale timesLinear dividedDifferences vanishingPolynomial point points tabulated inSpan firstDependentAfter firstDependent nextOffset nextBasis image subspacePolynomial interpolated folded foldEntry cosetPoints cosetEntries dimension lastCount layerStart storeLength storedLayer indexIn layerIn layerBasis layerOffset foldOf honestLayer joined honestStore lastInterpolant laterBasesOutcome firstOutside valueComputed valueFound firstFailingRound roundsOutcome entryCount entriesRead
+unfolding product inverse power powerIn timesWhere carryless carrylessIn remainder remainderIn timesT evaluate interpolant plus scale timesLinear dividedDifferences vanishingPolynomial point points tabulated inSpan firstDependentAfter firstDependent nextOffset nextBasis image subspacePolynomial interpolated folded foldEntry cosetPoints cosetEntries dimension lastCount layerStart storeLength storedLayer indexIn layerIn layerBasis layerOffset foldOf honestLayer joinedLayers honestStore lastInterpolant laterBasesOutcome firstOutside valueComputed valueFound firstFailingRound roundsOutcome entryCount entriesRead
 h = (refl, refl, refl, refl)
 
 i : Tells (verdictOf (small 4 (7 ∷ 4 ∷ 1 ∷ 3 ∷ []) (0xb ∷ [])) (0 ∷ [])) 0 Absent Absent 2
-unfolding product inverse power powerIn timesWhere carryless carrylessIn remainder remainderIn timesT evaluate interpolant plus scale timesLinear dividedDifferences vanishingPolynomial point points tabulated inSpan firstDependentAfter firstDependent nextOffset nextBasis image subspacePolynomial interpolated folded foldEntry cosetPoints cosetEntries dimension lastCount layerStart storeLength storedLayer indexIn layerIn layerBasis layerOffset foldOf honestLayer joined honestStore lastInterpolant laterBasesOutcome firstOutside valueComputed valueFound firstFailingRound roundsOutcome entryCount entriesRead
+unfolding product inverse power powerIn timesWhere carryless carrylessIn remainder remainderIn timesT evaluate interpolant plus scale timesLinear dividedDifferences vanishingPolynomial point points tabulated inSpan firstDependentAfter firstDependent nextOffset nextBasis image subspacePolynomial interpolated folded foldEntry cosetPoints cosetEntries dimension lastCount layerStart storeLength storedLayer indexIn layerIn layerBasis layerOffset foldOf honestLayer joinedLayers honestStore lastInterpolant laterBasesOutcome firstOutside valueComputed valueFound firstFailingRound roundsOutcome entryCount entriesRead
 i = (refl, refl, refl, refl)
 
 k-query : Tells (verdictOf (twoRounds (2 ∷ 4 ∷ 0x16 ∷ 0x10 ∷ []) (1 ∷ [])) (5 ∷ [])) 0 Absent Absent 4
-unfolding product inverse power powerIn timesWhere carryless carrylessIn remainder remainderIn timesT evaluate interpolant plus scale timesLinear dividedDifferences vanishingPolynomial point points tabulated inSpan firstDependentAfter firstDependent nextOffset nextBasis image subspacePolynomial interpolated folded foldEntry cosetPoints cosetEntries dimension lastCount layerStart storeLength storedLayer indexIn layerIn layerBasis layerOffset foldOf honestLayer joined honestStore lastInterpolant laterBasesOutcome firstOutside valueComputed valueFound firstFailingRound roundsOutcome entryCount entriesRead
+unfolding product inverse power powerIn timesWhere carryless carrylessIn remainder remainderIn timesT evaluate interpolant plus scale timesLinear dividedDifferences vanishingPolynomial point points tabulated inSpan firstDependentAfter firstDependent nextOffset nextBasis image subspacePolynomial interpolated folded foldEntry cosetPoints cosetEntries dimension lastCount layerStart storeLength storedLayer indexIn layerIn layerBasis layerOffset foldOf honestLayer joinedLayers honestStore lastInterpolant laterBasesOutcome firstOutside valueComputed valueFound firstFailingRound roundsOutcome entryCount entriesRead
 k-query = (refl, refl, refl, refl)
 
 l : Tells (verdictOf (twoRounds (3 ∷ 4 ∷ 0x16 ∷ 0x10 ∷ []) (1 ∷ [])) (0 ∷ [])) 11 (At 0) (At 0) 4
-unfolding product inverse power powerIn timesWhere carryless carrylessIn remainder remainderIn timesT evaluate interpolant plus scale timesLinear dividedDifferences vanishingPolynomial point points tabulated inSpan firstDependentAfter firstDependent nextOffset nextBasis image subspacePolynomial interpolated folded foldEntry cosetPoints cosetEntries dimension lastCount layerStart storeLength storedLayer indexIn layerIn layerBasis layerOffset foldOf honestLayer joined honestStore lastInterpolant laterBasesOutcome firstOutside valueComputed valueFound firstFailingRound roundsOutcome entryCount entriesRead
+unfolding product inverse power powerIn timesWhere carryless carrylessIn remainder remainderIn timesT evaluate interpolant plus scale timesLinear dividedDifferences vanishingPolynomial point points tabulated inSpan firstDependentAfter firstDependent nextOffset nextBasis image subspacePolynomial interpolated folded foldEntry cosetPoints cosetEntries dimension lastCount layerStart storeLength storedLayer indexIn layerIn layerBasis layerOffset foldOf honestLayer joinedLayers honestStore lastInterpolant laterBasesOutcome firstOutside valueComputed valueFound firstFailingRound roundsOutcome entryCount entriesRead
 l = (refl, refl, refl, refl)
 
 l-query : Tells (verdictOf (twoRounds (3 ∷ 4 ∷ 0x16 ∷ 0x10 ∷ []) (1 ∷ [])) (7 ∷ [])) 0 Absent Absent 4
-unfolding product inverse power powerIn timesWhere carryless carrylessIn remainder remainderIn timesT evaluate interpolant plus scale timesLinear dividedDifferences vanishingPolynomial point points tabulated inSpan firstDependentAfter firstDependent nextOffset nextBasis image subspacePolynomial interpolated folded foldEntry cosetPoints cosetEntries dimension lastCount layerStart storeLength storedLayer indexIn layerIn layerBasis layerOffset foldOf honestLayer joined honestStore lastInterpolant laterBasesOutcome firstOutside valueComputed valueFound firstFailingRound roundsOutcome entryCount entriesRead
+unfolding product inverse power powerIn timesWhere carryless carrylessIn remainder remainderIn timesT evaluate interpolant plus scale timesLinear dividedDifferences vanishingPolynomial point points tabulated inSpan firstDependentAfter firstDependent nextOffset nextBasis image subspacePolynomial interpolated folded foldEntry cosetPoints cosetEntries dimension lastCount layerStart storeLength storedLayer indexIn layerIn layerBasis layerOffset foldOf honestLayer joinedLayers honestStore lastInterpolant laterBasesOutcome firstOutside valueComputed valueFound firstFailingRound roundsOutcome entryCount entriesRead
 l-query = (refl, refl, refl, refl)
 
 pub table-a : TableA

@@ -5,7 +5,7 @@ use Prim.Native.Nat.{ℕ, zero, suc, _^_, _≤_, _<_}
 use native.Mathlib.Omega.{arith}
 use Rattle.refusal.specs.declared.Position.the-variants.{At, Absent}
 use Rattle.fri.specs.declared.Verdict.{Verdict}
-use Rattle.fri.specs.Layout.{dimension, lastCount, joined}
+use Rattle.fri.specs.Layout.{dimension, lastCount, joinedLayers}
 use Rattle.fri.specs.Run.{Run}
 use Rattle.fri.specs.Judge.{verdictOf}
 use Rattle.fri.specs.Theorems.{Tells}
@@ -61,11 +61,11 @@ carries last =
 
 -- what the bytes carry
 run-g : runIn (oneRound 2) ≡ small 4 (7 ∷ 4 ∷ 1 ∷ 2 ∷ []) (0xb ∷ [])
-unfolding littleEndian countAt entryAt entriesAt sectionStart joined
+unfolding littleEndian countAt entryAt entriesAt sectionStart joinedLayers
 run-g = refl
 
 run-h : runIn (oneRound 3) ≡ small 4 (7 ∷ 4 ∷ 1 ∷ 3 ∷ []) (0xb ∷ [])
-unfolding littleEndian countAt entryAt entriesAt sectionStart joined
+unfolding littleEndian countAt entryAt entriesAt sectionStart joinedLayers
 run-h = refl
 
 queries-both : (last : ℕ) → queriesIn (oneRound last) ≡ 0 ∷ 3 ∷ []

@@ -21,7 +21,7 @@ use Rattle.fri.specs.Judge.{checksOutcome}
 use Rattle.fri.specs.Theorems.{Fit}
 use Rattle.fri.proofs.Checks.{parameters-pass, lengths-pass, queries-valid}
 use Rattle.fri.proofs.Layouts.{joined-length, joined-found, some-round}
-use Rattle.transcript.specs.Sections.{sectionStart, sectionCount, sectionEntries, layerSection, kIn, rateIn, stepIn, stepsIn, roundsIn, runIn, queriesIn}
+use Rattle.transcript.specs.Sections.{sectionStart, sectionCount, sectionEntries, layerSection, transcriptK, transcriptRate, transcriptStep, transcriptSteps, transcriptRounds, runIn, queriesIn}
 use Rattle.transcript.specs.Checks.{dueOutcome, parametersSection, cosetSection, challengesSection, queriesSection, frontOutcome, layersFrom, endOutcome, layersOutcome, transcriptOutcome}
 use Rattle.transcript.specs.Theorems.{Carries}
 use Rattle.transcript.proofs.Numerals.{length-entries}
@@ -38,10 +38,10 @@ then-nothing (Refused cause) = refl
 
 module _ (bytes : List ℕ) where
   abbrev r : ℕ
-  r = roundsIn bytes
+  r = transcriptRounds bytes
 
   abbrev last-due : ℕ
-  last-due = lastCount (kIn bytes) (rateIn bytes) (stepsIn bytes)
+  last-due = lastCount (transcriptK bytes) (transcriptRate bytes) (transcriptSteps bytes)
 
   abbrev end : Outcome
   end = refusedUnless (eqb (sectionStart bytes (suc (layerSection r))) (length bytes)) TrailingBytes Done
@@ -53,7 +53,7 @@ module _ (bytes : List ℕ) where
   counted = leb 1 (sectionCount bytes 4) && leb (sectionCount bytes 4) 256
 
   abbrev outside : Outcome
-  outside = outcomeOfOutside (firstOutside (2 ^ kIn bytes) (queriesIn bytes) 0)
+  outside = outcomeOfOutside (firstOutside (2 ^ transcriptK bytes) (queriesIn bytes) 0)
 
   module _ (c : Carries bytes) where
     -- all sections end within the bytes
@@ -61,9 +61,9 @@ module _ (bytes : List ℕ) where
     inside s h l = le-trans (start-later bytes (suc s) (suc (layerSection r)) (omega arith) (omega arith)) (le-of-eq (c .ends))
 
     pub rounds-some : 0 < r
-    rounds-some = some-round (kIn bytes) (rateIn bytes) (stepIn bytes) (c .parameters .step-least) (c .parameters .k-enough)
+    rounds-some = some-round (transcriptK bytes) (transcriptRate bytes) (transcriptStep bytes) (c .parameters .step-least) (c .parameters .k-enough)
 
-    layer-sized : (i : ℕ) → i < r → length (layer i) ≡ 2 ^ dimension (kIn bytes) (stepsIn bytes) i
+    layer-sized : (i : ℕ) → i < r → length (layer i) ≡ 2 ^ dimension (transcriptK bytes) (transcriptSteps bytes) i
     layer-sized i h = length-entries bytes (sectionStart bytes (layerSection i) + 4) (sectionCount bytes (layerSection i)) ∙ c .layer-counts i h
 
     -- the lists that they carry have the lengths due
@@ -77,12 +77,12 @@ module _ (bytes : List ℕ) where
           challenges = length-entries bytes (sectionStart bytes 3 + 4) (sectionCount bytes 3) ∙ c .challenges-count;
           word = layer-sized 0 rounds-some;
           store =
-              joined-length (kIn bytes) (stepsIn bytes) layer (r - 1) (λ i least most. layer-sized i (omega (arith, rounds-some)))
-              ∙ ap (λ (n : ℕ). layerStart (kIn bytes) (stepsIn bytes) n) whole;
+              joined-length (transcriptK bytes) (transcriptSteps bytes) layer (r - 1) (λ i least most. layer-sized i (omega (arith, rounds-some)))
+              ∙ ap (λ (n : ℕ). layerStart (transcriptK bytes) (transcriptSteps bytes) n) whole;
           last = length-entries bytes (sectionStart bytes (layerSection r) + 4) (sectionCount bytes (layerSection r)) ∙ c .last-count;
         }
       where
-        one-less : kIn bytes + 1 - 1 ≡ kIn bytes
+        one-less : transcriptK bytes + 1 - 1 ≡ transcriptK bytes
         one-less = omega arith
 
         whole : suc (r - 1) ≡ r
@@ -92,32 +92,32 @@ module _ (bytes : List ℕ) where
     pub layer-is : (i : ℕ) → i < r → layerIn (runIn bytes) i ≡ layer i
     unfolding layerIn
     layer-is zero h = refl
-    layer-is (suc i) h = joined-found (kIn bytes) (stepsIn bytes) layer (r - 1) (λ j least most. layer-sized j (omega (arith, rounds-some))) (suc i) (omega arith) (omega (arith, rounds-some))
+    layer-is (suc i) h = joined-found (transcriptK bytes) (transcriptSteps bytes) layer (r - 1) (λ j least most. layer-sized j (omega (arith, rounds-some))) (suc i) (omega arith) (omega (arith, rounds-some))
 
     -- ---- the checks
 
     parameters-section : parametersSection bytes ≡ Done
     parameters-section =
-        sym (then-passed (dueOutcome bytes 1 3) (parametersOutcome (kIn bytes) (rateIn bytes) (stepIn bytes))
+        sym (then-passed (dueOutcome bytes 1 3) (parametersOutcome (transcriptK bytes) (transcriptRate bytes) (transcriptStep bytes))
         (due-passes bytes 1 3 (omega arith) (c .parameters-count) (inside 1 (omega arith) (omega arith))))
-        ∙ parameters-pass (kIn bytes) (rateIn bytes) (stepIn bytes) (c .parameters)
+        ∙ parameters-pass (transcriptK bytes) (transcriptRate bytes) (transcriptStep bytes) (c .parameters)
 
-    coset-section : cosetSection bytes ≡ basesOutcome (stepsIn bytes) (runIn bytes .basis)
+    coset-section : cosetSection bytes ≡ basesOutcome (transcriptSteps bytes) (runIn bytes .basis)
     coset-section =
-        sym (then-passed (dueOutcome bytes 2 (kIn bytes + 1)) (basesOutcome (stepsIn bytes) (runIn bytes .basis))
-        (due-passes bytes 2 (kIn bytes + 1) (omega arith) (c .coset-count) (inside 2 (omega arith) (omega arith))))
+        sym (then-passed (dueOutcome bytes 2 (transcriptK bytes + 1)) (basesOutcome (transcriptSteps bytes) (runIn bytes .basis))
+        (due-passes bytes 2 (transcriptK bytes + 1) (omega arith) (c .coset-count) (inside 2 (omega arith) (omega arith))))
 
     challenges-section : challengesSection bytes ≡ Done
     challenges-section = due-passes bytes 3 r (omega arith) (c .challenges-count) (inside 3 (omega arith) (omega arith))
 
-    queries-section : queriesSection bytes ≡ queriesOutcome (kIn bytes) (queriesIn bytes)
+    queries-section : queriesSection bytes ≡ queriesOutcome (transcriptK bytes) (queriesIn bytes)
     queries-section =
         ap (λ (o : Outcome). andThen o outside) (section-tested bytes 4 counted QueryCountOutOfRange (omega arith) (inside 4 (omega arith) (omega arith)))
         ∙ test-then counted QueryCountOutOfRange outside
         ∙ ap (λ (n : ℕ). refusedUnless (leb 1 n && leb n 256) QueryCountOutOfRange outside)
         (sym (length-entries bytes (sectionStart bytes 4 + 4) (sectionCount bytes 4)))
 
-    front-is : frontOutcome bytes ≡ andThen (basesOutcome (stepsIn bytes) (runIn bytes .basis)) (queriesOutcome (kIn bytes) (queriesIn bytes))
+    front-is : frontOutcome bytes ≡ andThen (basesOutcome (transcriptSteps bytes) (runIn bytes .basis)) (queriesOutcome (transcriptK bytes) (queriesIn bytes))
     front-is =
         sym (then-passed (parametersSection bytes) (andThen (cosetSection bytes) (andThen (challengesSection bytes) (queriesSection bytes))) parameters-section)
         ∙ ap₂ andThen coset-section (sym (then-passed (challengesSection bytes) (queriesSection bytes) challenges-section) ∙ queries-section)
@@ -126,7 +126,7 @@ module _ (bytes : List ℕ) where
     layers-pass-all =
         sym (then-passed (layersFrom bytes 0 r) (endOutcome bytes)
         (layers-pass bytes 0 r r (omega arith)
-        (λ j l m. due-passes bytes (layerSection j) (2 ^ dimension (kIn bytes) (stepsIn bytes) j) (omega arith) (c .layer-counts j m) (inside (layerSection j) (omega arith) (omega arith)))))
+        (λ j l m. due-passes bytes (layerSection j) (2 ^ dimension (transcriptK bytes) (transcriptSteps bytes) j) (omega arith) (c .layer-counts j m) (inside (layerSection j) (omega arith) (omega arith)))))
         ∙ sym (then-passed (dueOutcome bytes (layerSection r) last-due) end
         (due-passes bytes (layerSection r) last-due (omega arith) (c .last-count) (inside (layerSection r) (omega arith) (omega arith))))
         ∙ sym (passed-by (eqb (sectionStart bytes (suc (layerSection r))) (length bytes)) TrailingBytes Done (eq-eqb (sectionStart bytes (suc (layerSection r))) (length bytes) (c .ends)))
@@ -135,15 +135,15 @@ module _ (bytes : List ℕ) where
     pub checks-are : transcriptOutcome bytes ≡ checksOutcome (runIn bytes) (queriesIn bytes)
     checks-are =
         ap₂ andThen front-is layers-pass-all
-        ∙ then-nothing (andThen (basesOutcome (stepsIn bytes) (runIn bytes .basis)) (queriesOutcome (kIn bytes) (queriesIn bytes)))
-        ∙ ap (λ (o : Outcome). andThen o (queriesOutcome (kIn bytes) (queriesIn bytes))) lists
+        ∙ then-nothing (andThen (basesOutcome (transcriptSteps bytes) (runIn bytes .basis)) (queriesOutcome (transcriptK bytes) (queriesIn bytes)))
+        ∙ ap (λ (o : Outcome). andThen o (queriesOutcome (transcriptK bytes) (queriesIn bytes))) lists
       where
-        lists : basesOutcome (stepsIn bytes) (runIn bytes .basis) ≡ runOutcome (runIn bytes)
+        lists : basesOutcome (transcriptSteps bytes) (runIn bytes .basis) ≡ runOutcome (runIn bytes)
         lists =
-            then-passed (lengthsOutcome (runIn bytes)) (basesOutcome (stepsIn bytes) (runIn bytes .basis)) (lengths-pass (runIn bytes) fit)
-            ∙ then-passed (parametersOutcome (kIn bytes) (rateIn bytes) (stepIn bytes))
-            (andThen (lengthsOutcome (runIn bytes)) (basesOutcome (stepsIn bytes) (runIn bytes .basis)))
-            (parameters-pass (kIn bytes) (rateIn bytes) (stepIn bytes) (c .parameters))
+            then-passed (lengthsOutcome (runIn bytes)) (basesOutcome (transcriptSteps bytes) (runIn bytes .basis)) (lengths-pass (runIn bytes) fit)
+            ∙ then-passed (parametersOutcome (transcriptK bytes) (transcriptRate bytes) (transcriptStep bytes))
+            (andThen (lengthsOutcome (runIn bytes)) (basesOutcome (transcriptSteps bytes) (runIn bytes .basis)))
+            (parameters-pass (transcriptK bytes) (transcriptRate bytes) (transcriptStep bytes) (c .parameters))
 
   -- ---- bytes that pass carry lists
 
@@ -154,16 +154,16 @@ module _ (bytes : List ℕ) where
       let second = then-done (cosetSection bytes) (andThen (challengesSection bytes) (queriesSection bytes)) (first .1) in
       let third = then-done (challengesSection bytes) (queriesSection bytes) (second .1) in
       let parameters = parameters-done bytes (first .0) in
-      let coset = then-done (dueOutcome bytes 2 (kIn bytes + 1)) (basesOutcome (stepsIn bytes) (runIn bytes .basis)) (second .0) in
+      let coset = then-done (dueOutcome bytes 2 (transcriptK bytes + 1)) (basesOutcome (transcriptSteps bytes) (runIn bytes .basis)) (second .0) in
       let layers = then-done (layersFrom bytes 0 r) (endOutcome bytes) (both .1) in
       let last = then-done (dueOutcome bytes (layerSection r) last-due) end (layers .1) in
       record {
         parameters-count = parameters .0;
         parameters = parameters .1;
-        coset-count = due-done bytes 2 (kIn bytes + 1) (coset .0) .0;
+        coset-count = due-done bytes 2 (transcriptK bytes + 1) (coset .0) .0;
         challenges-count = due-done bytes 3 r (third .0) .0;
         layer-counts =
-            λ i h. due-done bytes (layerSection i) (2 ^ dimension (kIn bytes) (stepsIn bytes) i) (layers-done bytes 0 r r (omega arith) (layers .0) i (omega arith) h) .0;
+            λ i h. due-done bytes (layerSection i) (2 ^ dimension (transcriptK bytes) (transcriptSteps bytes) i) (layers-done bytes 0 r r (omega arith) (layers .0) i (omega arith) h) .0;
         last-count = due-done bytes (layerSection r) last-due (last .0) .0;
         ends =
             equal-of-test (sectionStart bytes (suc (layerSection r))) (length bytes)
@@ -174,5 +174,5 @@ module _ (bytes : List ℕ) where
   pub queries-few : transcriptOutcome bytes ≡ Done → sectionCount bytes 4 ≤ 256
   queries-few done =
       let carries = passed-carries done in
-      let queries = then-done (runOutcome (runIn bytes)) (queriesOutcome (kIn bytes) (queriesIn bytes)) (sym (checks-are carries) ∙ done) .1 in
-      subst (λ (n : ℕ). n ≤ 256) (length-entries bytes (sectionStart bytes 4 + 4) (sectionCount bytes 4)) (queries-valid (kIn bytes) (queriesIn bytes) queries .most)
+      let queries = then-done (runOutcome (runIn bytes)) (queriesOutcome (transcriptK bytes) (queriesIn bytes)) (sym (checks-are carries) ∙ done) .1 in
+      subst (λ (n : ℕ). n ≤ 256) (length-entries bytes (sectionStart bytes 4 + 4) (sectionCount bytes 4)) (queries-valid (transcriptK bytes) (queriesIn bytes) queries .most)

@@ -19,7 +19,7 @@ use Rattle.fri.specs.Layout.{dimension}
 use Rattle.fri.specs.Checks.{parametersOutcome}
 use Rattle.fri.specs.Demand.{ValidParameters}
 use Rattle.fri.proofs.Checks.{parameters-valid}
-use Rattle.transcript.specs.Sections.{sectionStart, sectionCount, layerSection, kIn, rateIn, stepIn, stepsIn}
+use Rattle.transcript.specs.Sections.{sectionStart, sectionCount, layerSection, transcriptK, transcriptRate, transcriptStep, transcriptSteps}
 use Rattle.transcript.specs.Checks.{sectionOutcome, dueOutcome, parametersSection, cosetSection, challengesSection, queriesSection, frontOutcome, layersFrom}
 use Rattle.transcript.proofs.Sections.{start-next}
 
@@ -79,18 +79,18 @@ module _ (bytes : List ℕ) where
   -- ---- sections 1 to 4
 
   -- where section 1 passes, it has the three, in range
-  pub parameters-done : parametersSection bytes ≡ Done → (sectionCount bytes 1 ≡ 3) × ValidParameters (kIn bytes) (rateIn bytes) (stepIn bytes)
+  pub parameters-done : parametersSection bytes ≡ Done → (sectionCount bytes 1 ≡ 3) × ValidParameters (transcriptK bytes) (transcriptRate bytes) (transcriptStep bytes)
   parameters-done e =
-      let both = then-done (dueOutcome bytes 1 3) (parametersOutcome (kIn bytes) (rateIn bytes) (stepIn bytes)) e in
-      (due-done 1 3 (both .0) .0, parameters-valid (kIn bytes) (rateIn bytes) (stepIn bytes) (both .1))
+      let both = then-done (dueOutcome bytes 1 3) (parametersOutcome (transcriptK bytes) (transcriptRate bytes) (transcriptStep bytes)) e in
+      (due-done 1 3 (both .0) .0, parameters-valid (transcriptK bytes) (transcriptRate bytes) (transcriptStep bytes) (both .1))
 
-  pub front-done : frontOutcome bytes ≡ Done → (sectionCount bytes 1 ≡ 3) × ValidParameters (kIn bytes) (rateIn bytes) (stepIn bytes)
+  pub front-done : frontOutcome bytes ≡ Done → (sectionCount bytes 1 ≡ 3) × ValidParameters (transcriptK bytes) (transcriptRate bytes) (transcriptStep bytes)
   front-done e = parameters-done (then-done (parametersSection bytes) (andThen (cosetSection bytes) (andThen (challengesSection bytes) (queriesSection bytes))) e .0)
 
   -- ---- the layers
 
   abbrev size : ℕ → ℕ
-  size i = 2 ^ dimension (kIn bytes) (stepsIn bytes) i
+  size i = 2 ^ dimension (transcriptK bytes) (transcriptSteps bytes) i
 
   -- from layer i on, those before n
   pub layers-pass : (i left n : ℕ) → i + left ≡ n → ((j : ℕ) → i ≤ j → j < n → dueOutcome bytes (layerSection j) (size j) ≡ Done) → layersFrom bytes i left ≡ Done

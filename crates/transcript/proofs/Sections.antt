@@ -7,10 +7,10 @@ use native.Mathlib.Omega.{arith}
 use Rattle.gf64.specs.Field.{IsElement}
 use Rattle.poly.specs.Polynomial.{All}
 use Rattle.poly.proofs.Entries.{all-append, all-drop, all-getD}
-use Rattle.fri.specs.Layout.{joined}
+use Rattle.fri.specs.Layout.{joinedLayers}
 use Rattle.fri.specs.Demand.{Elements}
 use Rattle.transcript.specs.Numerals.{AreBytes}
-use Rattle.transcript.specs.Sections.{sectionEnd, sectionStart, sectionCount, sectionEntries, layerSection, roundsIn, runIn}
+use Rattle.transcript.specs.Sections.{sectionEnd, sectionStart, sectionCount, sectionEntries, layerSection, transcriptRounds, runIn}
 use Rattle.transcript.proofs.Numerals.{count-fits, entries-fit}
 
 module _ (bytes : List ℕ) where
@@ -54,11 +54,11 @@ module _ (bytes : List ℕ) where
     pub section-fits : (s : ℕ) → All IsElement (sectionEntries bytes s)
     section-fits s = entries-fit bytes h (sectionStart bytes s + 4) (sectionCount bytes s)
 
-    joined-fit : (n : ℕ) → All IsElement (joined (λ i. sectionEntries bytes (layerSection i)) n)
-    unfolding joined
+    joined-fit : (n : ℕ) → All IsElement (joinedLayers (λ i. sectionEntries bytes (layerSection i)) n)
+    unfolding joinedLayers
     joined-fit zero = record {}
     joined-fit (suc n) =
-        all-append IsElement (joined (λ i. sectionEntries bytes (layerSection i)) n) (sectionEntries bytes (layerSection (suc n))) (joined-fit n)
+        all-append IsElement (joinedLayers (λ i. sectionEntries bytes (layerSection i)) n) (sectionEntries bytes (layerSection (suc n))) (joined-fit n)
         (section-fits (layerSection (suc n)))
 
     -- the run that they carry has 64-bit numbers

@@ -34,7 +34,7 @@ use Rattle.fri.proofs.Verdicts.{done-of, refused-of, same-number, Either, which
 use Rattle.fri.proofs.Soundness.{soundness}
 use Rattle.fri.proofs.Completeness.{completeness}
 use Rattle.transcript.specs.Numerals.{AreBytes}
-use Rattle.transcript.specs.Sections.{sectionStart, stepsIn, runIn, queriesIn}
+use Rattle.transcript.specs.Sections.{sectionStart, transcriptSteps, runIn, queriesIn}
 use Rattle.transcript.specs.Checks.{transcriptOutcome}
 use Rattle.transcript.specs.Judge.{transcriptVerdict, inputVerdict}
 use Rattle.transcript.specs.Theorems.{Carries, JudgingBytes, TranscriptCompleteness, OfRun, TranscriptSoundness, TranscriptNumbers}
@@ -88,7 +88,7 @@ refused-carries bytes query round e =
     by : Either (transcriptOutcome bytes) (roundsOutcome (runIn bytes) (queriesIn bytes) 0) (RoundCheckFails query round) → Carries bytes
     by (inl early) =
         absurd
-        (transcript-number (λ n. n ≢ 11) (λ n l e. omega arith) bytes (early-not 11 (numberOfOutcome (basesOutcome (stepsIn bytes) (runIn bytes .basis))) (omega arith) (omega arith) (bases-early (runIn bytes)))
+        (transcript-number (λ n. n ≢ 11) (λ n l e. omega arith) bytes (early-not 11 (numberOfOutcome (basesOutcome (transcriptSteps bytes) (runIn bytes .basis))) (omega arith) (omega arith) (bases-early (runIn bytes)))
         (ap numberOfOutcome early))
     by (inr (passed, late)) = passed-carries bytes passed
 

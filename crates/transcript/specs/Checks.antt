@@ -12,7 +12,7 @@ use Rattle.refusal.specs.declared.Outcome.the-variants.{Done}
 use Rattle.refusal.specs.Checks.{refusedUnless, andThen}
 use Rattle.fri.specs.Layout.{dimension, lastCount}
 use Rattle.fri.specs.Checks.{parametersOutcome, basesOutcome, firstOutside, outcomeOfOutside}
-use Rattle.transcript.specs.Sections.{sectionStart, sectionCount, layerSection, kIn, rateIn, stepIn, stepsIn, roundsIn, runIn, queriesIn}
+use Rattle.transcript.specs.Sections.{sectionStart, sectionCount, layerSection, transcriptK, transcriptRate, transcriptStep, transcriptSteps, transcriptRounds, runIn, queriesIn}
 
 -- section s: its count's bytes (1), its count, which must pass the test, its entries' bytes (1)
 abbrev pub sectionOutcome : List ℕ → ℕ → Bool → Cause → Outcome
@@ -28,21 +28,21 @@ dueOutcome bytes s due = sectionOutcome bytes s (eqb (sectionCount bytes s) due)
 
 -- section 1, and the ranges (4 to 7)
 abbrev pub parametersSection : List ℕ → Outcome
-parametersSection bytes = andThen (dueOutcome bytes 1 3) (parametersOutcome (kIn bytes) (rateIn bytes) (stepIn bytes))
+parametersSection bytes = andThen (dueOutcome bytes 1 3) (parametersOutcome (transcriptK bytes) (transcriptRate bytes) (transcriptStep bytes))
 
 -- section 2, and the bases (8, then 16)
 abbrev pub cosetSection : List ℕ → Outcome
-cosetSection bytes = andThen (dueOutcome bytes 2 (kIn bytes + 1)) (basesOutcome (stepsIn bytes) (runIn bytes .basis))
+cosetSection bytes = andThen (dueOutcome bytes 2 (transcriptK bytes + 1)) (basesOutcome (transcriptSteps bytes) (runIn bytes .basis))
 
 -- section 3
 abbrev pub challengesSection : List ℕ → Outcome
-challengesSection bytes = dueOutcome bytes 3 (roundsIn bytes)
+challengesSection bytes = dueOutcome bytes 3 (transcriptRounds bytes)
 
 -- section 4: 1 to 256 queries (9), each below 2^k (10)
 abbrev pub queriesSection : List ℕ → Outcome
 queriesSection bytes =
     andThen (sectionOutcome bytes 4 (leb 1 (sectionCount bytes 4) && leb (sectionCount bytes 4) 256) QueryCountOutOfRange)
-    (outcomeOfOutside (firstOutside (2 ^ kIn bytes) (queriesIn bytes) 0))
+    (outcomeOfOutside (firstOutside (2 ^ transcriptK bytes) (queriesIn bytes) 0))
 
 -- sections 1 to 4
 abbrev pub frontOutcome : List ℕ → Outcome
@@ -52,17 +52,17 @@ frontOutcome bytes = andThen (parametersSection bytes) (andThen (cosetSection by
 unfoldable pub layersFrom : List ℕ → ℕ → ℕ → Outcome
 layersFrom bytes i zero = Done
 layersFrom bytes i (suc left) =
-    andThen (dueOutcome bytes (layerSection i) (2 ^ dimension (kIn bytes) (stepsIn bytes) i)) (layersFrom bytes (suc i) left)
+    andThen (dueOutcome bytes (layerSection i) (2 ^ dimension (transcriptK bytes) (transcriptSteps bytes) i)) (layersFrom bytes (suc i) left)
 
 -- the last coefficients, after which nothing follows (3)
 abbrev pub endOutcome : List ℕ → Outcome
 endOutcome bytes =
-    andThen (dueOutcome bytes (layerSection (roundsIn bytes)) (lastCount (kIn bytes) (rateIn bytes) (stepsIn bytes)))
-    (refusedUnless (eqb (sectionStart bytes (suc (layerSection (roundsIn bytes)))) (length bytes)) TrailingBytes Done)
+    andThen (dueOutcome bytes (layerSection (transcriptRounds bytes)) (lastCount (transcriptK bytes) (transcriptRate bytes) (transcriptSteps bytes)))
+    (refusedUnless (eqb (sectionStart bytes (suc (layerSection (transcriptRounds bytes)))) (length bytes)) TrailingBytes Done)
 
 -- the sections of the layers and the last one
 abbrev pub layersOutcome : List ℕ → Outcome
-layersOutcome bytes = andThen (layersFrom bytes 0 (roundsIn bytes)) (endOutcome bytes)
+layersOutcome bytes = andThen (layersFrom bytes 0 (transcriptRounds bytes)) (endOutcome bytes)
 
 -- all sections
 abbrev pub transcriptOutcome : List ℕ → Outcome

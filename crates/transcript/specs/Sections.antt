@@ -3,7 +3,7 @@
 use mathlib.Core.List.{List}
 use Prim.Native.Nat.{ℕ, zero, suc, _+_, _*_, _-_}
 use lib.ListN.{getD, length, drop}
-use Rattle.fri.specs.Layout.{stepsOf, joined}
+use Rattle.fri.specs.Layout.{stepsOf, joinedLayers}
 use Rattle.fri.specs.Run.{Run}
 use Rattle.transcript.specs.Numerals.{countAt, entriesAt}
 
@@ -30,35 +30,35 @@ abbrev pub layerSection : ℕ → ℕ
 layerSection i = 5 + i
 
 -- k, R and η
-abbrev pub kIn : List ℕ → ℕ
-kIn bytes = getD (sectionEntries bytes 1) 0 0
+abbrev pub transcriptK : List ℕ → ℕ
+transcriptK bytes = getD (sectionEntries bytes 1) 0 0
 
-abbrev pub rateIn : List ℕ → ℕ
-rateIn bytes = getD (sectionEntries bytes 1) 1 0
+abbrev pub transcriptRate : List ℕ → ℕ
+transcriptRate bytes = getD (sectionEntries bytes 1) 1 0
 
-abbrev pub stepIn : List ℕ → ℕ
-stepIn bytes = getD (sectionEntries bytes 1) 2 0
+abbrev pub transcriptStep : List ℕ → ℕ
+transcriptStep bytes = getD (sectionEntries bytes 1) 2 0
 
 -- the steps of the rounds, and r
-abbrev pub stepsIn : List ℕ → List ℕ
-stepsIn bytes = stepsOf (kIn bytes) (rateIn bytes) (stepIn bytes)
+abbrev pub transcriptSteps : List ℕ → List ℕ
+transcriptSteps bytes = stepsOf (transcriptK bytes) (transcriptRate bytes) (transcriptStep bytes)
 
-abbrev pub roundsIn : List ℕ → ℕ
-roundsIn bytes = length (stepsIn bytes)
+abbrev pub transcriptRounds : List ℕ → ℕ
+transcriptRounds bytes = length (transcriptSteps bytes)
 
--- the run that is read from the bytes, and that they carry where `Carries` holds; layers 1 to r - 1, joined, are its store
+-- the run that is read from the bytes, and that they carry where `Carries` holds; layers 1 to r - 1, joinedLayers, are its store
 abbrev pub runIn : List ℕ → Run
 runIn bytes =
     record {
-      k = kIn bytes;
-      rate = rateIn bytes;
-      step = stepIn bytes;
+      k = transcriptK bytes;
+      rate = transcriptRate bytes;
+      step = transcriptStep bytes;
       offset = getD (sectionEntries bytes 2) 0 0;
       basis = drop 1 (sectionEntries bytes 2);
       challenges = sectionEntries bytes 3;
       word = sectionEntries bytes (layerSection 0);
-      store = joined (λ i. sectionEntries bytes (layerSection i)) (roundsIn bytes - 1);
-      last = sectionEntries bytes (layerSection (roundsIn bytes));
+      store = joinedLayers (λ i. sectionEntries bytes (layerSection i)) (transcriptRounds bytes - 1);
+      last = sectionEntries bytes (layerSection (transcriptRounds bytes));
     }
 
 -- the queries that are read from them

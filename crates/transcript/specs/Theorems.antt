@@ -20,19 +20,19 @@ use Rattle.fri.specs.Judge.{numberOfAnswer, verdictOf}
 use Rattle.fri.specs.Demand.{ValidParameters, LowDegree, ValidQueries, Any, Visits, Sound}
 use Rattle.fri.specs.Theorems.{Tells}
 use Rattle.transcript.specs.Numerals.{AreBytes}
-use Rattle.transcript.specs.Sections.{sectionStart, sectionCount, layerSection, kIn, rateIn, stepIn, stepsIn, roundsIn, runIn, queriesIn}
+use Rattle.transcript.specs.Sections.{sectionStart, sectionCount, layerSection, transcriptK, transcriptRate, transcriptStep, transcriptSteps, transcriptRounds, runIn, queriesIn}
 use Rattle.transcript.specs.Checks.{transcriptOutcome}
 use Rattle.transcript.specs.Judge.{transcriptVerdict, inputVerdict}
 
 -- the bytes carry the lists that are read from them: parameters in range, the counts due but for the queries', and nothing follows the last section
 pub record Carries (bytes : List ℕ) : Type 0 where
   pub parameters-count : sectionCount bytes 1 ≡ 3
-  pub parameters : ValidParameters (kIn bytes) (rateIn bytes) (stepIn bytes)
-  pub coset-count : sectionCount bytes 2 ≡ kIn bytes + 1
-  pub challenges-count : sectionCount bytes 3 ≡ roundsIn bytes
-  pub layer-counts : (i : ℕ) → i < roundsIn bytes → sectionCount bytes (layerSection i) ≡ 2 ^ dimension (kIn bytes) (stepsIn bytes) i
-  pub last-count : sectionCount bytes (layerSection (roundsIn bytes)) ≡ lastCount (kIn bytes) (rateIn bytes) (stepsIn bytes)
-  pub ends : sectionStart bytes (suc (layerSection (roundsIn bytes))) ≡ length bytes
+  pub parameters : ValidParameters (transcriptK bytes) (transcriptRate bytes) (transcriptStep bytes)
+  pub coset-count : sectionCount bytes 2 ≡ transcriptK bytes + 1
+  pub challenges-count : sectionCount bytes 3 ≡ transcriptRounds bytes
+  pub layer-counts : (i : ℕ) → i < transcriptRounds bytes → sectionCount bytes (layerSection i) ≡ 2 ^ dimension (transcriptK bytes) (transcriptSteps bytes) i
+  pub last-count : sectionCount bytes (layerSection (transcriptRounds bytes)) ≡ lastCount (transcriptK bytes) (transcriptRate bytes) (transcriptSteps bytes)
+  pub ends : sectionStart bytes (suc (layerSection (transcriptRounds bytes))) ≡ length bytes
 
 -- judging bytes is judging the lists that they carry
 pub record JudgingBytes : Type 0 where
@@ -54,8 +54,8 @@ pub record JudgingBytes : Type 0 where
 abbrev pub TranscriptCompleteness : Type 0
 TranscriptCompleteness =
     (bytes : List ℕ) → AreBytes bytes → Carries bytes → Independent (runIn bytes .basis) → LowDegree (runIn bytes) → runIn bytes ≡ honest (runIn bytes)
-    → ValidQueries (kIn bytes) (queriesIn bytes)
-    → transcriptVerdict bytes ≡ record { answer = answers.Accepted; reads = length (queriesIn bytes) * roundsIn bytes * 2 ^ stepIn bytes }
+    → ValidQueries (transcriptK bytes) (queriesIn bytes)
+    → transcriptVerdict bytes ≡ record { answer = answers.Accepted; reads = length (queriesIn bytes) * transcriptRounds bytes * 2 ^ transcriptStep bytes }
 
 -- bytes from which this run is read
 abbrev pub OfRun : Run → List ℕ → Type 0

@@ -3,8 +3,8 @@ use mathlib.Core.Path.{ap, _∙_}
 use native.Mathlib.Omega.{arith}
 use borrow.Author.Needs.{needs}
 use Rattle.reed_solomon.specs.Answers.{encodeOutcome, valuesAfter}
-use Rattle.answers.specs.Answers.{answerOfOutcome}
-use Rattle.answers.proofs.Five.{left-alone, written}
+use Rattle.c_answers.specs.Answers.{answerOfOutcome}
+use Rattle.c_answers.proofs.Five.{left-alone, written}
 use Rattle.capi.proofs.rz_encode.Statement.{statement}
 use Rattle.capi.proofs.rz_encode.Tie as tie
 

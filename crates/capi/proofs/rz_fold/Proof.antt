@@ -1,8 +1,8 @@
 -- `capi::rz_fold` meets its contract: where the answer's list has another length nothing is done. Assumes nothing.
 use mathlib.Core.Path.{ap, _∙_}
 use Rattle.fold.specs.Answers.{foldAnswer, foldValuesAfter, nextBasisAfter}
-use Rattle.answers.specs.Answers.{answerOfFolded}
-use Rattle.answers.proofs.Five.{whereAnswered-five, whereAnswered-other, left-alone, written}
+use Rattle.c_answers.specs.Answers.{answerOfFolded}
+use Rattle.c_answers.proofs.Five.{whereAnswered-five, whereAnswered-other, left-alone, written}
 use borrow.Author.Needs.{needs}
 use native.Mathlib.Omega.{arith}
 use Rattle.capi.proofs.rz_fold.Statement.{statement}

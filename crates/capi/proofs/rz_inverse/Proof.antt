@@ -3,8 +3,8 @@ use mathlib.Core.Path.{ap, _∙_}
 use native.Mathlib.Omega.{arith}
 use borrow.Author.Needs.{needs}
 use Rattle.field.specs.Answers.{invertedOf}
-use Rattle.answers.specs.Answers.{answerOfInverted, numbersOf}
-use Rattle.answers.proofs.Five.{answered-five, answered-other}
+use Rattle.c_answers.specs.Answers.{answerOfInverted, numbersOf}
+use Rattle.c_answers.proofs.Five.{answered-five, answered-other}
 use Rattle.capi.proofs.rz_inverse.Statement.{statement}
 use Rattle.capi.proofs.rz_inverse.Tie as tie
 

@@ -1,7 +1,7 @@
 -- `capi::rz_judge` meets its contract: a list of another length is left as it was. Assumes nothing.
-use Rattle.answers.proofs.Five.{answered-five, answered-other}
-use Rattle.answers.specs.Answers.{answerOfVerdict, numbersOf}
-use Rattle.layers.specs.Parameters.{runOf}
+use Rattle.c_answers.proofs.Five.{answered-five, answered-other}
+use Rattle.c_answers.specs.Answers.{answerOfVerdict, numbersOf}
+use Rattle.layout.specs.Parameters.{runOf}
 use Rattle.fri.specs.Judge.{verdictOf}
 use mathlib.Core.Path.{ap, _∙_}
 use borrow.Author.Needs.{needs}

@@ -1,8 +1,8 @@
 -- `capi::rz_judge_transcript` meets its contract: a list of another length is left as it was. Assumes nothing.
 use mathlib.Core.Path.{ap, _∙_}
 use Rattle.transcript.specs.Judge.{transcriptVerdict}
-use Rattle.answers.specs.Answers.{answerOfVerdict, numbersOf}
-use Rattle.answers.proofs.Five.{answered-five, answered-other}
+use Rattle.c_answers.specs.Answers.{answerOfVerdict, numbersOf}
+use Rattle.c_answers.proofs.Five.{answered-five, answered-other}
 use borrow.Author.Needs.{needs}
 use native.Mathlib.Omega.{arith}
 use Rattle.capi.proofs.rz_judge_transcript.Statement.{statement}

@@ -1,7 +1,7 @@
 -- `capi::rz_layer` meets its contract: a list of another length is left as it was. Assumes nothing.
-use Rattle.answers.proofs.Five.{answered-five, answered-other}
-use Rattle.answers.specs.Answers.{answerOfPart, numbersOf}
-use Rattle.layers.specs.Parts.{partOf}
+use Rattle.c_answers.proofs.Five.{answered-five, answered-other}
+use Rattle.c_answers.specs.Answers.{answerOfPart, numbersOf}
+use Rattle.layout.specs.Parts.{partOf}
 use lib.ListN.{length}
 use mathlib.Core.Path.{ap, _∙_}
 use borrow.Author.Needs.{needs}

@@ -1,6 +1,6 @@
 -- `honest_layers::fill_store` meets its contract. The loop's invariant: layers 1 to i are in the store, and the coset is that of layer i. Assumes nothing.
 use Rattle.fri.specs.Run.{Run}
-use Rattle.layers.specs.Cosets.{cosetOf}
+use Rattle.layer_cosets.specs.Cosets.{cosetOf}
 use native.Mathlib.Numerals.{add-one}
 use mathlib.Core.Path.{_≡_, sym, ap, ap₂, _∙_, subst}
 use Prim.Native.Nat.{ℕ, suc, _-_, _≤_}
@@ -9,11 +9,11 @@ use Rattle.coset.proofs.Points.{all-elements}
 use Rattle.fri.specs.Demand.{ValidCoset}
 use Rattle.fri.specs.Layout.{layerStart}
 use Rattle.fri.specs.Layers.{honestLayer, honestStore}
-use Rattle.fri.specs.Layout.{joined}
+use Rattle.fri.specs.Layout.{joinedLayers}
 use Rattle.fri.proofs.Layouts.{start-next}
-use Rattle.layers.specs.declared.cosets.LayerCoset.{LayerCoset}
-use Rattle.layers.specs.Parameters.{stepsBy}
-use Rattle.layers.proofs.Sizes.{one-round, few-rounds, dimension-most, step-within}
+use Rattle.layer_cosets.specs.declared.LayerCoset.{LayerCoset}
+use Rattle.layout.specs.Parameters.{stepsBy}
+use Rattle.layout.proofs.Sizes.{one-round, few-rounds, dimension-most, step-within}
 use Rattle.honest_layers.specs.Input.{inputOf, cosetIn}
 use Rattle.honest_layers.proofs.Stored.{end-within}
 use Rattle.honest_layers.proofs.Rounds.{Filled, valid-input, coset-first, coset-next, coset-dimension, coset-independent, joined-first, round-joined, store-whole}
@@ -128,7 +128,7 @@ loop-again c =
       count = l .inv .count;
       within = omega arith;
       coset-is = c .next .ensures ∙ coset-next run (l .i) (l .coset) (l .inv .coset-is) inside ∙ ap (cosetIn run) (sym (add-one (l .i)));
-      joined-so-far = subst (λ (n : ℕ). take (layerStart (p .k) (stepsBy p) (suc n)) held ≡ joined (honestLayer run) n) (sym (add-one (l .i)))
+      joined-so-far = subst (λ (n : ℕ). take (layerStart (p .k) (stepsBy p) (suc n)) held ≡ joinedLayers (honestLayer run) n) (sym (add-one (l .i)))
           (round-joined run (valid (c .before .before .before .before .before .before .before)) (start .pre .word) (l .i) (l .coset) (l .inv .coset-is) inside (l .store) held begun (l .inv .joined-so-far) (c .before .before .before .fold-round .ensures));
       kept = same ∙ l .inv .kept;
     }

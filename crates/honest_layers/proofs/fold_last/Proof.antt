@@ -6,9 +6,9 @@ use native.Mathlib.Nat.{le-of-eq, le-trans}
 use lib.ListN.{length}
 use Rattle.fold.specs.Fold.{folded}
 use Rattle.fri.specs.Layout.{dimension, layerStart}
-use Rattle.layers.specs.Cosets.{basisOf}
-use Rattle.layers.specs.Parameters.{stepsBy}
-use Rattle.layers.proofs.Sizes.{one-round, dimension-most, step-within}
+use Rattle.layer_cosets.specs.Cosets.{basisOf}
+use Rattle.layout.specs.Parameters.{stepsBy}
+use Rattle.layout.proofs.Sizes.{one-round, dimension-most, step-within}
 use Rattle.honest_layers.specs.Input.{layerFrom}
 use Rattle.honest_layers.proofs.Stored.{dimension-first, dimension-next, layer-first, last-begins, length-last, last-stored}
 use borrow.Author.Needs.{needs}

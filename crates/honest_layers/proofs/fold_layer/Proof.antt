@@ -6,7 +6,7 @@ use lib.Seq.{length-take-le}
 use Rattle.coset.proofs.Subspace.{elements-taken}
 use Rattle.coset.specs.Steps.{stepElements}
 use Rattle.fold.specs.Fold.{folded}
-use Rattle.layers.specs.Cosets.{basisOf}
+use Rattle.layer_cosets.specs.Cosets.{basisOf}
 use borrow.Author.Needs.{needs}
 use native.Mathlib.Omega.{arith}
 use Rattle.honest_layers.proofs.fold_layer.Statement.{statement}

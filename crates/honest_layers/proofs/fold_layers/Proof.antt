@@ -9,9 +9,9 @@ use Rattle.fold.specs.Fold.{folded}
 use Rattle.fri.specs.Demand.{ValidCoset}
 use Rattle.fri.specs.Layout.{storeLength}
 use Rattle.fri.specs.Layers.{honestLayer}
-use Rattle.layers.specs.Cosets.{basisOf}
-use Rattle.layers.specs.Parameters.{stepsBy}
-use Rattle.layers.proofs.Sizes.{one-round, dimension-most, step-within}
+use Rattle.layer_cosets.specs.Cosets.{basisOf}
+use Rattle.layout.specs.Parameters.{stepsBy}
+use Rattle.layout.proofs.Sizes.{one-round, dimension-most, step-within}
 use Rattle.honest_layers.specs.Input.{inputOf, cosetIn}
 use Rattle.honest_layers.proofs.Rounds.{valid-input, coset-next, coset-dimension, coset-independent, honest-folded, last-found}
 use borrow.Author.Needs.{needs}

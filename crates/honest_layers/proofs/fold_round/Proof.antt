@@ -10,9 +10,9 @@ use Rattle.fold.specs.Fold.{folded}
 use Rattle.fold.proofs.Folding.{length-folded}
 use Rattle.fri.specs.Layout.{dimension, layerStart}
 use Rattle.fri.proofs.Layouts.{start-next}
-use Rattle.layers.specs.Cosets.{basisOf}
-use Rattle.layers.specs.Parameters.{stepsBy}
-use Rattle.layers.proofs.Sizes.{few-rounds, dimension-most, step-within, start-of-first}
+use Rattle.layer_cosets.specs.Cosets.{basisOf}
+use Rattle.layout.specs.Parameters.{stepsBy}
+use Rattle.layout.proofs.Sizes.{few-rounds, dimension-most, step-within, start-of-first}
 use Rattle.honest_layers.proofs.Stored.{dimension-first, dimension-next, end-within, first-stored, next-stored}
 use borrow.Author.Needs.{needs}
 use native.Mathlib.Omega.{arith}

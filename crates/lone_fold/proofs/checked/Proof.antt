@@ -4,7 +4,7 @@ use lib.ListN.{length}
 use Rattle.refusal.specs.declared.Outcome.the-variants.{Done}
 use Rattle.refusal.specs.Checks.{andThen}
 use Rattle.refusal.proofs.Checks.{then-passed, then-refused}
-use Rattle.fold.specs.Answers.{rangesOutcome, lengthsOutcome, basesOutcome}
+use Rattle.fold.specs.Answers.{foldRangesOutcome, foldLengthsOutcome, foldBasesOutcome}
 use Rattle.fold.proofs.Checks.{in-range, fitting}
 use borrow.Author.Needs.{needs}
 use native.Mathlib.Omega.{arith}
@@ -47,26 +47,26 @@ returns c =
     let a = c .before .before .before .before .before .before .before .before .args in
     let done : c .before .before .before .before .before .before .checked-ranges .result ≡ Done = search needs in
     let fit : c .before .before .before .checked-lengths .result ≡ Done = search needs in
-    let lengths = lengthsOutcome (a .k) (a .step) (length (a .basis .now)) (a .length3) (a .length6) (a .length7) in
-    let bases = basesOutcome (a .step) (a .basis .now) in
+    let lengths = foldLengthsOutcome (a .k) (a .step) (length (a .basis .now)) (a .length3) (a .length6) (a .length7) in
+    let bases = foldBasesOutcome (a .step) (a .basis .now) in
     c .checked-bases .ensures
     ∙ then-passed lengths bases (sym (c .before .before .before .checked-lengths .ensures) ∙ fit)
-    ∙ then-passed (rangesOutcome (a .k) (a .step)) (andThen lengths bases) (sym (c .before .before .before .before .before .before .checked-ranges .ensures) ∙ done)
+    ∙ then-passed (foldRangesOutcome (a .k) (a .step)) (andThen lengths bases) (sym (c .before .before .before .before .before .before .checked-ranges .ensures) ∙ done)
 
 returns-2 : tie.Need-returns-2
 returns-2 c =
     let a = c .before .before .before .before .before .before .before .before .args in
     let done : c .before .before .before .before .before .before .checked-ranges .result ≡ Done = search needs in
-    let lengths = lengthsOutcome (a .k) (a .step) (length (a .basis .now)) (a .length3) (a .length6) (a .length7) in
-    let bases = basesOutcome (a .step) (a .basis .now) in
+    let lengths = foldLengthsOutcome (a .k) (a .step) (length (a .basis .now)) (a .length3) (a .length6) (a .length7) in
+    let bases = foldBasesOutcome (a .step) (a .basis .now) in
     then-refused lengths bases (c .before .lengths .given .0 .0) (sym (c .before .before .before .checked-lengths .ensures) ∙ c .before .lengths .given .1)
-    ∙ then-passed (rangesOutcome (a .k) (a .step)) (andThen lengths bases) (sym (c .before .before .before .before .before .before .checked-ranges .ensures) ∙ done)
+    ∙ then-passed (foldRangesOutcome (a .k) (a .step)) (andThen lengths bases) (sym (c .before .before .before .before .before .before .checked-ranges .ensures) ∙ done)
 
 returns-3 : tie.Need-returns-3
 returns-3 c =
     let a = c .before .before .before .before .before .args in
-    then-refused (rangesOutcome (a .k) (a .step))
-    (andThen (lengthsOutcome (a .k) (a .step) (length (a .basis .now)) (a .length3) (a .length6) (a .length7)) (basesOutcome (a .step) (a .basis .now)))
+    then-refused (foldRangesOutcome (a .k) (a .step))
+    (andThen (foldLengthsOutcome (a .k) (a .step) (length (a .basis .now)) (a .length3) (a .length6) (a .length7)) (foldBasesOutcome (a .step) (a .basis .now)))
     (c .before .ranges .given .0 .0) (sym (c .before .before .before .checked-ranges .ensures) ∙ c .before .ranges .given .1)
 
 pub checked-spec : {M : Type 1} → statement M

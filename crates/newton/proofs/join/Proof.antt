@@ -7,7 +7,7 @@ use borrow.Author.Needs.{needs}
 use native.Mathlib.Omega.{arith}
 use Rattle.gf64.specs.Field.{sum, product}
 use Rattle.poly.specs.Carrier.{gf64}
-use Rattle.poly.specs.Newton.{joined}
+use Rattle.poly.specs.Newton.{hornerStep}
 use Rattle.poly.proofs.Filling.{filled, filled-start}
 use Rattle.newton.proofs.Joining.{join-next, join-end}
 use Rattle.newton.proofs.join.Statement.{statement}
@@ -15,14 +15,14 @@ use Rattle.newton.proofs.join.Tie as tie
 
 abbrev Inv-loop : tie.InvT-loop
 Inv-loop coefficients₀ x next₀ coefficients next =
-    (1 ≤ next) × (coefficients ≡ filled (joined gf64 (x .0) coefficients₀) coefficients₀ (next - 1)) × (length coefficients ≡ length coefficients₀)
+    (1 ≤ next) × (coefficients ≡ filled (hornerStep gf64 (x .0) coefficients₀) coefficients₀ (next - 1)) × (length coefficients ≡ length coefficients₀)
 
 abbrev μ-loop : tie.MeasureT-loop
 μ-loop coefficients₀ x next₀ coefficients next = length coefficients₀ - next
 
 loop-holds : tie.Need-loop-holds Inv-loop μ-loop
 loop-holds c =
-    (search needs, filled-start (joined gf64 (c .before .args .x .0) (c .before .args .coefficients .now)) (c .before .args .coefficients .now), refl)
+    (search needs, filled-start (hornerStep gf64 (c .before .args .x .0) (c .before .args .coefficients .now)) (c .before .args .coefficients .now), refl)
 
 sub-j : tie.Need-sub-j Inv-loop μ-loop
 sub-j c = search needs

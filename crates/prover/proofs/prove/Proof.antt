@@ -8,7 +8,7 @@ use Rattle.fri.specs.Prover.{degreeOutcome}
 use Rattle.fri.specs.Layers.{honestStore, honestLast}
 use Rattle.fri.specs.Checks.{runOutcome}
 use Rattle.fri.proofs.Provers.{refused-prove, refused-holds-both}
-use Rattle.layers.specs.Parameters.{runOf}
+use Rattle.layout.specs.Parameters.{runOf}
 use borrow.Author.Needs.{needs}
 use Rattle.prover.proofs.prove.Statement.{statement}
 use Rattle.prover.proofs.prove.Tie as tie

@@ -6,8 +6,8 @@ use lib.ListN.{length, replicate}
 use lib.Seq.{length-take-le}
 use Rattle.coset.proofs.Sizes.{size-shifted}
 use Rattle.fri.specs.Layout.{dimension}
-use Rattle.layers.specs.Parameters.{stepsBy, Valid, runOf}
-use Rattle.layers.proofs.Sizes.{dimension-most}
+use Rattle.layout.specs.Parameters.{stepsBy, Valid, runOf}
+use Rattle.layout.proofs.Sizes.{dimension-most}
 use Rattle.prover.proofs.Input.{input-passed, last-size}
 use borrow.Author.Needs.{needs}
 use native.Mathlib.Omega.{arith}

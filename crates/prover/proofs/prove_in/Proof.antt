@@ -11,8 +11,8 @@ use Rattle.reed_solomon.specs.Codes.{interpolated}
 use Rattle.fri.specs.Demand.{ValidCoset}
 use Rattle.fri.specs.Layout.{dimension}
 use Rattle.fri.specs.Layers.{offsetIn, basisIn, honestLayer, lastInterpolant}
-use Rattle.layers.specs.Cosets.{basisOf}
-use Rattle.layers.specs.Parameters.{stepsBy, runOf}
+use Rattle.layer_cosets.specs.Cosets.{basisOf}
+use Rattle.layout.specs.Parameters.{stepsBy, runOf}
 use Rattle.honest_layers.specs.Input.{Passed}
 use Rattle.honest_layers.proofs.Rounds.{valid-input, coset-offset, coset-basis, coset-dimension, coset-independent}
 use Rattle.prover.proofs.Input.{inputIn, input-passed, last-counted, last-small, coefficients-fit, same-store, same-interpolant, degree-answered, degree-holds}

@@ -5,7 +5,7 @@ use borrow.Author.Needs.{needs}
 use Rattle.fri.specs.declared.Answer.{Answer}
 use Rattle.fri.specs.declared.Answer.the-variants.{Accepted}
 use Rattle.report.specs.Digits.{bytes}
-use Rattle.report.specs.Lines.{answerText, numbersOf, lineOf}
+use Rattle.report.specs.Lines.{answerText, numbersText, lineOf}
 use Rattle.report.proofs.Placing.{put-append, put-same}
 use Rattle.report.proofs.put_line.Statement.{statement}
 use Rattle.report.proofs.put_line.Tie as tie
@@ -66,7 +66,7 @@ returns-2 c =
     let place = c .before .before .before .before .before .place .ensures in
     let round = c .before .before .before .before .round .ensures in
     put-same (put-append (c .before .before .before .before .before .before .before .before .before .put2 .ensures) (c .before .before .put-numbers2 .ensures))
-    ((λ i. bytes "refused" ++ numbersOf (number i) (place i) (round i) (verdict .reads))
+    ((λ i. bytes "refused" ++ numbersText (number i) (place i) (round i) (verdict .reads))
     ∙ ap (λ (x : Answer). lineOf (record { answer = x; reads = verdict .reads })) (sym given))
 
 pub put-line-spec : {M : Type 1} → statement M

@@ -1,7 +1,7 @@
 -- `report::put_numbers` meets its contract: one text after the other. Assumes nothing.
 use borrow.Author.Needs.{needs}
 use Rattle.report.specs.Digits.{bytes}
-use Rattle.report.specs.Lines.{numbersOf}
+use Rattle.report.specs.Lines.{numbersText}
 use Rattle.report.proofs.Placing.{put-append}
 use Rattle.report.proofs.put_numbers.Statement.{statement}
 use Rattle.report.proofs.put_numbers.Tie as tie
@@ -28,7 +28,7 @@ same-length : tie.Need-same-length
 same-length c = search needs
 
 returns : tie.Need-returns
-unfolding bytes numbersOf
+unfolding bytes numbersText
 returns c =
     let number = c .before .before .before .before .before .before .before .before .before .before .before .before .before .before .before .before .before .before .before .put-number .ensures .0 in
     let place = c .before .before .before .before .before .before .before .before .before .before .before .before .before .before .before .put-position .ensures .0 in

@@ -1,8 +1,8 @@
-use Rattle.transcript.specs.Sections.{kIn, rateIn}
+use Rattle.transcript.specs.Sections.{transcriptK, transcriptRate}
 -- `sections::parameters` meets its contract. Assumes nothing.
 use mathlib.Core.Path.{refl, ap, _∙_}
 use Prim.Native.Nat.{ℕ}
-use Rattle.layers.specs.declared.Parameters.{Parameters}
+use Rattle.layout.specs.declared.Parameters.{Parameters}
 use Rattle.sections.proofs.Places.{parameter-is}
 use borrow.Author.Needs.{needs}
 use native.Mathlib.Omega.{arith}
@@ -26,8 +26,8 @@ returns c =
     let rate = c .before .entry-at2 .ensures ∙ parameter-is bytes (start .pre) 1 12 (omega arith) refl in
     let step = c .entry-at3 .ensures ∙ parameter-is bytes (start .pre) 2 20 (omega arith) refl in
     ap {B = Parameters} (λ (n : ℕ). record { k = n; rate = c .before .entry-at2 .result; step = c .entry-at3 .result }) k
-    ∙ ap {B = Parameters} (λ (n : ℕ). record { k = kIn bytes; rate = n; step = c .entry-at3 .result }) rate
-    ∙ ap {B = Parameters} (λ (n : ℕ). record { k = kIn bytes; rate = rateIn bytes; step = n }) step
+    ∙ ap {B = Parameters} (λ (n : ℕ). record { k = transcriptK bytes; rate = n; step = c .entry-at3 .result }) rate
+    ∙ ap {B = Parameters} (λ (n : ℕ). record { k = transcriptK bytes; rate = transcriptRate bytes; step = n }) step
 
 pub parameters-spec : {M : Type 1} → statement M
 parameters-spec =

@@ -1,5 +1,5 @@
--- `reader::Reader::verdict` meets its contract: a walk of its MIR, by hand. The struct is taken apart, and `carried::verdict` is called
--- on the slice and the sections. All that the proof knows of `carried::verdict` is that it meets its contract.
+-- `reader::Reader::verdict` meets its contract: a walk of its MIR, by hand. The struct is taken apart, and `byte_judge::verdict` is called
+-- on the slice and the sections. All that the proof knows of `byte_judge::verdict` is that it meets its contract.
 -- The struct is Copy: what it owns is had twice, one copy is kept whole for the exit, and the other, opened, goes to the callee, beside
 -- the lifetime's token, which comes back.
 -- Assumes nothing.
@@ -52,10 +52,10 @@ use Rattle.reader.proofs.Reader as T
 use Rattle.reader.proofs.Reader.Laws as T′
 use Rattle.sections.proofs.Sections as S
 use Rattle.sections.proofs.Sections.Laws as S′
-use Rattle.carried.proofs.verdict as through
-use Rattle.carried.proofs.verdict.Symbol as through-def
-use Rattle.carried.proofs.verdict.Symbol.{name as #carried·verdict}
-use Rattle.carried.proofs.verdict.Met as through-thm
+use Rattle.byte_judge.proofs.verdict as through
+use Rattle.byte_judge.proofs.verdict.Symbol as through-def
+use Rattle.byte_judge.proofs.verdict.Symbol.{name as #byte-judge·verdict}
+use Rattle.byte_judge.proofs.verdict.Met as through-thm
 use Rattle.reader.proofs.Reader.verdict.Key.{name as #reader·verdict}
 use Rattle.reader.proofs.Reader.verdict as verdict
 use Rattle.reader.proofs.Reader.verdict.Statement as stated
@@ -143,7 +143,7 @@ module _ {M : Type 1} (𝓤 : URA M) (H : Heap 𝓤) (A : Atoms 𝓤) (W : Given
       (ends-at 𝓤 H A verdict.ended stayed (verdict.clauses 𝓤 H A mem run) W ((κs, (q, tt), tt, (d, tt), (mach ∷ [], tt)), tt) u r (tt, tt) (tt, tt)) $
       says ! e $ move ! (1 ∷ []) $ frame ! $ nothing ! $ move ! (2 ∷ 0 ∷ []) $ fjoin ! $ frame ! $ done !
 
-  module _ (C : Calls 𝓤 H) (Λ : Loops 𝓤 H) (fm : FmC 𝓤 H (W .laws) C) (known : Triple 𝓤 (C #carried·verdict) (Through 𝓤 H A mem run)) where
+  module _ (C : Calls 𝓤 H) (Λ : Loops 𝓤 H) (fm : FmC 𝓤 H (W .laws) C) (known : Triple 𝓤 (C #byte-judge·verdict) (Through 𝓤 H A mem run)) where
     walk : Holds (hasTy (T′.mir (named 0)) mach) × WT mach → ent 𝓤 Entry (WpFn 𝓤 H C Λ code.function (mach ∷ []) Post)
     walk wt =
         qed W (raw Entry ∷ []) ∵ enter ! C Λ code.function (mach ∷ []) _ $
@@ -165,7 +165,7 @@ module _ {M : Type 1} (𝓤 : URA M) (H : Heap 𝓤) (A : Atoms 𝓤) (W : Given
         by ! (exits r u e)))))))))
 
 module _ {M : Type 1} (𝓤 : URA M) (H : Heap 𝓤) (A : Atoms 𝓤) (W : Given 𝓤 H A) (mem : Memory → SProp 𝓤) (run : Routine → Fun 𝓤) where
-  verdict-walks : (C : Calls 𝓤 H) (Λ : Loops 𝓤 H) → FmC 𝓤 H (W .laws) C → Triple 𝓤 (C #carried·verdict) (Through 𝓤 H A mem run)
+  verdict-walks : (C : Calls 𝓤 H) (Λ : Loops 𝓤 H) → FmC 𝓤 H (W .laws) C → Triple 𝓤 (C #byte-judge·verdict) (Through 𝓤 H A mem run)
       → Walks 𝓤 H A verdict.ended stayed (WpFn 𝓤 H C Λ code.function) (verdict.clauses 𝓤 H A mem run)
   verdict-walks C Λ fm known =
       walked 𝓤 H A verdict.ended stayed (verdict.clauses 𝓤 H A mem run) (WpFn 𝓤 H C Λ code.function)
@@ -174,7 +174,7 @@ module _ {M : Type 1} (𝓤 : URA M) (H : Heap 𝓤) (A : Atoms 𝓤) (W : Given
       (λ found. walk 𝓤 H A W mem run (κs .0) (qs .0) (a .0) found C Λ fm known (LL.lawful (D κs) (L κs) 𝓤 H A W .typed (a .0) _ (are .0) .0)))
 
 verdict-meets : {M : Type 1} (𝓤 : URA M) (H : Heap 𝓤) (A : Atoms 𝓤) (W : Given 𝓤 H A) (mem : Memory → SProp 𝓤) (run : Routine → Fun 𝓤) (𝓣 : Tables 𝓤 H)
-    → Triple 𝓤 (𝓣 .C #carried·verdict) (Through 𝓤 H A mem run)
+    → Triple 𝓤 (𝓣 .C #byte-judge·verdict) (Through 𝓤 H A mem run)
     → Meets 𝓤 H A verdict.signature (WpFn 𝓤 H (𝓣 .C) (𝓣 .Λ) code.function) (verdict.spec 𝓤 H A mem run)
 verdict-meets 𝓤 H A W mem run 𝓣 known =
     walk-meets 𝓤 H A verdict.ended stayed W (goes-none 𝓤 H A W 1 B yes (λ κs x f. refl), tt) (verdict.clauses 𝓤 H A mem run)
@@ -187,5 +187,5 @@ verdict-spec 𝓤 H 𝓜 𝓖 𝓡 =
     entered 𝓤 H (tripleOf 𝓤 H (𝓖 .A) verdict.signature (verdict.spec 𝓤 H (𝓖 .A) (𝓜 .mem) (𝓡 .run)))
     (tables 𝓤 H 𝓜 𝓡 code.env .C) (tables 𝓤 H 𝓜 𝓡 code.env .Λ) #reader·verdict code.function (code.unfolded 𝓤 H 𝓜 𝓡)
     (verdict-meets 𝓤 H (𝓖 .A) (givenOf 𝓤 H 𝓜 𝓖) (𝓜 .mem) (𝓡 .run) (tablesOf 𝓤 H 𝓜 (tables 𝓤 H 𝓜 𝓡 code.env))
-    (cited 𝓤 H (Through 𝓤 H (𝓖 .A) (𝓜 .mem) (𝓡 .run)) 𝓜 𝓡 code.env #carried·verdict through-def.routine code.calls-carried·verdict
+    (cited 𝓤 H (Through 𝓤 H (𝓖 .A) (𝓜 .mem) (𝓡 .run)) 𝓜 𝓡 code.env #byte-judge·verdict through-def.routine code.calls-byte-judge·verdict
     (through-thm.met 𝓤 H 𝓜 𝓖 𝓡)))

@@ -1,2 +1,0 @@
-mod Lying
-mod Carrying

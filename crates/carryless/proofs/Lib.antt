@@ -1,0 +1,3 @@
+mod Multiples
+mod Schoolbook
+pub mod WideSums

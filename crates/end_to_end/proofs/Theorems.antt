@@ -1,0 +1,40 @@
+-- Demand 3 of what the functions return: from the theorems about the definitions, by the contracts. Assumes nothing.
+use mathlib.Core.Path.{_≡_, sym, ap, ap₂, _∙_}
+use mathlib.Core.Logic.{inl, inr}
+use mathlib.Core.List.{List, [], _∷_}
+use Prim.Native.Nat.{ℕ}
+use Rattle.poly.specs.Polynomial.{All}
+use Rattle.fri.specs.declared.Answer.the-variants as answers
+use Rattle.fri.specs.declared.Verdict.{Verdict}
+use Rattle.fri.specs.Run.{Run}
+use Rattle.fri.specs.Judge.{verdictOf}
+use Rattle.fri.specs.Demand.{Any, Accepted, Visits}
+use Rattle.fri.proofs.Soundness.{soundness}
+use Rattle.fri.proofs.Completeness.{completeness, honest-proofs}
+use Rattle.layout.specs.Parameters.{runOf}
+use Rattle.end_to_end.specs.Theorems.{Judging, Judged, ProvedIsAccepted, JudgedSoundness}
+
+pub proved-is-accepted : ProvedIsAccepted
+proved-is-accepted p offset basis challenges queries word store last outcome store′ last′ verdict h proved v =
+    let run = runOf p offset basis challenges word store last in
+    let honest = honest-proofs .proves run (h .coset) (h .input) (h .low) (h .store-fits) (h .last-fits) in (
+      proved .outcome-is ∙ honest .0,
+      v
+          ∙ ap₂ (λ (x y : List ℕ). verdictOf (runOf p offset basis challenges word x y) queries) (proved .store-is ∙ honest .1) (proved .last-is ∙ honest .2)
+          ∙ completeness run queries (h .coset) (h .input) (h .low) (h .queries-valid),
+    )
+
+lists : List Judging → List (List ℕ)
+lists [] = []
+lists (judging ∷ judgings) = judging .queries ∷ lists judgings
+
+visited : (run : Run) (coset : ℕ) (judgings : List Judging) → All (Judged run) judgings
+    → Any (λ judging. (judging .verdict .answer ≡ answers.Accepted) × Visits run (judging .queries) coset) judgings
+    → Any (λ queries. Accepted run queries × Visits run queries coset) (lists judgings)
+unfolding lists
+visited run coset (judging ∷ judgings) judged (inl (a, v)) = inl (sym (ap (λ (x : Verdict). x .answer) (judged .0)) ∙ a, v)
+visited run coset (judging ∷ judgings) judged (inr rest) = inr (visited run coset judgings (judged .1) rest)
+visited run coset [] judged none = none
+
+pub judged-soundness : JudgedSoundness
+judged-soundness run judgings e judged covers = soundness run (lists judgings) e (λ coset h. visited run coset judgings judged (covers coset h))

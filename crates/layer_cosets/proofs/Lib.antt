@@ -1,0 +1,2 @@
+pub mod LayerCosets
+pub mod NextLayers

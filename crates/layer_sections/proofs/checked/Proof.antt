@@ -1,0 +1,57 @@
+-- `sections::checks::checked` meets its contract. Assumes nothing.
+use mathlib.Core.Path.{_≡_, sym, ap, _∙_, subst}
+use Rattle.transcript.proofs.Checks.{front-done}
+use Rattle.transcript.specs.Checks.{frontOutcome, layersOutcome}
+use Rattle.refusal.specs.declared.Outcome.the-variants.{Done}
+use Rattle.refusal.proofs.Checks.{then-passed, then-refused}
+use Rattle.layout.specs.Parameters.{Valid}
+use Rattle.sections.specs.declared.Sections.{Sections}
+use borrow.Author.Needs.{needs}
+use Rattle.layer_sections.proofs.checked.Statement.{statement}
+use Rattle.layer_sections.proofs.checked.Tie as tie
+
+checked-front-requires : tie.Need-checked-front-requires
+checked-front-requires c κs = search needs
+
+enum-told : tie.Need-enum-told
+enum-told c = search needs
+
+parameters-requires : tie.Need-parameters-requires
+parameters-requires c κs =
+    let done : c .before .before .checked-front .result ≡ Done = search needs in
+    front-done (c .before .before .before .before .args .bytes .now) (sym (c .before .before .checked-front .ensures) ∙ done) .0
+
+checked-layers-requires : tie.Need-checked-layers-requires
+checked-layers-requires c κs =
+    let start = c .before .before .before .before .before in
+    let done : c .before .before .before .checked-front .result ≡ Done = search needs in (
+      ap (λ (s : Sections). s .layers) (start .pre),
+      c .parameters .ensures,
+      subst Valid (sym (c .parameters .ensures)) (front-done (start .args .bytes .now) (sym (c .before .before .before .checked-front .ensures) ∙ done) .1),
+    )
+
+enum-known-front : tie.Need-enum-known-front
+enum-known-front c = search needs
+
+returns : tie.Need-returns
+returns c =
+    let bytes = c .before .before .before .before .before .before .args .bytes .now in
+    let done : c .before .before .before .before .checked-front .result ≡ Done = search needs in
+    c .checked-layers .ensures ∙ then-passed (frontOutcome bytes) (layersOutcome bytes) (sym (c .before .before .before .before .checked-front .ensures) ∙ done)
+
+returns-2 : tie.Need-returns-2
+returns-2 c =
+    let bytes = c .before .before .before .before .before .args .bytes .now in
+    then-refused (frontOutcome bytes) (layersOutcome bytes) (c .before .front .given .0 .0) (sym (c .before .before .before .checked-front .ensures) ∙ c .before .front .given .1)
+
+pub checked-spec : {M : Type 1} → statement M
+checked-spec =
+    tie.close
+    (tie.spec
+    checked-front-requires
+    enum-told
+    parameters-requires
+    checked-layers-requires
+    enum-known-front
+    returns
+    returns-2)

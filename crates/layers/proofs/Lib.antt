@@ -1,4 +1,0 @@
-pub mod Sizes
-pub mod LayerCosets
-pub mod Parts
-pub mod LaterBases

@@ -1,3 +1,0 @@
-pub mod Parameters
-pub mod Parts
-pub mod Cosets

@@ -1,0 +1,2 @@
+pub mod Sizes
+pub mod Parts

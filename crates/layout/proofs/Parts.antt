@@ -1,0 +1,64 @@
+-- The part that the lookup hands back: within the store, and the layer. Assumes nothing.
+use mathlib.Core.Path.{_≡_, refl, sym, ap₂, _∙_}
+use mathlib.Core.Bool.{Bool, true, false, cond, _&&_}
+use mathlib.Core.List.{List, []}
+use Prim.Native.Nat.{ℕ, _+_, _^_, _≤_}
+use native.Mathlib.Omega.{arith}
+use lib.Dec.{leb, ltb, eqb}
+use lib.ListN.{length, take, drop}
+use borrow.Author.Tests.{leb-true, ltb-true}
+use Rattle.refusal.specs.declared.Outcome.{Outcome}
+use Rattle.refusal.specs.declared.Outcome.the-variants.{Done, Refused}
+use Rattle.refusal.proofs.Checks.{each-true, equal-of-test}
+use Rattle.fri.specs.Layout.{dimension, layerStart, storeLength, storedLayer}
+use Rattle.fri.specs.Checks.{parametersOutcome}
+use Rattle.fri.specs.Lookup.{partAfter, inStore, layerPart}
+use Rattle.fri.proofs.Layouts.{layer-before}
+use Rattle.layout.specs.declared.Parameters.{Parameters}
+use Rattle.layout.specs.declared.Part.{Part}
+use Rattle.layout.specs.Parameters.{stepsBy}
+use Rattle.layout.specs.Parts.{empty, orEmpty, partOf, partIn}
+use Rattle.layout.proofs.Sizes.{storeLength-is}
+
+storedLayer-is : (k : ℕ) (steps store : List ℕ) (i : ℕ) → take (2 ^ dimension k steps i) (drop (layerStart k steps i) store) ≡ storedLayer k steps store i
+unfolding storedLayer
+storedLayer-is k steps store i = refl
+
+module _ (p : Parameters) (count i : ℕ) where
+  abbrev found : Part
+  found = record { start = layerStart (p .k) (stepsBy p) i; length = 2 ^ dimension (p .k) (stepsBy p) i }
+
+  -- the store has a layer i
+  abbrev pub has : Bool
+  has = leb 1 i && ltb i (length (stepsBy p)) && eqb count (storeLength (p .k) (stepsBy p))
+
+  pub part-where : (outcome : Outcome) (test : Bool) (part : Part) → parametersOutcome (p .k) (p .rate) (p .step) ≡ outcome → has ≡ test
+      → part ≡ orEmpty outcome (cond test found empty) → part ≡ partOf p count i
+  part-where outcome test part e f g =
+      g ∙ sym (ap₂ (λ (o : Outcome) (t : Bool). orEmpty o (cond t found empty)) e f)
+
+  -- it lies within the store
+  pub part-within : partOf p count i .start + partOf p count i .length ≤ count
+  part-within = by (parametersOutcome (p .k) (p .rate) (p .step)) has refl
+    where
+      by : (outcome : Outcome) (test : Bool) → has ≡ test
+          → orEmpty outcome (cond test found empty) .start + orEmpty outcome (cond test found empty) .length ≤ count
+      by Done true e =
+          let all = each-true (leb 1 i && ltb i (length (stepsBy p))) (eqb count (storeLength (p .k) (stepsBy p))) e in
+          let both = each-true (leb 1 i) (ltb i (length (stepsBy p))) (all .0) in
+          let whole = equal-of-test count (storeLength (p .k) (stepsBy p)) (all .1) in
+          omega (arith, whole, storeLength-is (p .k) (stepsBy p), layer-before (p .k) (stepsBy p) i (length (stepsBy p)) (leb-true 1 i (both .0)) (ltb-true i (length (stepsBy p)) (both .1)))
+      by Done false e = omega arith
+      by (Refused cause) test e = omega arith
+
+-- and it is the layer
+pub part-taken : (p : Parameters) (store : List ℕ) (i : ℕ)
+    → partIn (partOf p (length store) i) store ≡ layerPart (p .k) (p .rate) (p .step) store i
+part-taken p store i = by (parametersOutcome (p .k) (p .rate) (p .step)) (inStore (p .k) (stepsBy p) store i)
+  where
+    by : (outcome : Outcome) (test : Bool)
+        → take (orEmpty outcome (cond test (found p (length store) i) empty) .length) (drop (orEmpty outcome (cond test (found p (length store) i) empty) .start) store)
+        ≡ partAfter outcome (cond test (storedLayer (p .k) (stepsBy p) store i) [])
+    by Done true = storedLayer-is (p .k) (stepsBy p) store i
+    by Done false = refl
+    by (Refused cause) test = refl

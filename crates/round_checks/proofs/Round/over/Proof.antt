@@ -1,0 +1,77 @@
+-- `Round::over` meets its contract. Assumes nothing.
+use Rattle.round_checks.proofs.Tables.{round-equal}
+use Rattle.layer_cosets.specs.Cosets.{basisOf}
+use Rattle.coset.proofs.Subspace.{elements-taken}
+use Rattle.coset.specs.Coset.{points}
+use Rattle.poly.specs.Polynomial.{padded}
+use Rattle.poly.specs.Carrier.{gf64}
+use Rattle.gf64.specs.Field.{inverse}
+use lib.Seq.{length-take-le, take-take}
+use Prim.Native.Nat.{ℕ}
+use lib.ListN.{length}
+use mathlib.Core.List.{List, map}
+use mathlib.Core.Path.{_≡_, sym, ap, _∙_}
+use borrow.Author.Needs.{needs}
+use native.Mathlib.Omega.{arith}
+use Rattle.round_checks.proofs.Round.over.Statement.{statement}
+use Rattle.round_checks.proofs.Round.over.Tie as tie
+
+step-elements-requires : tie.Need-step-elements-requires
+step-elements-requires c κs = c .pre
+
+array-share-prefix-elements : tie.Need-array-share-prefix-elements
+array-share-prefix-elements c = search needs
+
+slice-aggregate-inverses-of : tie.Need-slice-aggregate-inverses-of
+slice-aggregate-inverses-of c =
+    let three : length (c .before .before .step-elements .result) ≡ 3 = search needs in
+    sym (length-take-le (c .before .before .before .args .step) (c .before .before .step-elements .result) (omega (arith, three, c .before .before .before .pre .0)))
+
+inverses-of-requires : tie.Need-inverses-of-requires
+inverses-of-requires c κs =
+    let three : length (c .before .before .step-elements .result) ≡ 3 = search needs in
+    omega (arith, c .before .before .before .pre .0, length-take-le (c .before .before .before .args .step) (c .before .before .step-elements .result) (omega (arith, three, c .before .before .before .pre .0)))
+
+array-share-prefix-basis : tie.Need-array-share-prefix-basis
+array-share-prefix-basis c =
+    let start = c .before .before .before .before in
+    let twenty : length (start .args .coset .basis) ≡ 20 = search needs in
+    omega (arith, twenty, start .pre .1, start .pre .2)
+
+slice-aggregate-span-of : tie.Need-slice-aggregate-span-of
+slice-aggregate-span-of c =
+    let start = c .before .before .before .before .before in
+    let twenty : length (start .args .coset .basis) ≡ 20 = search needs in
+    sym (length-take-le (start .args .step) (start .args .coset .basis) (omega (arith, twenty, start .pre .1, start .pre .2)))
+
+span-of-requires : tie.Need-span-of-requires
+span-of-requires c κs =
+    let start = c .before .before .before .before .before in
+    let twenty : length (start .args .coset .basis) ≡ 20 = search needs in
+    omega (arith, start .pre .0, length-take-le (start .args .step) (start .args .coset .basis) (omega (arith, twenty, start .pre .1, start .pre .2)))
+
+returns : tie.Need-returns
+returns c =
+    let start = c .before .before .before .before .before .before in
+    let a = start .args in
+    let step = a .step in
+    let basis = basisOf (a .coset) in
+    let twenty : length (a .coset .basis) ≡ 20 = search needs in
+    let whole : length basis ≡ a .coset .dimension = length-take-le (a .coset .dimension) (a .coset .basis) (omega (arith, twenty, start .pre .2)) in
+    round-equal step basis (a .challenge .0) (a .start) (a .next) (c .before .before .before .before .before .step-elements .result) (c .before .before .inverses-of .result) (c .span-of .result)
+    (c .before .before .before .before .before .step-elements .ensures)
+    (c .before .before .inverses-of .ensures ∙ ap (λ (es : List ℕ). padded gf64 3 (map inverse es)) (elements-taken step basis (c .before .before .before .before .before .step-elements .result) (omega (arith, whole, start .pre .1)) (c .before .before .before .before .before .step-elements .ensures)))
+    (c .span-of .ensures ∙ ap (λ (l : List ℕ). padded gf64 8 (points 0 l)) (sym (take-take step (a .coset .dimension) (a .coset .basis) (start .pre .1))))
+
+pub over-spec : {M : Type 1} → statement M
+over-spec =
+    tie.close
+    (tie.spec
+    step-elements-requires
+    array-share-prefix-elements
+    slice-aggregate-inverses-of
+    inverses-of-requires
+    array-share-prefix-basis
+    slice-aggregate-span-of
+    span-of-requires
+    returns)

@@ -1,0 +1,55 @@
+-- `round_checks::first_outside` meets its contract. The loop's invariant: the queries still to come decide. Assumes nothing.
+use Rattle.round_checks.proofs.Queries.{outside-none, outside-here, outside-next}
+use Rattle.fri.specs.Checks.{firstOutside}
+use lib.ListN.{length, drop}
+use Prim.Native.Nat.{_-_, _≤_}
+use mathlib.Core.Path.{_≡_, refl, _∙_}
+use borrow.Author.Needs.{needs}
+use native.Mathlib.Omega.{arith}
+use Rattle.round_checks.proofs.first_outside.Statement.{statement}
+use Rattle.round_checks.proofs.first_outside.Tie as tie
+
+abbrev Inv-loop : tie.InvT-loop
+Inv-loop size queries query₀ query = (query ≤ length queries) × (firstOutside size (drop query queries) query ≡ firstOutside size queries 0)
+
+abbrev μ-loop : tie.MeasureT-loop
+μ-loop size queries query₀ query = length queries - query
+
+loop-holds : tie.Need-loop-holds Inv-loop μ-loop
+loop-holds c = (search needs, refl)
+
+mul-if1 : tie.Need-mul-if1 Inv-loop μ-loop
+mul-if1 c = search needs
+
+shared-slice-read-if1 : tie.Need-shared-slice-read-if1 Inv-loop μ-loop
+shared-slice-read-if1 c = search needs
+
+returns : tie.Need-returns Inv-loop μ-loop
+returns c = outside-here (c .before .before .before .before .args .size) (c .before .before .before .before .args .queries .now) (c .before .before .before .loop .query) (omega arith) (c .if1 .taken) ∙ c .before .before .before .loop .inv .1
+
+add-query : tie.Need-add-query Inv-loop μ-loop
+add-query c = search needs
+
+loop-less : tie.Need-loop-less Inv-loop μ-loop
+loop-less c = search needs
+
+loop-again : tie.Need-loop-again Inv-loop μ-loop
+loop-again c = (search needs, outside-next (c .before .before .before .before .args .size) (c .before .before .before .before .args .queries .now) (c .before .before .before .loop .query) (omega arith) (c .if1 .left) ∙ c .before .before .before .loop .inv .1)
+
+returns-2 : tie.Need-returns-2 Inv-loop μ-loop
+returns-2 c = outside-none (c .before .before .args .size) (c .before .before .args .queries .now) (c .before .loop .query) (omega arith) ∙ c .before .loop .inv .1
+
+pub first-outside-spec : {M : Type 1} → statement M
+first-outside-spec =
+    tie.close
+    (tie.spec
+    Inv-loop
+    μ-loop
+    loop-holds
+    mul-if1
+    shared-slice-read-if1
+    returns
+    add-query
+    loop-less
+    loop-again
+    returns-2)

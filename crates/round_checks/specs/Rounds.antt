@@ -1,0 +1,75 @@
+-- What the judge computes once for each round, and a query's index and point in a layer, as the code has them. Only inner functions cite this.
+use mathlib.Core.Bool.{Bool, cond}
+use mathlib.Core.List.{List, [], map}
+use Prim.Native.Nat.{ℕ, suc, _+_, _*_, _/_, _%_, _^_}
+use lib.ListN.{getD, take, drop}
+use Rattle.gf64.specs.Field.{sum, inverse}
+use Rattle.poly.specs.Carrier.{gf64}
+use Rattle.poly.specs.Polynomial.{padded, evaluate}
+use Rattle.coset.specs.Coset.{point, points}
+use Rattle.coset.specs.Steps.{composedMaps, stepElements}
+use Rattle.fold.specs.Halving.{valueAt}
+use Rattle.fri.specs.Layout.{layerStart}
+use Rattle.fri.specs.Layers.{layerBasis}
+use Rattle.layout.specs.declared.Parameters.{Parameters}
+use Rattle.layout.specs.Parameters.{stepsBy}
+use Rattle.round_checks.specs.declared.Round.{Round}
+use Rattle.round_checks.specs.declared.QueryPoint.{QueryPoint}
+
+-- a round over a basis, with a challenge; its layer, if it is stored, begins at `start` in the store, and the next one at `next`
+abbrev pub roundOver : ℕ → List ℕ → ℕ → ℕ → ℕ → Round
+roundOver step basis challenge start next =
+    record {
+      elements = padded gf64 3 (stepElements step basis);
+      inverses = padded gf64 3 (map inverse (stepElements step basis));
+      span = padded gf64 8 (points 0 (take step basis));
+      challenge = record { 0 = challenge };
+      start = start;
+      next = next;
+    }
+
+-- what `getD` gives beyond the table
+abbrev pub noRound : Round
+noRound =
+    record {
+      elements = [];
+      inverses = [];
+      span = [];
+      challenge = record { 0 = 0 };
+      start = 0;
+      next = 0;
+    }
+
+-- round i
+abbrev pub roundAt : Parameters → List ℕ → List ℕ → ℕ → Round
+roundAt p basis challenges i =
+    roundOver (p .step) (layerBasis (stepsBy p) basis i) (getD challenges i 0) (layerStart (p .k) (stepsBy p) i) (layerStart (p .k) (stepsBy p) (suc i))
+
+-- a query at an index of a layer over a coset
+abbrev pub queryPointAt : ℕ → List ℕ → ℕ → QueryPoint
+queryPointAt offset basis index = record { index = index; point = record { 0 = point offset basis index } }
+
+-- from one layer to the next
+abbrev pub nextQueryPoint : ℕ → List ℕ → QueryPoint → QueryPoint
+nextQueryPoint step elements here =
+    record {
+      index = here .index / 2 ^ step;
+      point = record { 0 = composedMaps (take step elements) (here .point .0) };
+    }
+
+-- the fold of the coset that holds the query's index, with these entries
+abbrev pub valueFolded : ℕ → Round → QueryPoint → List ℕ → ℕ
+valueFolded step round here part =
+    valueAt (take step (round .inverses))
+    (map (sum (sum (round .challenge .0) (sum (here .point .0) (getD (round .span) (here .index % 2 ^ step) 0)))) (take (2 ^ step) (round .span))) part
+
+-- the entries of that coset: of the word in the first round, later of the store
+abbrev pub partRead : ℕ → Round → QueryPoint → Bool → List ℕ → List ℕ → List ℕ
+partRead step round here first word store =
+    let begin = here .index / 2 ^ step * 2 ^ step in
+    cond first (take (2 ^ step) (drop begin word)) (take (2 ^ step) (drop (round .start + begin) store))
+
+-- the value found: an entry of the next layer or, in the last round, the last polynomial's
+abbrev pub valueRead : Round → QueryPoint → Bool → List ℕ → List ℕ → ℕ
+valueRead round next stored store last =
+    cond stored (getD store (round .next + next .index) 0) (evaluate gf64 last (next .point .0))

@@ -1,0 +1,50 @@
+-- `run_checks::checked_bases` meets its contract. Assumes nothing.
+use Rattle.layout.specs.Parameters.{stepsBy}
+use Rattle.fri.specs.Checks.{laterBasesOutcome}
+use Rattle.coset.specs.Answers.{outcomeOfBasis}
+use Rattle.coset.specs.Span.{firstDependent}
+use Rattle.refusal.proofs.Checks.{then-passed, then-refused}
+use Rattle.refusal.specs.declared.Outcome.the-variants.{Done}
+use lib.ListN.{length}
+use mathlib.Core.Path.{_≡_, sym, _∙_}
+use borrow.Author.Needs.{needs}
+use Rattle.run_checks.proofs.checked_bases.Statement.{statement}
+use Rattle.run_checks.proofs.checked_bases.Tie as tie
+
+checked-basis-requires : tie.Need-checked-basis-requires
+checked-basis-requires c κs = search needs
+
+enum-told : tie.Need-enum-told
+enum-told c = search needs
+
+checked-later-bases-requires : tie.Need-checked-later-bases-requires
+checked-later-bases-requires c κs = search needs
+
+enum-known-outcome : tie.Need-enum-known-outcome
+enum-known-outcome c = search needs
+
+returns : tie.Need-returns
+returns c =
+    let a = c .before .before .before .before .before .args in
+    let steps = stepsBy (a .parameters) in
+    let done : c .before .before .before .checked-basis .result ≡ Done = search needs in
+    c .checked-later-bases .ensures
+    ∙ then-passed (outcomeOfBasis (firstDependent (a .basis .now))) (laterBasesOutcome steps (a .basis .now) 0 (length steps)) (sym (c .before .before .before .checked-basis .ensures) ∙ done)
+
+returns-2 : tie.Need-returns-2
+returns-2 c =
+    let a = c .before .before .before .before .before .args in
+    let steps = stepsBy (a .parameters) in
+    then-refused (outcomeOfBasis (firstDependent (a .basis .now))) (laterBasesOutcome steps (a .basis .now) 0 (length steps)) (c .before .outcome .given .0 .0)
+    (sym (c .before .before .before .checked-basis .ensures) ∙ c .before .outcome .given .1)
+
+pub checked-bases-spec : {M : Type 1} → statement M
+checked-bases-spec =
+    tie.close
+    (tie.spec
+    checked-basis-requires
+    enum-told
+    checked-later-bases-requires
+    enum-known-outcome
+    returns
+    returns-2)
