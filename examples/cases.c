@@ -1,5 +1,5 @@
-/* The cases of Table A, over lists and as transcripts, and a transcript for each number that bytes can get, through the C interface: prints what the
- * program `cases` prints. */
+/* The cases of Table A, over lists and as transcripts, and a transcript for each number that bytes can get, through the
+ * C interface. Prints what examples/cases.stdout has. */
 #include "razgwilh.h"
 
 #include <inttypes.h>

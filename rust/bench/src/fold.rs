@@ -131,7 +131,7 @@ fn fold(
     composed_maps(arithmetic, elements, given.offset)
 }
 
-/// The offset is moved by the challenge once, and with it every point.
+/// What has to be inverted is inverted once, before the cosets.
 #[inline(always)]
 pub fn fill_values(arithmetic: impl Arithmetic, elements: &[u64], given: Fold, values: &mut [u64]) {
     let (first, upper) = given.basis.split_at(given.step);
@@ -139,12 +139,12 @@ pub fn fill_values(arithmetic: impl Arithmetic, elements: &[u64], given: Fold, v
     let span = span_of(arithmetic, first);
     let span = &span[..1 << given.step];
     let sums = prefix_sums(arithmetic, upper);
-    let mut moved = arithmetic.sum(given.offset, given.challenge);
+    let mut first = given.offset;
     let parts = given.word.chunks_exact(span.len());
     for (j, (value, part)) in values.iter_mut().zip(parts).enumerate() {
-        let coset = Coset::read(arithmetic, span, moved, part);
-        *value = coset.value_at(arithmetic, &inverses[..given.step]);
-        moved = stepped(arithmetic, &sums, moved, j + 1);
+        let coset = Coset::read(arithmetic, span, first, part);
+        *value = coset.value_at(arithmetic, given.challenge, &inverses[..given.step]);
+        first = stepped(arithmetic, &sums, first, j + 1);
     }
 }
 
@@ -166,8 +166,7 @@ pub fn span_of(arithmetic: impl Arithmetic, basis: &[u64]) -> [u64; 8] {
     span
 }
 
-/// Two, four or eight points, moved by the challenge, with the word's entries there; behind the count are
-/// zeros. Moved points halve to moved points, so that no halving needs the challenge itself.
+/// Two, four or eight points with the word's entries there; behind the count are zeros.
 #[derive(Clone, Copy)]
 pub struct Coset {
     points: [u64; 8],
@@ -177,11 +176,11 @@ pub struct Coset {
 
 impl Coset {
     #[inline(always)]
-    pub fn read(arithmetic: impl Arithmetic, span: &[u64], moved: u64, part: &[u64]) -> Coset {
+    pub fn read(arithmetic: impl Arithmetic, span: &[u64], first: u64, part: &[u64]) -> Coset {
         let mut points = [0; 8];
         let mut entries = [0; 8];
         for i in 0..span.len() {
-            points[i] = arithmetic.sum(moved, span[i]);
+            points[i] = arithmetic.sum(first, span[i]);
             entries[i] = part[i];
         }
         Coset {
@@ -191,15 +190,24 @@ impl Coset {
         }
     }
 
-    /// The value at the challenge of the polynomial with these entries at these points.
+    /// The value at the challenge of the polynomial with these entries at these points. The points are moved
+    /// by the challenge first: moved points halve to moved points, so that no halving needs it.
     #[inline(always)]
-    pub fn value_at(self, arithmetic: impl Arithmetic, inverses: &[u64]) -> u64 {
+    pub fn value_at(self, arithmetic: impl Arithmetic, challenge: u64, inverses: &[u64]) -> u64 {
         let (last, others) = inverses.split_last().expect("a step is at least 1");
-        let mut coset = self;
+        let mut coset = self.moved(arithmetic, challenge);
         for inverse in others {
             coset = coset.halved(arithmetic, *inverse);
         }
         coset.line(arithmetic, 0, *last)
+    }
+
+    #[inline(always)]
+    fn moved(mut self, arithmetic: impl Arithmetic, challenge: u64) -> Coset {
+        for point in &mut self.points[..self.count] {
+            *point = arithmetic.sum(challenge, *point);
+        }
+        self
     }
 
     /// One entry for each two neighbours, at the product of the two.

@@ -95,17 +95,22 @@ fn print_counts(proof: Proof) {
     );
 }
 
-/// What is left of all operations, without those made once and once a query.
+/// What is left of all operations, without those made once and once a query. The paper's figure takes the
+/// points of a coset as given; here a sum each, and one for the first, lists them.
 fn print_round_counts(proof: Proof, once: &Counts, queried: &Counts) {
     let step = proof.run.step;
+    let listed = (1 << step) + 1;
     let all = counted(|arithmetic| judge(arithmetic, proof));
     let checks = proof.queries.len() * proof.run.challenges.len();
     let each = |of: fn(&Counts) -> u64| (of(&all) - of(once) - of(queried)) as f64 / checks as f64;
     println!(
-        "  step {step}, {:.1} operations for each query and round, wanted at most {}: {:.1} sums and {:.1} products;",
-        each(Counts::all),
-        4 * (1 << step) + 6 * step + 1,
-        each(|counts| counts.sums),
+        "  step {step}, {:.1} operations for each query and round beside {listed} sums for its points, wanted at most {}:",
+        each(Counts::all) - listed as f64,
+        4 * (1 << step) + 6 * step + 1
+    );
+    println!(
+        "    {:.1} sums and {:.1} products;",
+        each(|counts| counts.sums) - listed as f64,
         each(|counts| counts.products)
     );
 }
@@ -225,10 +230,9 @@ impl Round {
     fn folded(&self, arithmetic: impl Arithmetic, step: usize, visit: Visit, layer: &[u64]) -> u64 {
         let size = 1 << step;
         let first = arithmetic.sum(visit.point, self.span[visit.index % size]);
-        let moved = arithmetic.sum(self.challenge, first);
         let part = &layer[visit.index / size * size..][..size];
-        Coset::read(arithmetic, &self.span[..size], moved, part)
-            .value_at(arithmetic, &self.inverses[..step])
+        Coset::read(arithmetic, &self.span[..size], first, part)
+            .value_at(arithmetic, self.challenge, &self.inverses[..step])
     }
 }
 
