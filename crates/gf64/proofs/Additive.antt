@@ -5,7 +5,8 @@ use mathlib.Core.Logic.{⊎-elim}
 use mathlib.Core.Bool.{Bool, true, false, _&&_}
 use mathlib.Core.List.{List, [], _∷_}
 use Prim.Native.Nat.{ℕ, zero, suc, _*_, _/_, _%_, _^_, _<_}
-use native.Mathlib.Nat.{zero-mul, one-mul, mod-lt, le-refl, not-suc-le-zero, div-lt-iff-lt-mul, eq-or-lt-of-le, le-of-suc-le-suc}
+use native.Mathlib.Nat.{zero-mul, one-mul, mod-lt, le-refl, not-suc-le-zero}
+use native.Mathlib.Nat.{div-lt-iff-lt-mul, eq-or-lt-of-le, le-of-suc-le-suc}
 use native.Mathlib.Omega.{arith}
 use lib.Arith.{lt-one}
 use lib.Pow.{pow-pos, split}
@@ -72,7 +73,8 @@ unfolding agreeOn
 agreeOn-at f g zero t i h = absurd (not-suc-le-zero h)
 agreeOn-at f g (suc k) t i h =
     ⊎-elim
-    (λ (e : i ≡ k). subst (λ (n : ℕ). f (2 ^ n) ≡ g (2 ^ n)) (sym e) (eqb→eq (f (2 ^ k)) (g (2 ^ k)) (both-left here rest t)))
+    (λ (e : i ≡ k).
+    subst (λ (n : ℕ). f (2 ^ n) ≡ g (2 ^ n)) (sym e) (eqb→eq (f (2 ^ k)) (g (2 ^ k)) (both-left here rest t)))
     (λ l. agreeOn-at f g k (both-right here rest t) i l)
     (eq-or-lt-of-le (le-of-suc-le-suc h))
   where
@@ -82,7 +84,8 @@ agreeOn-at f g (suc k) t i h =
     rest : Bool
     rest = agreeOn f g k
 
-pub agree-tested : (f g : ℕ → ℕ) → Additive f → Additive g → (k : ℕ) → T (agreeOn f g k) → (x : ℕ) → x < 2 ^ k → f x ≡ g x
+pub agree-tested : (f g : ℕ → ℕ) → Additive f → Additive g → (k : ℕ) → T (agreeOn f g k) → (x : ℕ) → x < 2 ^ k
+    → f x ≡ g x
 agree-tested f g hf hg k t = agree f g hf hg k (agreeOn-at f g k t)
 
 -- ---- the additive map that sends 2^i to entry i of a list

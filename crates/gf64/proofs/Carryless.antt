@@ -2,7 +2,8 @@
 -- Everything follows from one equation, `carryless-step`, and induction on the bits. Assumes nothing.
 use mathlib.Core.Path.{_≡_, refl, sym, ap, ap₂, _∙_, subst}
 use Prim.Native.Nat.{ℕ, zero, suc, _+_, _*_, _/_, _%_, _^_, _≤_, _<_}
-use native.Mathlib.Nat.{zero-mul, one-mul, mul-zero, mul-one, mul-assoc, mul-div-cancel, mul-mod-left, not-suc-le-zero, le-refl, zero-lt-suc, mod-lt, suc-add, lt-of-lt-of-le, le-add-left, pow-suc}
+use native.Mathlib.Nat.{zero-mul, one-mul, mul-zero, mul-one, mul-assoc, mul-div-cancel, mul-mod-left}
+use native.Mathlib.Nat.{not-suc-le-zero, le-refl, zero-lt-suc, mod-lt, suc-add, lt-of-lt-of-le, le-add-left, pow-suc}
 use native.Mathlib.Decide.{le-ind}
 use native.Mathlib.Omega.{arith}
 use lib.Arith.{bin-ind, half-le, lt-one}
@@ -84,7 +85,8 @@ carryless-double-r =
 
 pub carryless-bit-r : (a b : ℕ) → carryless b (a % 2) ≡ a % 2 * b
 carryless-bit-r a b =
-    by-bit (λ (r : ℕ). carryless b r ≡ r * b) (carryless-zero-r b ∙ sym (zero-mul b)) (carryless-one-r b ∙ sym (one-mul b)) a
+    by-bit (λ (r : ℕ). carryless b r ≡ r * b) (carryless-zero-r b ∙ sym (zero-mul b))
+    (carryless-one-r b ∙ sym (one-mul b)) a
 
 pub carryless-comm : (a b : ℕ) → carryless a b ≡ carryless b a
 carryless-comm =
@@ -110,7 +112,8 @@ carryless-bit-l a b c =
 pub carryless-assoc : (a b c : ℕ) → carryless (carryless a b) c ≡ carryless a (carryless b c)
 carryless-assoc =
     bin-ind (λ (n : ℕ). (b c : ℕ) → carryless (carryless n b) c ≡ carryless n (carryless b c))
-    (λ b c. ap (λ (x : ℕ). carryless x c) (carryless-zero-l b) ∙ carryless-zero-l c ∙ sym (carryless-zero-l (carryless b c)))
+    (λ b c. ap (λ (x : ℕ). carryless x c) (carryless-zero-l b) ∙ carryless-zero-l c
+    ∙ sym (carryless-zero-l (carryless b c)))
     (λ n ih b c.
     ap (λ (x : ℕ). carryless x c) (carryless-step n b)
     ∙ carryless-add-l (n % 2 * b) (carryless (n / 2) b * 2) c
@@ -137,7 +140,8 @@ carryless-parts k a b =
 
 pub carryless-lt : (j k a b : ℕ) → a < 2 ^ j → b < 2 ^ k → carryless a b < 2 ^ (j + k)
 carryless-lt zero k a b ha hb =
-    subst (λ (x : ℕ). x < 2 ^ (zero + k)) (sym (ap (λ (x : ℕ). carryless x b) (lt-one ha) ∙ carryless-zero-l b)) (pow-pos (zero + k))
+    subst (λ (x : ℕ). x < 2 ^ (zero + k))
+    (sym (ap (λ (x : ℕ). carryless x b) (lt-one ha) ∙ carryless-zero-l b)) (pow-pos (zero + k))
 carryless-lt (suc j) k a b ha hb =
     subst (λ (x : ℕ). x < 2 ^ (suc j + k)) (sym (carryless-step a b))
     (xor-lt (suc j + k) (a % 2 * b) (carryless (a / 2) b * 2)

@@ -10,7 +10,8 @@ use Rattle.gf64.specs.Polynomial.{carryless, carrylessIn, timesT, remain
 use Rattle.gf64.specs.Field.{product, timesWhere, powerIn, power}
 use Rattle.gf64.proofs.Xor.{xor-half, xor-double}
 use Rattle.gf64.proofs.Ring.{square-add}
-use Rattle.gf64.proofs.Additive.{Additive, additive-zero, agreeOn, agree-tested, mapBits, mapBits-additive, sum-additive}
+use Rattle.gf64.proofs.Additive.{Additive, additive-zero, agreeOn, agree-tested}
+use Rattle.gf64.proofs.Additive.{mapBits, mapBits-additive, sum-additive}
 
 pub t-power : power 2 (2 ^ 64) ≡ 2
 unfolding power powerIn timesWhere product carryless carrylessIn timesT remainder remainderIn

@@ -1,7 +1,9 @@
--- Coefficient n of a product of polynomials over GF(2) is the sum over i + j = n of a_i · b_j, modulo 2. Assumes nothing.
+-- Coefficient n of a product of polynomials over GF(2) is the sum over i + j = n of a_i · b_j,
+-- modulo 2. Assumes nothing.
 use mathlib.Core.Path.{_≡_, sym, ap, ap₂, _∙_}
 use Prim.Native.Nat.{ℕ, zero, suc, _+_, _*_, _/_, _%_, _^_}
-use native.Mathlib.Nat.{zero-mul, one-mul, div-one, mul-div-mul-right, pow-suc, zero-lt-suc, zero-div, add-zero, mul-mod-left}
+use native.Mathlib.Nat.{zero-mul, one-mul, div-one, mul-div-mul-right, pow-suc}
+use native.Mathlib.Nat.{zero-lt-suc, zero-div, add-zero, mul-mod-left}
 use native.Mathlib.Omega.{arith}
 use lib.Bits.{bitXor, xor-shr}
 use Rattle.gf64.specs.Polynomial.{carryless}
@@ -10,7 +12,8 @@ use Rattle.gf64.proofs.Xor.{xor-parity, by-bit}
 use Rattle.gf64.proofs.Carryless.{carryless-step}
 
 pub coefficient-sum : (x y n : ℕ) → coefficient (bitXor x y) n ≡ (coefficient x n + coefficient y n) % 2
-coefficient-sum x y n = ap (λ (v : ℕ). v % 2) (xor-shr x y n) ∙ xor-parity (x / 2 ^ n) (y / 2 ^ n) ∙ parities (x / 2 ^ n) (y / 2 ^ n)
+coefficient-sum x y n =
+    ap (λ (v : ℕ). v % 2) (xor-shr x y n) ∙ xor-parity (x / 2 ^ n) (y / 2 ^ n) ∙ parities (x / 2 ^ n) (y / 2 ^ n)
   where
     parities : (u v : ℕ) → (u + v) % 2 ≡ (u % 2 + v % 2) % 2
     parities u v = omega arith

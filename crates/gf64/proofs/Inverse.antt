@@ -10,7 +10,8 @@ use Rattle.gf64.specs.Polynomial.{remainder}
 use Rattle.gf64.specs.Field.{product, power, inverse}
 use Rattle.gf64.proofs.Carryless.{carryless-double-l, carryless-one-l}
 use Rattle.gf64.proofs.Remainder.{remainder-id}
-use Rattle.gf64.proofs.Ring.{product-lt, product-comm, product-assoc, product-one-l, product-one-r, product-zero-l, product-zero-r}
+use Rattle.gf64.proofs.Ring.{product-lt, product-comm, product-assoc, product-one-l}
+use Rattle.gf64.proofs.Ring.{product-one-r, product-zero-l, product-zero-r}
 use Rattle.gf64.proofs.Additive.{agree}
 use Rattle.gf64.proofs.Power.{power-zero, power-suc, power-mul, power-lt, power-sum}
 use Rattle.gf64.proofs.Certificate.{t-power, idempotent-small}
@@ -53,7 +54,9 @@ own-square a h =
     ∙ ap (λ (x : ℕ). product x (inverse a)) (product-comm (product a (inverse a)) a ∙ absorbed a h)
 
 pub inverse-right : (a : ℕ) → a < 2 ^ 64 → a ≢ 0 → product a (inverse a) ≡ 1
-inverse-right a h nz = pick (product a (inverse a)) refl (idempotent-small (product a (inverse a)) (product-lt a (inverse a)) (own-square a h))
+inverse-right a h nz =
+    pick (product a (inverse a)) refl
+    (idempotent-small (product a (inverse a)) (product-lt a (inverse a)) (own-square a h))
   where
     pick : (e : ℕ) → product a (inverse a) ≡ e → e < 2 → product a (inverse a) ≡ 1
     pick zero p l = absurd (nz (sym (absorbed a h) ∙ ap (product a) p ∙ product-zero-r a))

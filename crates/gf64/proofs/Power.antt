@@ -1,7 +1,8 @@
 -- Powers: a^(n+1) = a · a^n, sums and products of exponents, and a^(2^k) additive in a. Assumes nothing.
 use mathlib.Core.Path.{_≡_, refl, sym, ap, ap₂, _∙_, subst}
 use Prim.Native.Nat.{ℕ, zero, suc, _+_, _*_, _/_, _%_, _^_, _≤_, _<_}
-use native.Mathlib.Nat.{not-suc-le-zero, le-refl, zero-add, suc-add, mul-zero, mul-suc, pow-suc, add-comm, mul-mod-left, mul-div-cancel, zero-lt-suc}
+use native.Mathlib.Nat.{not-suc-le-zero, le-refl, zero-add, suc-add, mul-zero, mul-suc}
+use native.Mathlib.Nat.{pow-suc, add-comm, mul-mod-left, mul-div-cancel, zero-lt-suc}
 use native.Mathlib.Decide.{le-ind}
 use native.Mathlib.Omega.{arith}
 use native.Mathlib.Bridge.{le-by-compare, IsLe}
@@ -11,7 +12,8 @@ use Rattle.gf64.specs.Polynomial.{remainder}
 use Rattle.gf64.specs.Field.{product, timesWhere, powerIn, power}
 use Rattle.gf64.proofs.Xor.{by-bit}
 use Rattle.gf64.proofs.Remainder.{remainder-add}
-use Rattle.gf64.proofs.Ring.{product-lt, product-comm, product-assoc, product-one, product-one-l, product-swap, square-add}
+use Rattle.gf64.proofs.Ring.{product-lt, product-comm, product-assoc, product-one}
+use Rattle.gf64.proofs.Ring.{product-one-l, product-swap, square-add}
 
 -- ---- the step
 
@@ -40,7 +42,8 @@ pub power-double : (a n : ℕ) → power a (n * 2) ≡ product (power a n) (powe
 unfolding timesWhere
 power-double a n =
     power-step a (n * 2)
-    ∙ ap₂ (λ (r m : ℕ). timesWhere r a (product (power a m) (power a m))) (mul-mod-left n 2) (mul-div-cancel n (zero-lt-suc 1))
+    ∙ ap₂ (λ (r m : ℕ). timesWhere r a (product (power a m) (power a m))) (mul-mod-left n 2)
+    (mul-div-cancel n (zero-lt-suc 1))
 
 power-odd : (a n : ℕ) → power a (suc (n * 2)) ≡ product a (product (power a n) (power a n))
 unfolding timesWhere
@@ -59,7 +62,8 @@ power-odd a n =
 suc-even : (a m : ℕ) → power a (suc (m * 2)) ≡ product a (power a (m * 2))
 suc-even a m = power-odd a m ∙ ap (product a) (sym (power-double a m))
 
-suc-odd : (a m : ℕ) → power a (suc m) ≡ product a (power a m) → power a (suc (suc (m * 2))) ≡ product a (power a (suc (m * 2)))
+suc-odd : (a m : ℕ) → power a (suc m) ≡ product a (power a m)
+    → power a (suc (suc (m * 2))) ≡ product a (power a (suc (m * 2)))
 suc-odd a m ih =
     ap (power a) twice ∙ power-double a (suc m) ∙ ap (λ (p : ℕ). product p p) ih
     ∙ product-swap a (power a m) a (power a m) ∙ product-assoc a a (product (power a m) (power a m))

@@ -2,7 +2,8 @@
 -- quotient · modulus + remainder, and no other number below 2^64 is such a remainder. Assumes nothing.
 use mathlib.Core.Path.{_≡_, refl, sym, ap, ap₂, _∙_, subst}
 use Prim.Native.Nat.{ℕ, zero, suc, _+_, _*_, _/_, _%_, _^_, _≤_, _<_}
-use native.Mathlib.Nat.{mul-mod-left, mul-div-cancel, mod-lt, zero-lt-suc, not-suc-le-zero, le-refl, div-eq-of-lt, mod-eq-of-lt, le-trans, le-of-suc-le-suc}
+use native.Mathlib.Nat.{mul-mod-left, mul-div-cancel, mod-lt, zero-lt-suc, not-suc-le-zero}
+use native.Mathlib.Nat.{le-refl, div-eq-of-lt, mod-eq-of-lt, le-trans, le-of-suc-le-suc}
 use native.Mathlib.Decide.{le-ind}
 use native.Mathlib.Omega.{arith}
 use native.Mathlib.Bridge.{le-by-compare, IsLe}
@@ -10,8 +11,11 @@ use lib.Arith.{bin-ind, half-le}
 use lib.Pow.{pow-pos, pow-mono}
 use lib.Bits.{bitXor, xor-shr, xor-mod, xor-lt, xor-shifted}
 use Rattle.gf64.specs.Polynomial.{carryless, timesT, remainder, remainderIn, reduction, modulus}
-use Rattle.gf64.proofs.Xor.{xor-assoc, xor-swap, xor-double, xor-split, xor-cancel, xor-left-comm, by-bit, bit-add-l}
-use Rattle.gf64.proofs.Carryless.{carryless-step, carryless-zero-l, carryless-double-l, carryless-add-l, carryless-one-l, carryless-bit-r, carryless-comm, carryless-assoc, carryless-shift-l}
+use Rattle.gf64.proofs.Xor.{xor-assoc, xor-swap, xor-double, xor-split}
+use Rattle.gf64.proofs.Xor.{xor-cancel, xor-left-comm, by-bit, bit-add-l}
+use Rattle.gf64.proofs.Carryless.{carryless-step, carryless-zero-l, carryless-double-l, carryless-add-l}
+use Rattle.gf64.proofs.Carryless.{carryless-one-l, carryless-bit-r, carryless-comm, carryless-assoc}
+use Rattle.gf64.proofs.Carryless.{carryless-shift-l}
 
 -- ---- t · v reduced
 
@@ -27,8 +31,8 @@ timesT-lt : (v : ℕ) → timesT v < 2 ^ 64
 unfolding timesT IsLe
 timesT-lt v =
     xor-lt 64 (v / 2 ^ 63 % 2 * reduction) (v * 2 % 2 ^ 64)
-    (by-bit (λ (r : ℕ). r * reduction < 2 ^ 64) (le-by-compare 1 (2 ^ 64) tt) (le-by-compare (suc reduction) (2 ^ 64) tt) (v / 2 ^ 63))
-    (mod-lt (v * 2) (pow-pos 64))
+    (by-bit (λ (r : ℕ). r * reduction < 2 ^ 64) (le-by-compare 1 (2 ^ 64) tt)
+    (le-by-compare (suc reduction) (2 ^ 64) tt) (v / 2 ^ 63)) (mod-lt (v * 2) (pow-pos 64))
 
 timesT-zero : timesT 0 ≡ 0
 unfolding timesT
@@ -165,7 +169,8 @@ quotient-step x q e =
     ∙ sym (xor-assoc (carryless (q * 2) modulus) (top r * modulus) (timesT r)))
     ∙ xor-left-comm (x % 2) (bitXor (carryless (q * 2) modulus) (top r * modulus)) (timesT r)
     ∙ ap₂ bitXor
-    (ap (bitXor (carryless (q * 2) modulus)) (sym (carryless-bit-r (r / 2 ^ 63) modulus) ∙ carryless-comm modulus (top r))
+    (ap (bitXor (carryless (q * 2) modulus))
+    (sym (carryless-bit-r (r / 2 ^ 63) modulus) ∙ carryless-comm modulus (top r))
     ∙ sym (carryless-add-l (q * 2) (top r) modulus))
     (sym (remainder-step x))
   where
@@ -187,7 +192,11 @@ remainder-unique x q r h e =
 -- ---- a factor may be reduced before the product is
 
 pub remainder-factor : (a b : ℕ) → remainder (carryless (remainder a) b) ≡ remainder (carryless a b)
-remainder-factor a b = sym (ap (λ (x : ℕ). remainder (carryless x b)) e ∙ ap remainder (carryless-add-l (carryless q modulus) (remainder a) b) ∙ remainder-add (carryless (carryless q modulus) b) (carryless (remainder a) b) ∙ ap (λ (x : ℕ). bitXor x (remainder (carryless (remainder a) b))) (ap remainder swapped ∙ remainder-multiple (carryless q b)))
+remainder-factor a b =
+    sym (ap (λ (x : ℕ). remainder (carryless x b)) e ∙ ap remainder
+    (carryless-add-l (carryless q modulus) (remainder a) b) ∙ remainder-add (carryless (carryless q modulus) b)
+    (carryless (remainder a) b) ∙ ap (λ (x : ℕ). bitXor x (remainder (carryless (remainder a) b)))
+    (ap remainder swapped ∙ remainder-multiple (carryless q b)))
   where
     q : ℕ
     q = remainder-decomposes a .0
@@ -209,7 +218,8 @@ remainder-high h l hl =
     parts : h * 2 ^ 64 ≡ bitXor (carryless h modulus) (carryless reduction h)
     parts =
         ap (λ (x : ℕ). x * 2 ^ 64) (sym (carryless-one-l h)) ∙ sym (carryless-shift-l 64 1 h)
-        ∙ carryless-add-l modulus reduction h ∙ ap (λ (x : ℕ). bitXor x (carryless reduction h)) (carryless-comm modulus h)
+        ∙ carryless-add-l modulus reduction h
+        ∙ ap (λ (x : ℕ). bitXor x (carryless reduction h)) (carryless-comm modulus h)
 
     high : remainder (h * 2 ^ 64) ≡ remainder (carryless reduction h)
     high =

@@ -6,7 +6,8 @@ use lib.Bits.{bitXor}
 use Rattle.gf64.specs.Polynomial.{carryless, remainder}
 use Rattle.gf64.specs.Field.{product}
 use Rattle.gf64.proofs.Xor.{xor-assoc, xor-cancel}
-use Rattle.gf64.proofs.Carryless.{carryless-comm, carryless-assoc, carryless-add-r, carryless-zero-l, carryless-one-l}
+use Rattle.gf64.proofs.Carryless.{carryless-comm, carryless-assoc, carryless-add-r}
+use Rattle.gf64.proofs.Carryless.{carryless-zero-l, carryless-one-l}
 use Rattle.gf64.proofs.Remainder.{remainder-add, remainder-lt, remainder-id, remainder-zero, remainder-factor}
 
 pub product-lt : (a b : ℕ) → product a b < 2 ^ 64

@@ -85,4 +85,5 @@ pub bit-add-l : (a b c : ℕ) → bitXor a b % 2 * c ≡ bitXor (a % 2 * c) (b %
 bit-add-l a b c =
     ap (λ (x : ℕ). x * c) (xor-mod a b 1)
     ∙ by-bit (λ (r : ℕ). bitXor r (b % 2) * c ≡ bitXor (r * c) (b % 2 * c)) (simp zero-mul)
-    (by-bit (λ (s : ℕ). bitXor 1 s * c ≡ bitXor (1 * c) (s * c)) (simp (zero-mul, one-mul, xor-zero-r)) (simp (zero-mul, one-mul, xor-self)) b) a
+    (by-bit (λ (s : ℕ). bitXor 1 s * c ≡ bitXor (1 * c) (s * c)) (simp (zero-mul, one-mul, xor-zero-r))
+    (simp (zero-mul, one-mul, xor-self)) b) a

@@ -1,4 +1,4 @@
--- What is proved of the definitions, as statements: proofs/Theorems.antt has a value of each.
+-- What is proved of the field, as statements: proofs/Theorems.antt has a value of each.
 use mathlib.Core.Path.{_≡_}
 use mathlib.Core.Logic.{_≢_}
 use Prim.Native.Nat.{ℕ, zero, suc, _+_, _*_, _/_, _%_, _^_, _<_}
@@ -6,11 +6,11 @@ use Rattle.gf64.specs.Polynomial.{carryless, remainder, modulus}
 use Rattle.gf64.specs.Field.{IsElement, sum, product, power, inverse}
 
 -- the coefficient of t^n
-abbrev pub coefficient : ℕ → ℕ → ℕ
+abbrev pub coefficient : (a n : ℕ) → ℕ
 coefficient a n = (a / 2 ^ n) % 2
 
 -- the sum over i + j = n of a_i · b_j as a number, the term of a's lowest coefficient first
-unfoldable pub convolution : ℕ → ℕ → ℕ → ℕ
+unfoldable pub convolution : (a b n : ℕ) → ℕ
 convolution a b zero = (a % 2) * (b % 2)
 convolution a b (suc n) = (a % 2) * coefficient b (suc n) + convolution (a / 2) b n
 
