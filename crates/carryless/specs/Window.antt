@@ -10,7 +10,7 @@ use Rattle.carryless.specs.declared.Wide.{Wide}
 use Rattle.carryless.specs.declared.Products.{Products}
 
 -- the polynomial whose bits 64 to 127 are high and whose bits 0 to 63 are low
-abbrev pub wideOf : Wide → ℕ
+abbrev pub wideOf : (w : Wide) → ℕ
 wideOf w = w .high * 2 ^ 64 + w .low
 
 -- entry n is n · a, for the sixteen polynomials n of four bits
@@ -25,17 +25,18 @@ pub record Sums (a₀ a₁ x y : ℕ) (p : Products) : Type 0 where
   pub high : p .high ≡ carryless x a₁
 
 -- what is answered from two tables of multiples
-abbrev pub ProductsBy : List ℕ → List ℕ → ℕ → ℕ → Products → Type 0
+abbrev pub ProductsBy : (t u : List ℕ) (x y : ℕ) (p : Products) → Type 0
 ProductsBy t u x y p = (a₀ a₁ : ℕ) → Multiples a₀ t → Multiples a₁ u → Sums a₀ a₁ x y p
 
--- v shifted by k in 64 bits, and w
-abbrev pub shiftedSum : ℕ → ℕ → ℕ → ℕ
-shiftedSum v k w = bitXor (v * 2 ^ k % 2 ^ 64) w
+-- v shifted up in 64 bits, and w
+abbrev pub shiftedSum : (v shift w : ℕ) → ℕ
+shiftedSum v shift w = bitXor (v * 2 ^ shift % 2 ^ 64) w
 
-abbrev pub joinedOf : Products → ℕ → Products → Products
-joinedOf p k q =
+-- each sum of p shifted up, and that of q
+abbrev pub joinedOf : (p : Products) (shift : ℕ) (q : Products) → Products
+joinedOf p shift q =
     record {
-      low = shiftedSum (p .low) k (q .low);
-      middle = shiftedSum (p .middle) k (q .middle);
-      high = shiftedSum (p .high) k (q .high);
+      low = shiftedSum (p .low) shift (q .low);
+      middle = shiftedSum (p .middle) shift (q .middle);
+      high = shiftedSum (p .high) shift (q .high);
     }

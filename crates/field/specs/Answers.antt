@@ -9,10 +9,10 @@ use Rattle.field.specs.declared.Inverted.{Inverted}
 use Rattle.field.specs.declared.Inverted.the-variants.{Value, Refused}
 
 -- the inverse, or for zero its refusal
-abbrev pub invertedOf : ℕ → Inverted
+abbrev pub invertedOf : (a : ℕ) → Inverted
 invertedOf a = cond (eqb a 0) (Refused InverseOfZero) (Value (record { 0 = inverse a }))
 
 -- the number of an answer: 0 where there is a value, else that of the cause
-abbrev pub numberOfInverted : Inverted → ℕ
+abbrev pub numberOfInverted : (answer : Inverted) → ℕ
 numberOfInverted (Value x) = 0
 numberOfInverted (Refused cause) = numberOf cause

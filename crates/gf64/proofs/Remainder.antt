@@ -193,9 +193,10 @@ remainder-unique x q r h e =
 
 pub remainder-factor : (a b : ℕ) → remainder (carryless (remainder a) b) ≡ remainder (carryless a b)
 remainder-factor a b =
-    sym (ap (λ (x : ℕ). remainder (carryless x b)) e ∙ ap remainder
-    (carryless-add-l (carryless q modulus) (remainder a) b) ∙ remainder-add (carryless (carryless q modulus) b)
-    (carryless (remainder a) b) ∙ ap (λ (x : ℕ). bitXor x (remainder (carryless (remainder a) b)))
+    sym (ap (λ (x : ℕ). remainder (carryless x b)) e
+    ∙ ap remainder (carryless-add-l (carryless q modulus) (remainder a) b)
+    ∙ remainder-add (carryless (carryless q modulus) b) (carryless (remainder a) b)
+    ∙ ap (λ (x : ℕ). bitXor x (remainder (carryless (remainder a) b)))
     (ap remainder swapped ∙ remainder-multiple (carryless q b)))
   where
     q : ℕ

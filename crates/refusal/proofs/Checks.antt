@@ -31,10 +31,12 @@ pub refused-not-done : (cause : Cause) → Refused cause ≡ Done → ⊥
 refused-not-done cause e = let impossible : _≡_ {A = ℕ} 0 1 = cc in omega arith
 
 -- what a lent list holds where it is done, and where it is refused
-pub done-holds : (outcome : Outcome) (wanted held held′ : List ℕ) → outcome ≡ Done → held′ ≡ wanted → held′ ≡ afterwards outcome wanted held
+pub done-holds : (outcome : Outcome) (wanted held held′ : List ℕ) → outcome ≡ Done → held′ ≡ wanted
+    → held′ ≡ afterwards outcome wanted held
 done-holds outcome wanted held held′ e w = w ∙ sym (ap (λ (o : Outcome). afterwards o wanted held) e)
 
-pub refused-holds : (outcome : Outcome) (cause : Cause) (wanted held : List ℕ) → outcome ≡ Refused cause → held ≡ afterwards outcome wanted held
+pub refused-holds : (outcome : Outcome) (cause : Cause) (wanted held : List ℕ) → outcome ≡ Refused cause
+    → held ≡ afterwards outcome wanted held
 refused-holds outcome cause wanted held e = sym (ap (λ (o : Outcome). afterwards o wanted held) e)
 
 -- ---- one check after the other
@@ -42,10 +44,12 @@ refused-holds outcome cause wanted held e = sym (ap (λ (o : Outcome). afterward
 pub passed-by : (test : Bool) (cause : Cause) (after : Outcome) → test ≡ true → after ≡ refusedUnless test cause after
 passed-by test cause after e = sym (ap (λ (t : Bool). refusedUnless t cause after) e)
 
-pub refused-by : (test : Bool) (cause : Cause) (after : Outcome) → test ≡ false → Refused cause ≡ refusedUnless test cause after
+pub refused-by : (test : Bool) (cause : Cause) (after : Outcome) → test ≡ false
+    → Refused cause ≡ refusedUnless test cause after
 refused-by test cause after e = sym (ap (λ (t : Bool). refusedUnless t cause after) e)
 
-pub unless-done : (test : Bool) (cause : Cause) (after : Outcome) → refusedUnless test cause after ≡ Done → (test ≡ true) × (after ≡ Done)
+pub unless-done : (test : Bool) (cause : Cause) (after : Outcome) → refusedUnless test cause after ≡ Done
+    → (test ≡ true) × (after ≡ Done)
 unless-done true cause after e = (refl, e)
 unless-done false cause after e = absurd (refused-not-done cause e)
 
@@ -61,7 +65,8 @@ then-done (Refused cause) after e = absurd (refused-not-done cause e)
 
 -- ---- what holds of every number that checks may give
 
-pub number-unless : (P : ℕ → Type 0) (test : Bool) (cause : Cause) (after : Outcome) → P (numberOf cause) → P (numberOfOutcome after)
+pub number-unless : (P : ℕ → Type 0) (test : Bool) (cause : Cause) (after : Outcome) → P (numberOf cause)
+    → P (numberOfOutcome after)
     → P (numberOfOutcome (refusedUnless test cause after))
 number-unless P true cause after c a = a
 number-unless P false cause after c a = c

@@ -1,14 +1,18 @@
 -- The number, the place and the round of each cause, as document 01's table "Numbers by cause" gives them.
 use Prim.Native.Nat.{ℕ}
 use Rattle.refusal.specs.declared.Cause.{Cause}
-use Rattle.refusal.specs.declared.Cause.the-variants.{BytesEnd, CountDiffers, TrailingBytes, DimensionOutOfRange, RateOutOfRange, StepOutOfRange, DimensionTooSmall, BasisDependent, QueryCountOutOfRange, QueryOutOfRange, RoundCheckFails, DegreeTooLarge, WrongLength, InputTooLong, InverseOfZero, LaterBasisDependent}
+use Rattle.refusal.specs.declared.Cause.the-variants.{BytesEnd, CountDiffers, TrailingBytes, DimensionOutOfRange}
+use Rattle.refusal.specs.declared.Cause.the-variants.{RateOutOfRange, StepOutOfRange, DimensionTooSmall}
+use Rattle.refusal.specs.declared.Cause.the-variants.{BasisDependent, QueryCountOutOfRange, QueryOutOfRange}
+use Rattle.refusal.specs.declared.Cause.the-variants.{RoundCheckFails, DegreeTooLarge, WrongLength, InputTooLong}
+use Rattle.refusal.specs.declared.Cause.the-variants.{InverseOfZero, LaterBasisDependent}
 use Rattle.refusal.specs.declared.Outcome.{Outcome}
 use Rattle.refusal.specs.declared.Outcome.the-variants.{Done, Refused}
 use Rattle.refusal.specs.declared.Position.{Position}
 use Rattle.refusal.specs.declared.Position.the-variants.{At, Absent}
 
--- a number, once given, keeps its cause for good
-abbrev pub numberOf : Cause → ℕ
+-- the table's column "Number": a number, once given, keeps its cause for good
+abbrev pub numberOf : (cause : Cause) → ℕ
 numberOf (BytesEnd section) = 1
 numberOf (CountDiffers section) = 2
 numberOf TrailingBytes = 3
@@ -27,7 +31,7 @@ numberOf InverseOfZero = 15
 numberOf (LaterBasisDependent round) = 16
 
 -- what the table's column "Returned" gives, but for rounds and reads: the section, basis place, query, degree or list
-abbrev pub placeOf : Cause → Position
+abbrev pub placeOf : (cause : Cause) → Position
 placeOf (BytesEnd section) = At section
 placeOf (CountDiffers section) = At section
 placeOf TrailingBytes = Absent
@@ -46,7 +50,7 @@ placeOf InverseOfZero = Absent
 placeOf (LaterBasisDependent round) = Absent
 
 -- the round of a failed check or of a dependent later basis
-abbrev pub roundOf : Cause → Position
+abbrev pub roundOf : (cause : Cause) → Position
 roundOf (BytesEnd section) = Absent
 roundOf (CountDiffers section) = Absent
 roundOf TrailingBytes = Absent
@@ -65,15 +69,16 @@ roundOf InverseOfZero = Absent
 roundOf (LaterBasisDependent round) = At round
 
 -- the number of an outcome: 0 where it went well, else that of the cause
-abbrev pub numberOfOutcome : Outcome → ℕ
+abbrev pub numberOfOutcome : (outcome : Outcome) → ℕ
 numberOfOutcome Done = 0
 numberOfOutcome (Refused cause) = numberOf cause
 
--- its place and its round: those of the cause
-abbrev pub placeOfOutcome : Outcome → Position
+-- the place of an outcome: that of the cause
+abbrev pub placeOfOutcome : (outcome : Outcome) → Position
 placeOfOutcome Done = Absent
 placeOfOutcome (Refused cause) = placeOf cause
 
-abbrev pub roundOfOutcome : Outcome → Position
+-- the round of an outcome: that of the cause
+abbrev pub roundOfOutcome : (outcome : Outcome) → Position
 roundOfOutcome Done = Absent
 roundOfOutcome (Refused cause) = roundOf cause

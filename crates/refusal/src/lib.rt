@@ -2,8 +2,8 @@
 ghost use mathlib.Core.Path.{_≡_};
 ghost use Rattle.refusal.specs.Numbers.{numberOf, placeOf, roundOf};
 
-// Why something was refused: one case for each number, in the order of the numbers. Sections and lists are counted from 1,
-// basis places, queries and rounds from 0.
+// Why something was refused: one case for each number, in the order of the numbers. Sections and lists are counted from
+// 1, basis places, queries and rounds from 0.
 pub enum Cause {
     // 1: the bytes end in a count or its entries
     BytesEnd { section: usize },

@@ -1,5 +1,5 @@
--- `refusal::Cause::round` meets its contract: an arm that binds a field is given that the cause is the constructor at it.
--- Assumes nothing.
+-- `refusal::Cause::round` meets its contract: an arm that binds a field is given that the cause is the
+-- constructor at it. Assumes nothing.
 use mathlib.Core.Path.{sym, ap}
 use borrow.Author.Needs.{needs}
 use Rattle.refusal.specs.Numbers.{roundOf}
