@@ -1,5 +1,5 @@
--- Division by a monic polynomial: p = remainder + (X^m + q) · quotient, and how the two carry the degree of p, both ways.
--- Assumes nothing.
+-- Division by a monic polynomial: p = remainder + (X^m + q) · quotient, and how the two carry the degree of p,
+-- both ways. Assumes nothing.
 use mathlib.Core.Path.{_≡_, refl, sym, ap, ap₂, _∙_, subst}
 use mathlib.Core.List.{List, [], _∷_}
 use Prim.Native.Nat.{ℕ, zero, suc, _+_, _≤_}
@@ -9,8 +9,10 @@ use lib.ListN.{length, drop, replicate, length-replicate, drop-of-length-le}
 use Rattle.poly.specs.Carrier.{Operations, Laws}
 use Rattle.poly.specs.Polynomial.{All, Zeros, evaluate, plus, scale}
 use Rattle.poly.specs.Rows.{monic, butLast, last, remainderBy, quotientBy}
-use Rattle.poly.proofs.Sums.{sum-zero-r, sum-cancel, product-zero-r, product-zero-l, product-left-comm, distributive-l}
-use Rattle.poly.proofs.Evaluation.{evaluate-plus, evaluate-scale, evaluate-zeros, plus-elements, scale-elements, length-plus, length-scale}
+use Rattle.poly.proofs.Sums.{sum-zero-r, sum-cancel, product-zero-r}
+use Rattle.poly.proofs.Sums.{product-zero-l, product-left-comm, distributive-l}
+use Rattle.poly.proofs.Evaluation.{evaluate-plus, evaluate-scale, evaluate-zeros}
+use Rattle.poly.proofs.Evaluation.{plus-elements, scale-elements, length-plus, length-scale}
 use Rattle.poly.proofs.Entries.{all-drop, all-replicate}
 
 -- ---- lengths
@@ -24,10 +26,12 @@ length-butLast c (d ∷ r) = ap suc (length-butLast d r)
 reduced : {A : Type 0} → Operations A → List A → A → List A → List A
 reduced F q c r = plus F (butLast c r) (scale F (last c r) q)
 
-length-reduced : {A : Type 0} (F : Operations A) (q : List A) (c : A) (r : List A) → length r ≡ length q → length (reduced F q c r) ≡ length q
+length-reduced : {A : Type 0} (F : Operations A) (q : List A) (c : A) (r : List A) → length r ≡ length q
+    → length (reduced F q c r) ≡ length q
 unfolding reduced
 length-reduced F q c r h =
-    length-plus F (butLast c r) (scale F (last c r) q) (le-of-eq (length-scale F (last c r) q ∙ sym (length-butLast c r ∙ h)))
+    length-plus F (butLast c r) (scale F (last c r) q)
+    (le-of-eq (length-scale F (last c r) q ∙ sym (length-butLast c r ∙ h)))
     ∙ length-butLast c r ∙ h
 
 pub length-remainder : {A : Type 0} (F : Operations A) (q p : List A) → length (remainderBy F q p) ≡ length q
@@ -104,7 +108,8 @@ module _ {A : Type 0} (F : Operations A) (Element : A → Type 0) (L : Laws A F 
   evaluate-monic (c ∷ q) x v ev =
       monic-step c x (evaluate F (monic F q) x) (evaluate F q x) (raised x (length q) v) v (evaluate-monic q x v ev)
 
-  -- with s and e the values of butLast c r and q, t the leading coefficient, m that of X^m + q and k of the quotient so far
+  -- with s and e the values of butLast c r and q, t the leading coefficient, m that of X^m + q and
+  -- k of the quotient so far
   division-step : (s t e m k x w : A) → m ⊗ t ≡ e ⊗ t ⊕ w
       → (s ⊕ w) ⊕ m ⊗ (x ⊗ k) ≡ (s ⊕ t ⊗ e) ⊕ m ⊗ (t ⊕ x ⊗ k)
   division-step s t e m k x w h =
@@ -130,7 +135,8 @@ module _ {A : Type 0} (F : Operations A) (Element : A → Type 0) (L : Laws A F 
   division-cons q c r x v k h et ih =
       ap (λ (s : A). c ⊕ x ⊗ s) ih
       ∙ ap (λ (s : A). c ⊕ s)
-      (L .distributive x (evaluate F r x) (m ⊗ k) ∙ ap (λ (s : A). x ⊗ evaluate F r x ⊕ s) (product-left-comm F Element L x m k))
+      (L .distributive x (evaluate F r x) (m ⊗ k)
+      ∙ ap (λ (s : A). x ⊗ evaluate F r x ⊕ s) (product-left-comm F Element L x m k))
       ∙ sym (L .sum-associative c (x ⊗ evaluate F r x) (m ⊗ (x ⊗ k)))
       ∙ ap (λ (s : A). s ⊕ m ⊗ (x ⊗ k)) (horner c r x ∙ evaluate-last c r x)
       ∙ division-step (evaluate F (butLast c r) x) t (evaluate F q x) m k x (raised x (length r) t)
@@ -151,10 +157,12 @@ module _ {A : Type 0} (F : Operations A) (Element : A → Type 0) (L : Laws A F 
   unfolding evaluate remainderBy quotientBy reduced
   division q [] x eq ep =
       sym
-      (ap₂ _⊕_ (evaluate-zeros F Element L (replicate (length q) 𝟘) x (all-replicate (λ c. c ≡ 𝟘) (length q) 𝟘 refl)) (product-zero-r F Element L (evaluate F (monic F q) x))
+      (ap₂ _⊕_ (evaluate-zeros F Element L (replicate (length q) 𝟘) x (all-replicate (λ c. c ≡ 𝟘) (length q) 𝟘 refl))
+      (product-zero-r F Element L (evaluate F (monic F q) x))
       ∙ L .sum-zero 𝟘)
   division q (c ∷ p) x eq ep =
-      division-cons q c (remainderBy F q p) x (evaluate F p x) (evaluate F (quotientBy F q p) x) (length-remainder F q p)
+      division-cons q c (remainderBy F q p) x (evaluate F p x) (evaluate F (quotientBy F q p) x)
+      (length-remainder F q p)
       (last-element c (remainderBy F q p) (ep .0) (remainder-elements q p eq (ep .1))) (division q p x eq (ep .1))
 
   -- ---- degrees: Zeros (drop n p) says that the coefficients from n on are zero
@@ -170,14 +178,15 @@ module _ {A : Type 0} (F : Operations A) (Element : A → Type 0) (L : Laws A F 
   plus-zeros [] (d ∷ q) h z = absurd (omega arith)
   plus-zeros (c ∷ p) [] h z = refl
   plus-zeros (c ∷ p) (d ∷ q) h z =
-      ap₂ (λ (a : A) (s : List A). a ∷ s) (ap (λ (s : A). c ⊕ s) (z .0) ∙ sum-zero-r F Element L c) (plus-zeros p q (omega arith) (z .1))
+      ap₂ (λ (a : A) (s : List A). a ∷ s) (ap (λ (s : A). c ⊕ s) (z .0) ∙ sum-zero-r F Element L c)
+      (plus-zeros p q (omega arith) (z .1))
 
   -- where the leading coefficient is zero nothing is taken off
   reduced-same : (q : List A) (c : A) (r : List A) → length r ≡ length q → last c r ≡ 𝟘 → reduced F q c r ≡ butLast c r
   unfolding reduced
   reduced-same q c r h e =
-      plus-zeros (butLast c r) (scale F (last c r) q) (le-of-eq (length-scale F (last c r) q ∙ sym (length-butLast c r ∙ h)))
-      (zeros-scale (last c r) q e)
+      plus-zeros (butLast c r) (scale F (last c r) q)
+      (le-of-eq (length-scale F (last c r) q ∙ sym (length-butLast c r ∙ h))) (zeros-scale (last c r) q e)
 
   zeros-parted : (i : ℕ) (c : A) (r : List A) → i ≤ length r → Zeros F (drop i (c ∷ r))
       → (last c r ≡ 𝟘) × Zeros F (drop i (butLast c r))
@@ -197,7 +206,8 @@ module _ {A : Type 0} (F : Operations A) (Element : A → Type 0) (L : Laws A F 
   zeros-joined zero c (d ∷ r) e z = (z .0, zeros-joined zero d r e (z .1))
   zeros-joined (suc i) c (d ∷ r) e z = zeros-joined i d r e z
 
-  -- p with no coefficient from i on, i at most the degree of the divisor: neither has the remainder, and the quotient is zero
+  -- p with no coefficient from i on, i at most the degree of the divisor: neither has the remainder,
+  -- and the quotient is zero
   Within : List A → List A → ℕ → Type 0
   Within q p i = Zeros F (drop i (remainderBy F q p)) × Zeros F (quotientBy F q p)
 
@@ -206,13 +216,15 @@ module _ {A : Type 0} (F : Operations A) (Element : A → Type 0) (L : Laws A F 
   unfolding Within remainderBy quotientBy reduced
   within-cons q c p i h zr zq =
       let parted = zeros-parted i c (remainderBy F q p) (omega (arith, length-remainder F q p)) zr in (
-        subst (λ (s : List A). Zeros F (drop i s)) (sym (reduced-same q c (remainderBy F q p) (length-remainder F q p) (parted .0))) (parted .1),
+        subst (λ (s : List A). Zeros F (drop i s))
+            (sym (reduced-same q c (remainderBy F q p) (length-remainder F q p) (parted .0))) (parted .1),
         (parted .0, zq),
       )
 
   within : (q p : List A) (i : ℕ) → i ≤ length q → Zeros F (drop i p) → Within q p i
   unfolding Within remainderBy quotientBy
-  within q [] i h z = (all-drop (λ c. c ≡ 𝟘) i (replicate (length q) 𝟘) (all-replicate (λ c. c ≡ 𝟘) (length q) 𝟘 refl), record {})
+  within q [] i h z =
+      (all-drop (λ c. c ≡ 𝟘) i (replicate (length q) 𝟘) (all-replicate (λ c. c ≡ 𝟘) (length q) 𝟘 refl), record {})
   within q (c ∷ p) zero h z =
       let rest = within q p zero h (z .1) in
       within-cons q c p zero h (z .0, rest .0) (rest .1)
@@ -221,16 +233,19 @@ module _ {A : Type 0} (F : Operations A) (Element : A → Type 0) (L : Laws A F 
       within-cons q c p (suc i) h (rest .0) (rest .1)
 
   -- conversely, where the quotient is zero, p ends where its remainder does
-  ends-with-remainder : (q p : List A) (i : ℕ) → Zeros F (quotientBy F q p) → Zeros F (drop i (remainderBy F q p)) → Zeros F (drop i p)
+  ends-with-remainder : (q p : List A) (i : ℕ) → Zeros F (quotientBy F q p) → Zeros F (drop i (remainderBy F q p))
+      → Zeros F (drop i p)
   unfolding remainderBy quotientBy reduced
   ends-with-remainder q [] zero zq zr = record {}
   ends-with-remainder q [] (suc i) zq zr = record {}
   ends-with-remainder q (c ∷ p) zero zq zr =
-      let joined = zeros-joined zero c (remainderBy F q p) (zq .0) (subst (λ (s : List A). Zeros F s) (reduced-same q c (remainderBy F q p) (length-remainder F q p) (zq .0)) zr) in
+      let joined = zeros-joined zero c (remainderBy F q p) (zq .0)
+      (subst (λ (s : List A). Zeros F s) (reduced-same q c (remainderBy F q p) (length-remainder F q p) (zq .0)) zr) in
       (joined .0, ends-with-remainder q p zero (zq .1) (joined .1))
   ends-with-remainder q (c ∷ p) (suc i) zq zr =
       ends-with-remainder q p i (zq .1)
-      (zeros-joined (suc i) c (remainderBy F q p) (zq .0) (subst (λ (s : List A). Zeros F (drop (suc i) s)) (reduced-same q c (remainderBy F q p) (length-remainder F q p) (zq .0)) zr))
+      (zeros-joined (suc i) c (remainderBy F q p) (zq .0) (subst (λ (s : List A). Zeros F (drop (suc i) s))
+      (reduced-same q c (remainderBy F q p) (length-remainder F q p) (zq .0)) zr))
 
   -- zero leaves zero, and conversely
   pub zeros-divided : (q p : List A) → Zeros F p → Zeros F (remainderBy F q p) × Zeros F (quotientBy F q p)
@@ -243,16 +258,20 @@ module _ {A : Type 0} (F : Operations A) (Element : A → Type 0) (L : Laws A F 
   -- no coefficient of p from m + j on: none of the quotient from j on, and conversely
   pub quotient-degree : (q p : List A) (j : ℕ) → Zeros F (drop (length q + j) p) → Zeros F (drop j (quotientBy F q p))
   unfolding Within quotientBy
-  quotient-degree q p zero z = within q p (length q) (le-refl (length q)) (subst (λ (n : ℕ). Zeros F (drop n p)) (add-zero (length q)) z) .1
+  quotient-degree q p zero z =
+      within q p (length q) (le-refl (length q)) (subst (λ (n : ℕ). Zeros F (drop n p)) (add-zero (length q)) z) .1
   quotient-degree q [] (suc j) z = record {}
-  quotient-degree q (c ∷ p) (suc j) z = quotient-degree q p j (subst (λ (n : ℕ). Zeros F (drop n (c ∷ p))) (add-suc (length q) j) z)
+  quotient-degree q (c ∷ p) (suc j) z =
+      quotient-degree q p j (subst (λ (n : ℕ). Zeros F (drop n (c ∷ p))) (add-suc (length q) j) z)
 
-  pub degree-of-quotient : (q p : List A) (j : ℕ) → Zeros F (drop j (quotientBy F q p)) → Zeros F (drop (length q + j) p)
+  pub degree-of-quotient : (q p : List A) (j : ℕ) → Zeros F (drop j (quotientBy F q p))
+      → Zeros F (drop (length q + j) p)
   unfolding quotientBy
   degree-of-quotient q p zero z =
       subst (λ (n : ℕ). Zeros F (drop n p)) (sym (add-zero (length q)))
       (ends-with-remainder q p (length q) z
-      (subst (λ (s : List A). Zeros F s) (sym (drop-of-length-le (remainderBy F q p) (le-of-eq (length-remainder F q p)))) (record {})))
+      (subst (λ (s : List A). Zeros F s)
+      (sym (drop-of-length-le (remainderBy F q p) (le-of-eq (length-remainder F q p)))) (record {})))
   degree-of-quotient q [] (suc j) z = all-drop (λ c. c ≡ 𝟘) (length q + suc j) [] (record {})
   degree-of-quotient q (c ∷ p) (suc j) z =
       subst (λ (n : ℕ). Zeros F (drop n (c ∷ p))) (sym (add-suc (length q) j)) (degree-of-quotient q p j z)

@@ -1,4 +1,5 @@
--- What holds of every entry of a list holds of its parts, and conversely; images of lists; the entries of a repeated value. Assumes nothing.
+-- What holds of every entry of a list holds of its parts, and conversely; images of lists;
+-- the entries of a repeated value. Assumes nothing.
 use mathlib.Core.Path.{_≡_, refl, ap, ap₂}
 use mathlib.Core.List.{List, [], _∷_, _++_, map}
 use Prim.Native.Nat.{ℕ, zero, suc}
@@ -34,7 +35,8 @@ module _ {A : Type 0} (P : A → Type 0) where
   all-getD (x ∷ xs) (suc i) a h all = all-getD xs i a h (all .1)
 
 -- from one predicate to another
-pub all-map : {A B : Type 0} (P : A → Type 0) (Q : B → Type 0) (f : A → B) → ((a : A) → P a → Q (f a)) → (xs : List A) → All P xs → All Q (map f xs)
+pub all-map : {A B : Type 0} (P : A → Type 0) (Q : B → Type 0) (f : A → B) → ((a : A) → P a → Q (f a)) → (xs : List A)
+    → All P xs → All Q (map f xs)
 all-map P Q f h [] a = record {}
 all-map P Q f h (x ∷ xs) a = (h x (a .0), all-map P Q f h xs (a .1))
 

@@ -23,14 +23,16 @@ pub length-scale : {A : Type 0} (F : Operations A) (a : A) (p : List A) → leng
 unfolding scale
 length-scale F a p = length-map p (F .product a)
 
-pub length-timesLinear : {A : Type 0} (F : Operations A) (c x : A) (p : List A) → length (timesLinear F c x p) ≡ suc (length p)
+pub length-timesLinear : {A : Type 0} (F : Operations A) (c x : A) (p : List A)
+    → length (timesLinear F c x p) ≡ suc (length p)
 unfolding timesLinear
 length-timesLinear F c x p = length-plus F (c ∷ p) (scale F x p) (omega (arith, length-scale F x p))
 
 pub length-padded : {A : Type 0} (F : Operations A) (n : ℕ) (p : List A) → length p ≤ n → length (padded F n p) ≡ n
 unfolding padded
 length-padded F n p h =
-    length-append p (replicate (n - length p) (F .zero)) ∙ ap (λ (m : ℕ). length p + m) (length-replicate (n - length p) (F .zero)) ∙ omega arith
+    length-append p (replicate (n - length p) (F .zero))
+    ∙ ap (λ (m : ℕ). length p + m) (length-replicate (n - length p) (F .zero)) ∙ omega arith
 
 pub padded-full : {A : Type 0} (F : Operations A) (n : ℕ) (p : List A) → length p ≡ n → padded F n p ≡ p
 unfolding padded
@@ -75,7 +77,8 @@ module _ {A : Type 0} (F : Operations A) (Element : A → Type 0) (L : Laws A F 
   unfolding evaluate
   evaluate-zeros [] x z = refl
   evaluate-zeros (c ∷ p) x z =
-      ap₂ (λ (b v : A). b ⊕ x ⊗ v) (z .0) (evaluate-zeros p x (z .1)) ∙ L .sum-zero (x ⊗ 𝟘) ∙ product-zero-r F Element L x
+      ap₂ (λ (b v : A). b ⊕ x ⊗ v) (z .0) (evaluate-zeros p x (z .1)) ∙ L .sum-zero (x ⊗ 𝟘)
+      ∙ product-zero-r F Element L x
 
   -- coefficients from n on that are zero may be left off
   pub evaluate-taken : (n : ℕ) (p : List A) (x : A) → DegreeBelow F n p → evaluate F (take n p) x ≡ evaluate F p x
@@ -99,7 +102,8 @@ module _ {A : Type 0} (F : Operations A) (Element : A → Type 0) (L : Laws A F 
   unfolding evaluate
   evaluate-element [] x ep ex = L .zero-element
   evaluate-element (c ∷ p) x ep ex =
-      L .sum-element c (x ⊗ evaluate F p x) (ep .0) (L .product-element x (evaluate F p x) ex (evaluate-element p x (ep .1) ex))
+      L .sum-element c (x ⊗ evaluate F p x) (ep .0)
+      (L .product-element x (evaluate F p x) ex (evaluate-element p x (ep .1) ex))
 
   pub plus-elements : (p q : List A) → All Element p → All Element q → All Element (plus F p q)
   unfolding plus
@@ -112,7 +116,8 @@ module _ {A : Type 0} (F : Operations A) (Element : A → Type 0) (L : Laws A F 
   scale-elements a [] ea ep = record {}
   scale-elements a (c ∷ p) ea ep = (L .product-element a c ea (ep .0), scale-elements a p ea (ep .1))
 
-  pub timesLinear-elements : (c x : A) (p : List A) → Element c → Element x → All Element p → All Element (timesLinear F c x p)
+  pub timesLinear-elements : (c x : A) (p : List A) → Element c → Element x → All Element p
+      → All Element (timesLinear F c x p)
   unfolding timesLinear
   timesLinear-elements c x p ec ex ep = plus-elements (c ∷ p) (scale F x p) (ec, ep) (scale-elements x p ex ep)
 

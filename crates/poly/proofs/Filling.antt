@@ -1,4 +1,5 @@
--- A list that is being filled from the front: j entries of the target, and after them those it held before. Assumes nothing.
+-- A list that is being filled from the front: j entries of the target, and after them those it held
+-- before. Assumes nothing.
 use mathlib.Core.Path.{_≡_, refl, sym, ap, ap₂, _∙_}
 use mathlib.Core.List.{List, [], _∷_, _++_, map, append-nil}
 use mathlib.Core.Logic.{_⊎_, inl, inr, ⊎-elim}
@@ -6,7 +7,8 @@ use Prim.Native.Nat.{ℕ, zero, suc, _+_, _-_, _≤_, _<_}
 use native.Mathlib.Nat.{le-trans}
 use native.Mathlib.Numerals.{add-one}
 use native.Mathlib.Omega.{arith}
-use lib.ListN.{length, getD, take, drop, set, replicate, length-replicate, length-append, length-drop, drop-of-length-le, List·getD-eq-default, List·getD-append}
+use lib.ListN.{length, getD, take, drop, set, replicate, length-replicate, length-append}
+use lib.ListN.{length-drop, drop-of-length-le, List·getD-eq-default, List·getD-append}
 use lib.Seq.{ext-getD, take-append-seam, take-at, take-append-le, length-take-le, getD-append-add, getD-drop}
 use Rattle.poly.specs.Carrier.{gf64}
 use Rattle.poly.specs.Polynomial.{padded}
@@ -27,7 +29,8 @@ filled-suc [] [] j h e = absurd (omega arith)
 filled-suc [] (b ∷ held) j h e = absurd (omega arith)
 filled-suc (a ∷ target) [] j h e = absurd (omega arith)
 filled-suc (a ∷ target) (b ∷ held) zero h e = refl
-filled-suc (a ∷ target) (b ∷ held) (suc j) h e = ap {B = List ℕ} (λ l. a ∷ l) (filled-suc target held j (omega arith) (omega arith))
+filled-suc (a ∷ target) (b ∷ held) (suc j) h e =
+    ap {B = List ℕ} (λ l. a ∷ l) (filled-suc target held j (omega arith) (omega arith))
 
 -- the next entry of the target is stored
 pub filled-next : (target held : List ℕ) (j v : ℕ) → j < length held → length target ≡ length held → v ≡ getD target j 0
@@ -36,7 +39,8 @@ filled-next target held j v h e s =
     ap (set (filled target held j) j) s ∙ filled-suc target held j h e ∙ ap (filled target held) (sym (add-one j))
 
 -- what is not filled yet is as it was
-pub filled-rest : (target held : List ℕ) (j i : ℕ) → j ≤ i → length target ≡ length held → getD (filled target held j) i 0 ≡ getD held i 0
+pub filled-rest : (target held : List ℕ) (j i : ℕ) → j ≤ i → length target ≡ length held
+    → getD (filled target held j) i 0 ≡ getD held i 0
 unfolding filled
 filled-rest [] [] zero i h e = refl
 filled-rest [] [] (suc j) i h e = refl
@@ -46,7 +50,8 @@ filled-rest (a ∷ target) (b ∷ held) zero i h e = refl
 filled-rest (a ∷ target) (b ∷ held) (suc j) zero h e = absurd (omega arith)
 filled-rest (a ∷ target) (b ∷ held) (suc j) (suc i) h e = filled-rest target held j i (omega arith) (omega arith)
 
-pub length-filled : (target held : List ℕ) (j : ℕ) → length target ≡ length held → length (filled target held j) ≡ length held
+pub length-filled : (target held : List ℕ) (j : ℕ) → length target ≡ length held
+    → length (filled target held j) ≡ length held
 unfolding filled
 length-filled [] [] zero e = refl
 length-filled [] [] (suc j) e = refl
@@ -61,7 +66,8 @@ getD-map f (a ∷ l) zero h = refl
 getD-map f (a ∷ l) (suc j) h = getD-map f l j (omega arith)
 
 -- an entry that is filled is the target's
-filled-getD : (target held : List ℕ) (j i : ℕ) → i < j → length target ≡ length held → getD (filled target held j) i 0 ≡ getD target i 0
+filled-getD : (target held : List ℕ) (j i : ℕ) → i < j → length target ≡ length held
+    → getD (filled target held j) i 0 ≡ getD target i 0
 unfolding filled
 filled-getD [] [] zero i h e = absurd (omega arith)
 filled-getD [] [] (suc j) i h e = refl
@@ -77,7 +83,8 @@ le-or-lt (suc j) zero = inr (omega arith)
 le-or-lt (suc j) (suc i) = ⊎-elim (λ l. inl (omega arith)) (λ l. inr (omega arith)) (le-or-lt j i)
 
 -- where the target's other entries are those that the list held, it is filled
-pub filled-done : (target held : List ℕ) (j : ℕ) → length target ≡ length held → ((i : ℕ) → j ≤ i → getD target i 0 ≡ getD held i 0)
+pub filled-done : (target held : List ℕ) (j : ℕ) → length target ≡ length held
+    → ((i : ℕ) → j ≤ i → getD target i 0 ≡ getD held i 0)
     → filled target held j ≡ target
 filled-done target held j e same =
     ext-getD 0 (filled target held j) target (length-filled target held j e ∙ sym e) (λ i h. at i (le-or-lt j i))
@@ -86,7 +93,8 @@ filled-done target held j e same =
     at i (inl l) = filled-rest target held j i l e ∙ sym (same i l)
     at i (inr l) = filled-getD target held j i l e
 
-pub filled-all : (target held : List ℕ) (j : ℕ) → length held ≤ j → length target ≡ length held → filled target held j ≡ target
+pub filled-all : (target held : List ℕ) (j : ℕ) → length held ≤ j → length target ≡ length held
+    → filled target held j ≡ target
 filled-all target held j h e =
     filled-done target held j e
     (λ i l. List·getD-eq-default target 0 (omega arith) ∙ sym (List·getD-eq-default held 0 (le-trans h l)))
@@ -103,7 +111,8 @@ unfolding padded
 getD-padded n p i = getD-followed p (n - length p) i
 
 -- a list of zeros in which p is filled in
-pub filled-padded : (n : ℕ) (p : List ℕ) (j : ℕ) → length p ≤ j → length p ≤ n → filled (padded gf64 n p) (replicate n 0) j ≡ padded gf64 n p
+pub filled-padded : (n : ℕ) (p : List ℕ) (j : ℕ) → length p ≤ j → length p ≤ n
+    → filled (padded gf64 n p) (replicate n 0) j ≡ padded gf64 n p
 filled-padded n p j h l =
     filled-done (padded gf64 n p) (replicate n 0) j (length-padded gf64 n p l ∙ sym (length-replicate n 0))
     (λ i k. getD-padded n p i ∙ List·getD-eq-default p 0 (le-trans h k) ∙ sym (getD-replicated n i 0))
@@ -119,14 +128,16 @@ padded-taken n m p held e l = ap₂ take (sym l) e ∙ take-padded n p
 pub padded-next : (n : ℕ) (p : List ℕ) (j v : ℕ) → j < length p → length p ≤ n → v ≡ getD p j 0
     → set (filled (padded gf64 n p) (replicate n 0) j) j v ≡ filled (padded gf64 n p) (replicate n 0) (j + 1)
 padded-next n p j v h l e =
-    filled-next (padded gf64 n p) (replicate n 0) j v (omega (arith, length-replicate {A = ℕ} n 0)) (length-padded gf64 n p l ∙ sym (length-replicate n 0))
-    (e ∙ sym (getD-padded n p j))
+    filled-next (padded gf64 n p) (replicate n 0) j v (omega (arith, length-replicate {A = ℕ} n 0))
+    (length-padded gf64 n p l ∙ sym (length-replicate n 0)) (e ∙ sym (getD-padded n p j))
 
 -- its first j entries
-pub take-filled : (n : ℕ) (p : List ℕ) (j : ℕ) → j ≤ length p → length p ≤ n → take j (filled (padded gf64 n p) (replicate n 0) j) ≡ take j p
+pub take-filled : (n : ℕ) (p : List ℕ) (j : ℕ) → j ≤ length p → length p ≤ n
+    → take j (filled (padded gf64 n p) (replicate n 0) j) ≡ take j p
 unfolding filled padded
 take-filled n p j h l =
-    take-at (take j (padded gf64 n p)) (drop j (replicate n 0)) j (length-take-le j (padded gf64 n p) (omega (arith, length-padded gf64 n p l)))
+    take-at (take j (padded gf64 n p)) (drop j (replicate n 0)) j
+    (length-take-le j (padded gf64 n p) (omega (arith, length-padded gf64 n p l)))
     ∙ take-append-le j p (replicate (n - length p) 0) h
 
 drop-zeros : (m n l : ℕ) → n - m ≡ l → drop m (replicate {A = ℕ} n 0) ≡ replicate l 0
@@ -141,11 +152,14 @@ padded-front n front = ap {B = List ℕ} (λ l. front ++ l) (drop-zeros (length 
 
 -- ---- the front of a list that may be longer
 
-length-front : (front held : List ℕ) → length front ≤ length held → length (front ++ drop (length front) held) ≡ length held
-length-front front held h = length-append front (drop (length front) held) ∙ omega (arith, length-drop (length front) held)
+length-front : (front held : List ℕ) → length front ≤ length held
+    → length (front ++ drop (length front) held) ≡ length held
+length-front front held h =
+    length-append front (drop (length front) held) ∙ omega (arith, length-drop (length front) held)
 
 pub front-next : (front held : List ℕ) (i v : ℕ) → i < length front → length front ≤ length held → v ≡ getD front i 0
-    → set (filled (front ++ drop (length front) held) held i) i v ≡ filled (front ++ drop (length front) held) held (i + 1)
+    → set (filled (front ++ drop (length front) held) held i) i v
+    ≡ filled (front ++ drop (length front) held) held (i + 1)
 front-next front held i v h l e =
     filled-next (front ++ drop (length front) held) held i v (omega arith) (length-front front held l)
     (e ∙ sym (List·getD-append front (drop (length front) held) 0 i h))

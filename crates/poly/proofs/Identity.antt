@@ -1,4 +1,5 @@
--- The division into rows as an identity of polynomials: p and Σ row_i · q^i have the same coefficients. Assumes nothing.
+-- The division into rows as an identity of polynomials: p and Σ row_i · q^i have the same
+-- coefficients. Assumes nothing.
 use mathlib.Core.Path.{_≡_, refl, sym, ap, ap₂, _∙_, subst}
 use mathlib.Core.List.{List, [], _∷_}
 use Prim.Native.Nat.{ℕ, zero, suc, _*_}
@@ -8,7 +9,8 @@ use Rattle.poly.specs.Carrier.{Operations, Laws}
 use Rattle.poly.specs.Polynomial.{All, Zeros, DegreeBelow, plus, scale}
 use Rattle.poly.specs.Rows.{monic, butLast, last, remainderBy, quotientBy, rows, times, composed}
 use Rattle.poly.proofs.Sums.{sum-zero-r, sum-cancel, product-zero-l, product-zero-r}
-use Rattle.poly.proofs.Division.{length-remainder, last-element, remainder-elements, quotient-elements, quotient-degree}
+use Rattle.poly.proofs.Division.{length-remainder, last-element, remainder-elements}
+use Rattle.poly.proofs.Division.{quotient-elements, quotient-degree}
 use Rattle.poly.proofs.Rows.{one-more}
 use Rattle.poly.proofs.Entries.{getD-replicated}
 
@@ -67,7 +69,8 @@ module _ {A : Type 0} (F : Operations A) (Element : A → Type 0) (L : Laws A F 
   times-same m (c ∷ p) [] e i = sym (times-none m (c ∷ p) (λ j. sym (e j)) i)
   times-same m (c ∷ p) (d ∷ q) e i =
       at-times m c p i
-      ∙ ap₂ (λ (a s : A). a ⊗ at m i ⊕ s) (e zero) (shifted-same (times F m p) (times F m q) (times-same m p q (λ j. e (suc j))) i)
+      ∙ ap₂ (λ (a s : A). a ⊗ at m i ⊕ s) (e zero)
+      (shifted-same (times F m p) (times F m q) (times-same m p q (λ j. e (suc j))) i)
       ∙ sym (at-times m d q i)
 
   -- ---- the division
@@ -87,7 +90,8 @@ module _ {A : Type 0} (F : Operations A) (Element : A → Type 0) (L : Laws A F 
   at-monic : (q : List A) (t : A) (i : ℕ) → Element t → t ⊗ at (monic F q) i ≡ t ⊗ at q i ⊕ at (single (length q) t) i
   unfolding monic single
   at-monic [] t zero e =
-      L .product-commutative t 𝟙 ∙ L .one-neutral t e ∙ sym (L .sum-zero t) ∙ ap (λ (s : A). s ⊕ t) (sym (product-zero-r F Element L t))
+      L .product-commutative t 𝟙 ∙ L .one-neutral t e ∙ sym (L .sum-zero t)
+      ∙ ap (λ (s : A). s ⊕ t) (sym (product-zero-r F Element L t))
   at-monic [] t (suc i) e = sym (sum-zero-r F Element L (t ⊗ 𝟘))
   at-monic (c ∷ q) t zero e = sym (sum-zero-r F Element L (t ⊗ c))
   at-monic (c ∷ q) t (suc i) e = at-monic q t i e
@@ -101,7 +105,8 @@ module _ {A : Type 0} (F : Operations A) (Element : A → Type 0) (L : Laws A F 
   -- one step: from p = r + m · k to c + X · p = (c + X · r less t · m) + m · (t + X · k)
   division-cons : (q : List A) (c : A) (p r k : List A) → length r ≡ length q → Element (last c r)
       → ((i : ℕ) → at p i ≡ at r i ⊕ at (times F (monic F q) k) i)
-      → (i : ℕ) → at (c ∷ p) i ≡ at (plus F (butLast c r) (scale F (last c r) q)) i ⊕ at (times F (monic F q) (last c r ∷ k)) i
+      → (i : ℕ) → at (c ∷ p) i
+      ≡ at (plus F (butLast c r) (scale F (last c r) q)) i ⊕ at (times F (monic F q) (last c r ∷ k)) i
   division-cons q c p r k h e ih i =
       before i
       ∙ ap (λ (s : A). s ⊕ z) (at-last c r i ∙ ap (λ (m : ℕ). at (butLast c r) i ⊕ at (single m t) i) h)
@@ -127,7 +132,8 @@ module _ {A : Type 0} (F : Operations A) (Element : A → Type 0) (L : Laws A F 
   division-identity q [] eq ep i = sym (ap (λ (s : A). s ⊕ 𝟘) (getD-replicated (length q) i 𝟘) ∙ L .sum-zero 𝟘)
   division-identity q (c ∷ p) eq ep i =
       division-cons q c p (remainderBy F q p) (quotientBy F q p) (length-remainder F q p)
-      (last-element F Element L c (remainderBy F q p) (ep .0) (remainder-elements F Element L q p eq (ep .1))) (division-identity q p eq (ep .1)) i
+      (last-element F Element L c (remainderBy F q p) (ep .0) (remainder-elements F Element L q p eq (ep .1)))
+      (division-identity q p eq (ep .1)) i
 
   -- ---- the rows
 
@@ -147,4 +153,5 @@ module _ {A : Type 0} (F : Operations A) (Element : A → Type 0) (L : Laws A F 
       (times-same (monic F q) (quotientBy F q p) (composed F (monic F q) (rows F q n (quotientBy F q p)))
       (rows-identity q n (quotientBy F q p) eq (quotient-elements F Element L q p eq ep)
       (quotient-degree F Element L q p (n * length q) (one-more F Element L q p n z))) i)
-      ∙ sym (at-plus (remainderBy F q p) (times F (monic F q) (composed F (monic F q) (rows F q n (quotientBy F q p)))) i)
+      ∙ sym
+      (at-plus (remainderBy F q p) (times F (monic F q) (composed F (monic F q) (rows F q n (quotientBy F q p)))) i)

@@ -9,7 +9,8 @@ use lib.ListN.{length, length-map}
 use Rattle.poly.specs.Carrier.{Operations, Laws}
 use Rattle.poly.specs.Polynomial.{All, Distinct, evaluate, padded, timesLinear, dividedDifferences, interpolant}
 use Rattle.poly.proofs.Sums.{sum-zero-r, sum-cancel, sum-not-zero, product-zero-l, divides}
-use Rattle.poly.proofs.Evaluation.{evaluate-timesLinear, evaluate-padded, evaluate-element, length-timesLinear, length-padded, timesLinear-elements, padded-elements}
+use Rattle.poly.proofs.Evaluation.{evaluate-timesLinear, evaluate-padded, evaluate-element}
+use Rattle.poly.proofs.Evaluation.{length-timesLinear, length-padded, timesLinear-elements, padded-elements}
 use Rattle.poly.proofs.Roots.{unique}
 
 length-dividedDifferences : {A : Type 0} (F : Operations A) (x y : A) (points values : List A)
@@ -17,7 +18,8 @@ length-dividedDifferences : {A : Type 0} (F : Operations A) (x y : A) (points va
 unfolding dividedDifferences
 length-dividedDifferences F x y [] values h = refl
 length-dividedDifferences F x y (x′ ∷ points) [] h = absurd (omega arith)
-length-dividedDifferences F x y (x′ ∷ points) (y′ ∷ values) h = ap suc (length-dividedDifferences F x y points values (omega arith))
+length-dividedDifferences F x y (x′ ∷ points) (y′ ∷ values) h =
+    ap suc (length-dividedDifferences F x y points values (omega arith))
 
 pub length-interpolant : {A : Type 0} (F : Operations A) (points values : List A)
     → length points ≡ length values → length (interpolant F points values) ≡ length points
@@ -26,20 +28,23 @@ length-interpolant F [] values h = refl
 length-interpolant F (x ∷ points) [] h = absurd (omega arith)
 length-interpolant F (x ∷ points) (y ∷ values) h =
     length-timesLinear F y x (interpolant F points (dividedDifferences F x y points values))
-    ∙ ap suc (length-interpolant F points (dividedDifferences F x y points values) (sym (length-dividedDifferences F x y points values (omega arith))))
+    ∙ ap suc (length-interpolant F points (dividedDifferences F x y points values)
+    (sym (length-dividedDifferences F x y points values (omega arith))))
 
 module _ {A : Type 0} (F : Operations A) (Element : A → Type 0) (L : Laws A F Element) where
   open Operations F using (zero as 𝟘, sum as _⊕_, product as _⊗_)
 
   infixl 60 _⊕_
   infixl 70 _⊗_
-  dividedDifferences-elements : (x y : A) (points values : List A) → Element x → Element y → All Element points → All Element values
+  dividedDifferences-elements : (x y : A) (points values : List A) → Element x → Element y → All Element points
+      → All Element values
       → All Element (dividedDifferences F x y points values)
   unfolding dividedDifferences
   dividedDifferences-elements x y [] values ex ey ep ev = record {}
   dividedDifferences-elements x y (x′ ∷ points) [] ex ey ep ev = record {}
   dividedDifferences-elements x y (x′ ∷ points) (y′ ∷ values) ex ey ep ev = (
-    L .product-element (F .inverse (x′ ⊕ x)) (y′ ⊕ y) (L .inverse-element (x′ ⊕ x) (L .sum-element x′ x (ep .0) ex)) (L .sum-element y′ y (ev .0) ey),
+    L .product-element (F .inverse (x′ ⊕ x)) (y′ ⊕ y) (L .inverse-element (x′ ⊕ x) (L .sum-element x′ x (ep .0) ex))
+        (L .sum-element y′ y (ev .0) ey),
     dividedDifferences-elements x y points values ex ey (ep .1) (ev .1),
   )
 
@@ -49,14 +54,17 @@ module _ {A : Type 0} (F : Operations A) (Element : A → Type 0) (L : Laws A F 
   interpolant-elements [] values ep ev = record {}
   interpolant-elements (x ∷ points) [] ep ev = record {}
   interpolant-elements (x ∷ points) (y ∷ values) ep ev =
-      timesLinear-elements F Element L y x (interpolant F points (dividedDifferences F x y points values)) (ev .0) (ep .0)
-      (interpolant-elements points (dividedDifferences F x y points values) (ep .1) (dividedDifferences-elements x y points values (ep .0) (ev .0) (ep .1) (ev .1)))
+      timesLinear-elements F Element L y x
+      (interpolant F points (dividedDifferences F x y points values)) (ev .0) (ep .0)
+      (interpolant-elements points (dividedDifferences F x y points values) (ep .1)
+      (dividedDifferences-elements x y points values (ep .0) (ev .0) (ep .1) (ev .1)))
 
   -- y + (x + x) · q is y
   at-own-point : (x y : A) (q : List A) → evaluate F (timesLinear F y x q) x ≡ y
   at-own-point x y q =
       evaluate-timesLinear F Element L y x q x
-      ∙ ap (λ (v : A). y ⊕ v) (ap (λ (v : A). v ⊗ evaluate F q x) (L .sum-self x) ∙ product-zero-l F Element L (evaluate F q x))
+      ∙ ap (λ (v : A). y ⊕ v)
+      (ap (λ (v : A). v ⊗ evaluate F q x) (L .sum-self x) ∙ product-zero-l F Element L (evaluate F q x))
       ∙ sum-zero-r F Element L y
 
   -- where q has the divided difference for its value, y + (x′ + x) · q is y′
@@ -66,13 +74,16 @@ module _ {A : Type 0} (F : Operations A) (Element : A → Type 0) (L : Laws A F 
       evaluate-timesLinear F Element L y x q x′
       ∙ ap (λ (v : A). y ⊕ v)
       (ap (λ (v : A). (x′ ⊕ x) ⊗ v) e
-      ∙ divides F Element L (x′ ⊕ x) (y′ ⊕ y) (L .sum-element x′ x ex′ ex) (sum-not-zero F Element L x′ x ne) (L .sum-element y′ y ey′ ey)
+      ∙ divides F Element L (x′ ⊕ x) (y′ ⊕ y) (L .sum-element x′ x ex′ ex) (sum-not-zero F Element L x′ x ne)
+      (L .sum-element y′ y ey′ ey)
       ∙ L .sum-commutative y′ y)
       ∙ sum-cancel F Element L y y′
 
-  at-other-points : (x y : A) (q : List A) → Element x → Element y → (points values : List A) → All Element points → All Element values
+  at-other-points : (x y : A) (q : List A) → Element x → Element y → (points values : List A) → All Element points
+      → All Element values
       → All (λ x′. x′ ≢ x) points → length points ≡ length values
-      → map (evaluate F q) points ≡ dividedDifferences F x y points values → map (evaluate F (timesLinear F y x q)) points ≡ values
+      → map (evaluate F q) points ≡ dividedDifferences F x y points values
+      → map (evaluate F (timesLinear F y x q)) points ≡ values
   unfolding dividedDifferences
   at-other-points x y q ex ey [] [] ep ev d h e = refl
   at-other-points x y q ex ey [] (y′ ∷ values) ep ev d h e = absurd (omega arith)
@@ -90,13 +101,17 @@ module _ {A : Type 0} (F : Operations A) (Element : A → Type 0) (L : Laws A F 
   interpolant-agrees [] (y ∷ values) ep ev d h = absurd (omega arith)
   interpolant-agrees (x ∷ points) [] ep ev d h = absurd (omega arith)
   interpolant-agrees (x ∷ points) (y ∷ values) ep ev d h =
-      ap₂ (λ (a : A) (s : List A). a ∷ s) (at-own-point x y (interpolant F points (dividedDifferences F x y points values)))
-      (at-other-points x y (interpolant F points (dividedDifferences F x y points values)) (ep .0) (ev .0) points values (ep .1) (ev .1) (d .0) (omega arith)
-      (interpolant-agrees points (dividedDifferences F x y points values) (ep .1) (dividedDifferences-elements x y points values (ep .0) (ev .0) (ep .1) (ev .1)) (d .1)
+      ap₂ (λ (a : A) (s : List A). a ∷ s)
+      (at-own-point x y (interpolant F points (dividedDifferences F x y points values)))
+      (at-other-points x y (interpolant F points (dividedDifferences F x y points values)) (ep .0) (ev .0) points values
+      (ep .1) (ev .1) (d .0) (omega arith)
+      (interpolant-agrees points (dividedDifferences F x y points values) (ep .1)
+      (dividedDifferences-elements x y points values (ep .0) (ev .0) (ep .1) (ev .1)) (d .1)
       (sym (length-dividedDifferences F x y points values (omega arith)))))
 
   -- whatever has as many coefficients as there are points, and the values at them, is the interpolant
-  pub interpolant-unique : (p points values : List A) → All Element p → All Element points → All Element values → Distinct points
+  pub interpolant-unique : (p points values : List A) → All Element p → All Element points → All Element values
+      → Distinct points
       → length p ≡ length points → map (evaluate F p) points ≡ values → p ≡ interpolant F points values
   interpolant-unique p points values ep es ev d h e =
       unique F Element L p (interpolant F points values) points ep (interpolant-elements points values es ev) es d h
@@ -110,12 +125,15 @@ module _ {A : Type 0} (F : Operations A) (Element : A → Type 0) (L : Laws A F 
   values-padded n p (x ∷ points) =
       ap₂ (λ (a : A) (s : List A). a ∷ s) (evaluate-padded F Element L n p x) (values-padded n p points)
 
-  pub values-elements : (p points : List A) → All Element p → All Element points → All Element (map (evaluate F p) points)
+  pub values-elements : (p points : List A) → All Element p → All Element points
+      → All Element (map (evaluate F p) points)
   values-elements p [] ep es = record {}
-  values-elements p (x ∷ points) ep es = (evaluate-element F Element L p x ep (es .0), values-elements p points ep (es .1))
+  values-elements p (x ∷ points) ep es =
+      (evaluate-element F Element L p x ep (es .0), values-elements p points ep (es .1))
 
   -- from the values of p at the points the interpolant is p again, zeros filled in
-  pub interpolant-recovers : (p points : List A) → All Element p → All Element points → Distinct points → length p ≤ length points
+  pub interpolant-recovers : (p points : List A) → All Element p → All Element points → Distinct points
+      → length p ≤ length points
       → interpolant F points (map (evaluate F p) points) ≡ padded F (length points) p
   interpolant-recovers p points ep es d h =
       sym

@@ -1,5 +1,5 @@
--- The root bound by synthetic division, p(x) = p(a) + (x + a) · s(x), and from it that two polynomials of n coefficients
--- that agree at n distinct points are equal. Assumes nothing.
+-- The root bound by synthetic division, p(x) = p(a) + (x + a) · s(x), and from it that two polynomials of n
+-- coefficients that agree at n distinct points are equal. Assumes nothing.
 use mathlib.Core.Path.{_≡_, refl, sym, ap, ap₂, _∙_, subst}
 use mathlib.Core.Logic.{_≢_}
 use mathlib.Core.List.{List, [], _∷_, map}
@@ -9,7 +9,8 @@ use native.Mathlib.Omega.{arith}
 use lib.ListN.{length, take, drop, length-take, take-append-drop}
 use Rattle.poly.specs.Carrier.{Operations, Laws}
 use Rattle.poly.specs.Polynomial.{All, Distinct, Zeros, DegreeBelow, evaluate, plus}
-use Rattle.poly.proofs.Sums.{sum-zero-r, sum-cancel, equal-of-sum, sum-not-zero, product-zero-r, distributive-l, product-left-comm, no-zero-divisors}
+use Rattle.poly.proofs.Sums.{sum-zero-r, sum-cancel, equal-of-sum, sum-not-zero, product-zero-r}
+use Rattle.poly.proofs.Sums.{distributive-l, product-left-comm, no-zero-divisors}
 use Rattle.poly.proofs.Evaluation.{evaluate-plus, evaluate-element, plus-elements, length-plus, evaluate-zeros}
 use Rattle.poly.proofs.Entries.{all-append, all-take}
 
@@ -43,7 +44,8 @@ module _ {A : Type 0} (F : Operations A) (Element : A → Type 0) (L : Laws A F 
 
       right : a ⊗ r ⊕ (x ⊕ a) ⊗ (r ⊕ x ⊗ s) ≡ x ⊗ r ⊕ (x ⊕ a) ⊗ (x ⊗ s)
       right =
-          ap (λ (v : A). a ⊗ r ⊕ v) (L .distributive (x ⊕ a) r (x ⊗ s) ∙ ap (λ (v : A). v ⊕ (x ⊕ a) ⊗ (x ⊗ s)) (distributive-l F Element L x a r))
+          ap (λ (v : A). a ⊗ r ⊕ v)
+          (L .distributive (x ⊕ a) r (x ⊗ s) ∙ ap (λ (v : A). v ⊕ (x ⊕ a) ⊗ (x ⊗ s)) (distributive-l F Element L x a r))
           ∙ sym (L .sum-associative (a ⊗ r) (x ⊗ r ⊕ a ⊗ r) ((x ⊕ a) ⊗ (x ⊗ s)))
           ∙ ap (λ (v : A). v ⊕ (x ⊕ a) ⊗ (x ⊗ s))
           (ap (λ (v : A). a ⊗ r ⊕ v) (L .sum-commutative (x ⊗ r) (a ⊗ r)) ∙ sum-cancel F Element L (a ⊗ r) (x ⊗ r))
@@ -54,7 +56,8 @@ module _ {A : Type 0} (F : Operations A) (Element : A → Type 0) (L : Laws A F 
   unfolding evaluate divided
   division c [] a x =
       ap (λ (v : A). c ⊕ v) (product-zero-r F Element L x ∙ sym (product-zero-r F Element L a))
-      ∙ sym (sum-zero-r F Element L (c ⊕ a ⊗ 𝟘)) ∙ ap (λ (v : A). (c ⊕ a ⊗ 𝟘) ⊕ v) (sym (product-zero-r F Element L (x ⊕ a)))
+      ∙ sym (sum-zero-r F Element L (c ⊕ a ⊗ 𝟘))
+      ∙ ap (λ (v : A). (c ⊕ a ⊗ 𝟘) ⊕ v) (sym (product-zero-r F Element L (x ⊕ a)))
   division c (d ∷ p) a x =
       ap (λ (v : A). c ⊕ x ⊗ v) (division d p a x)
       ∙ division-step c x a (evaluate F (d ∷ p) a) (evaluate F (divided F a p) x)
@@ -75,7 +78,8 @@ module _ {A : Type 0} (F : Operations A) (Element : A → Type 0) (L : Laws A F 
   unfolding evaluate
   constant-zero c p a z e =
       sym (sum-zero-r F Element L c)
-      ∙ ap (λ (v : A). c ⊕ v) (sym (product-zero-r F Element L a) ∙ ap (λ (v : A). a ⊗ v) (sym (evaluate-zeros F Element L p a z))) ∙ e
+      ∙ ap (λ (v : A). c ⊕ v)
+      (sym (product-zero-r F Element L a) ∙ ap (λ (v : A). a ⊗ v) (sym (evaluate-zeros F Element L p a z))) ∙ e
 
   zeros-cons : (c : A) (p : List A) (a : A) → evaluate F (c ∷ p) a ≡ 𝟘 → Zeros F p → Zeros F (c ∷ p)
   zeros-cons c p a e z = (constant-zero c p a z e, z)
@@ -89,8 +93,10 @@ module _ {A : Type 0} (F : Operations A) (Element : A → Type 0) (L : Laws A F 
       → (roots : List A) → All Element roots → All (λ x. x ≢ a) roots → All (λ x. evaluate F (c ∷ p) x ≡ 𝟘) roots
       → All (λ x. evaluate F (divided F a p) x ≡ 𝟘) roots
   roots-of-divided c p a ea ep ra [] er d r = record {}
-  roots-of-divided c p a ea ep ra (x ∷ roots) er d r =
-      (root-of-divided c p a x ea (er .0) ep (d .0) ra (r .0), roots-of-divided c p a ea ep ra roots (er .1) (d .1) (r .1))
+  roots-of-divided c p a ea ep ra (x ∷ roots) er d r = (
+    root-of-divided c p a x ea (er .0) ep (d .0) ra (r .0),
+    roots-of-divided c p a ea ep ra roots (er .1) (d .1) (r .1),
+  )
 
   root-bound-by : (roots p : List A) → All Element roots → Distinct roots → All Element p
       → All (λ x. evaluate F p x ≡ 𝟘) roots → length p ≤ length roots → Zeros F p
@@ -101,7 +107,8 @@ module _ {A : Type 0} (F : Operations A) (Element : A → Type 0) (L : Laws A F 
       zeros-cons c p a (r .0)
       (zeros-of-divided a p
       (root-bound-by roots (divided F a p) (er .1) (d .1) (divided-elements a p (er .0) (ep .1))
-      (roots-of-divided c p a (er .0) (ep .1) (r .0) roots (er .1) (d .0) (r .1)) (omega (arith, length-divided F a p))))
+      (roots-of-divided c p a (er .0) (ep .1) (r .0) roots (er .1) (d .0) (r .1))
+      (omega (arith, length-divided F a p))))
 
   -- a polynomial with as many distinct roots as coefficients is zero
   pub root-bound : (p roots : List A) → All Element p → All Element roots → Distinct roots
@@ -116,7 +123,8 @@ module _ {A : Type 0} (F : Operations A) (Element : A → Type 0) (L : Laws A F 
   evaluate-take (suc n) [] x z = refl
   evaluate-take (suc n) (c ∷ p) x z = ap (λ (v : A). c ⊕ x ⊗ v) (evaluate-take n p x z)
 
-  roots-of-take : (n : ℕ) (p roots : List A) → Zeros F (drop n p) → All (λ x. evaluate F p x ≡ 𝟘) roots → All (λ x. evaluate F (take n p) x ≡ 𝟘) roots
+  roots-of-take : (n : ℕ) (p roots : List A) → Zeros F (drop n p) → All (λ x. evaluate F p x ≡ 𝟘) roots
+      → All (λ x. evaluate F (take n p) x ≡ 𝟘) roots
   roots-of-take n p [] z r = record {}
   roots-of-take n p (x ∷ roots) z r = (evaluate-take n p x z ∙ r .0, roots-of-take n p roots z (r .1))
 
@@ -126,7 +134,8 @@ module _ {A : Type 0} (F : Operations A) (Element : A → Type 0) (L : Laws A F 
   root-bound-degree n p roots ep er d r z h =
       subst (Zeros F) (take-append-drop n p)
       (all-append (λ c. c ≡ 𝟘) (take n p) (drop n p)
-      (root-bound (take n p) roots (all-take Element n p ep) er d (roots-of-take n p roots z r) (omega (arith, length-take n p))) z)
+      (root-bound (take n p) roots (all-take Element n p ep) er d (roots-of-take n p roots z r)
+      (omega (arith, length-take n p))) z)
 
   -- ---- uniqueness
 
@@ -154,7 +163,8 @@ module _ {A : Type 0} (F : Operations A) (Element : A → Type 0) (L : Laws A F 
 
   -- two polynomials of n coefficients with the same values at n distinct points are equal
   pub unique : (p q points : List A) → All Element p → All Element q → All Element points → Distinct points
-      → length p ≡ length points → length q ≡ length points → map (evaluate F p) points ≡ map (evaluate F q) points → p ≡ q
+      → length p ≡ length points → length q ≡ length points
+      → map (evaluate F p) points ≡ map (evaluate F q) points → p ≡ q
   unique p q points ep eq es d hp hq e =
       equal-of-plus p q (hp ∙ sym hq)
       (root-bound (plus F p q) points (plus-elements F Element L p q ep eq) es d (roots-of-sum p q points e)

@@ -21,14 +21,16 @@ module _ {A : Type 0} (F : Operations A) (Element : A → Type 0) (L : Laws A F 
   -- the sum of two sums, the inner terms exchanged
   pub sum-swap : (a b c d : A) → (a ⊕ b) ⊕ (c ⊕ d) ≡ (a ⊕ c) ⊕ (b ⊕ d)
   sum-swap a b c d =
-      L .sum-associative a b (c ⊕ d) ∙ ap (λ (s : A). a ⊕ s) (sum-left-comm b c d) ∙ sym (L .sum-associative a c (b ⊕ d))
+      L .sum-associative a b (c ⊕ d) ∙ ap (λ (s : A). a ⊕ s) (sum-left-comm b c d)
+      ∙ sym (L .sum-associative a c (b ⊕ d))
 
   pub equal-of-sum : (a b : A) → a ⊕ b ≡ 𝟘 → a ≡ b
   equal-of-sum a b e = sym (sum-zero-r a) ∙ ap (λ (s : A). a ⊕ s) (sym e) ∙ sum-cancel a b
 
   pub product-left-comm : (a b c : A) → a ⊗ (b ⊗ c) ≡ b ⊗ (a ⊗ c)
   product-left-comm a b c =
-      sym (L .product-associative a b c) ∙ ap (λ (s : A). s ⊗ c) (L .product-commutative a b) ∙ L .product-associative b a c
+      sym (L .product-associative a b c) ∙ ap (λ (s : A). s ⊗ c) (L .product-commutative a b)
+      ∙ L .product-associative b a c
 
   pub product-zero-r : (a : A) → a ⊗ 𝟘 ≡ 𝟘
   product-zero-r a =

@@ -3,7 +3,8 @@ use Rattle.poly.specs.Carrier.{Operations, Laws}
 use Rattle.poly.specs.Theorems.{Roots, Interpolation, RootProduct, RowDivision, OverEveryCarrier}
 use Rattle.poly.proofs.Evaluation.{evaluate-padded}
 use Rattle.poly.proofs.Roots.{root-bound-degree, unique}
-use Rattle.poly.proofs.Interpolation.{length-interpolant, interpolant-elements, interpolant-agrees, interpolant-recovers}
+use Rattle.poly.proofs.Interpolation.{length-interpolant, interpolant-elements}
+use Rattle.poly.proofs.Interpolation.{interpolant-agrees, interpolant-recovers}
 use Rattle.poly.proofs.Vanishing.{evaluate-vanishing, vanishing-leading}
 use Rattle.poly.proofs.Identity.{rows-identity}
 use Rattle.poly.proofs.Rows.{length-rows, rows-lengths, rows-evaluate, rows-degree, degree-of-rows}
@@ -35,4 +36,5 @@ row-division A F Element L =
     }
 
 pub over-every-carrier : OverEveryCarrier
-over-every-carrier = record { roots = roots; interpolation = interpolation; root-product = root-product; row-division = row-division }
+over-every-carrier =
+    record { roots = roots; interpolation = interpolation; root-product = root-product; row-division = row-division }

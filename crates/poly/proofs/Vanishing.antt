@@ -1,4 +1,5 @@
--- The product of X - a over a list of roots: its value, and that it is monic, of as high a degree as there are roots. Assumes nothing.
+-- The product of X - a over a list of roots: its value, and that it is monic, of as high a degree as there
+-- are roots. Assumes nothing.
 use mathlib.Core.Path.{_≡_, refl, ap, _∙_}
 use mathlib.Core.List.{List, [], _∷_, _++_}
 use Prim.Native.Nat.{ℕ, suc, _+_, _≤_}
@@ -12,7 +13,8 @@ use Rattle.poly.specs.Polynomial.{All, evaluate, plus, scale, timesLinea
 use Rattle.poly.specs.Newton.{vanishing}
 use Rattle.poly.specs.Rows.{monic}
 use Rattle.poly.proofs.Sums.{sum-zero-r, product-zero-r}
-use Rattle.poly.proofs.Evaluation.{evaluate-timesLinear, length-plus, length-scale, plus-elements, scale-elements}
+use Rattle.poly.proofs.Evaluation.{evaluate-timesLinear, length-plus}
+use Rattle.poly.proofs.Evaluation.{length-scale, plus-elements, scale-elements}
 use Rattle.poly.proofs.Entries.{all-append}
 
 module _ {A : Type 0} (F : Operations A) (Element : A → Type 0) (L : Laws A F Element) where
@@ -44,10 +46,12 @@ pub length-lower : {A : Type 0} (F : Operations A) (roots : List A) → length (
 unfolding lower
 length-lower F [] = refl
 length-lower F (a ∷ roots) =
-    length-plus F (F .zero ∷ lower F roots) (scale F a (monic F (lower F roots))) (as-long F a (lower F roots)) ∙ ap suc (length-lower F roots)
+    length-plus F (F .zero ∷ lower F roots) (scale F a (monic F (lower F roots))) (as-long F a (lower F roots))
+    ∙ ap suc (length-lower F roots)
 
 -- a leading coefficient that no term is added to
-plus-led : {A : Type 0} (F : Operations A) (p q : List A) (c : A) → length q ≤ length p → plus F (p ++ (c ∷ [])) q ≡ plus F p q ++ (c ∷ [])
+plus-led : {A : Type 0} (F : Operations A) (p q : List A) (c : A) → length q ≤ length p
+    → plus F (p ++ (c ∷ [])) q ≡ plus F p q ++ (c ∷ [])
 unfolding plus
 plus-led F [] [] c h = refl
 plus-led F [] (d ∷ q) c h = absurd (omega arith)
@@ -59,16 +63,20 @@ times-monic : {A : Type 0} (F : Operations A) (a : A) (q : List A)
 unfolding timesLinear monic
 times-monic F a q = plus-led F (F .zero ∷ q) (scale F a (monic F q)) (F .one) (as-long F a q)
 
-pub vanishing-monic : {A : Type 0} (F : Operations A) (roots : List A) → vanishingPolynomial F roots ≡ monic F (lower F roots)
+pub vanishing-monic : {A : Type 0} (F : Operations A) (roots : List A)
+    → vanishingPolynomial F roots ≡ monic F (lower F roots)
 unfolding vanishingPolynomial lower monic
 vanishing-monic F [] = refl
-vanishing-monic F (a ∷ roots) = ap (timesLinear F (F .zero) a) (vanishing-monic F roots) ∙ times-monic F a (lower F roots)
+vanishing-monic F (a ∷ roots) =
+    ap (timesLinear F (F .zero) a) (vanishing-monic F roots) ∙ times-monic F a (lower F roots)
 
 pub vanishing-leading : {A : Type 0} (F : Operations A) (roots : List A)
-    → (length (vanishingPolynomial F roots) ≡ length roots + 1) × (getD (vanishingPolynomial F roots) (length roots) (F .zero) ≡ F .one)
+    → (length (vanishingPolynomial F roots) ≡ length roots + 1)
+    × (getD (vanishingPolynomial F roots) (length roots) (F .zero) ≡ F .one)
 unfolding monic
 vanishing-leading {A = A} F roots = (
-  ap length (vanishing-monic F roots) ∙ length-append (lower F roots) (F .one ∷ []) ∙ ap (λ (n : ℕ). n + 1) (length-lower F roots),
+  ap length (vanishing-monic F roots) ∙ length-append (lower F roots) (F .one ∷ [])
+      ∙ ap (λ (n : ℕ). n + 1) (length-lower F roots),
   ap (λ (l : List A). getD l (length roots) (F .zero)) (vanishing-monic F roots)
       ∙ getD-at (lower F roots) (F .one) [] (F .zero) (length roots) (length-lower F roots),
 )
@@ -84,5 +92,7 @@ module _ {A : Type 0} (F : Operations A) (Element : A → Type 0) (L : Laws A F 
   unfolding lower
   lower-elements [] er = record {}
   lower-elements (a ∷ roots) er =
-      plus-elements F Element L (𝟘 ∷ lower F roots) (scale F a (monic F (lower F roots))) (L .zero-element, lower-elements roots (er .1))
-      (scale-elements F Element L a (monic F (lower F roots)) (er .0) (monic-elements (lower F roots) (lower-elements roots (er .1))))
+      plus-elements F Element L (𝟘 ∷ lower F roots) (scale F a (monic F (lower F roots)))
+      (L .zero-element, lower-elements roots (er .1))
+      (scale-elements F Element L a (monic F (lower F roots)) (er .0)
+      (monic-elements (lower F roots) (lower-elements roots (er .1))))

@@ -4,14 +4,16 @@ use mathlib.Core.Logic.{_≢_}
 use Prim.Native.Nat.{ℕ}
 use Rattle.gf64.specs.Field.{sum, product, inverse}
 
+-- what a carrier computes with
 pub record Operations (A : Type 0) : Type 0 where
   pub zero : A
   pub one : A
-  pub sum : A → A → A
-  pub product : A → A → A
-  pub inverse : A → A
+  pub sum : (a b : A) → A
+  pub product : (a b : A) → A
+  pub inverse : (a : A) → A
 
--- sums and products obey their laws on the whole carrier; that one is neutral and that inverses divide is asked of elements alone
+-- sums and products obey their laws on the whole carrier; that one is neutral and that inverses divide
+-- is asked of elements alone
 pub record Laws (A : Type 0) (F : Operations A) (Element : A → Type 0) : Type 0 where
   pub sum-commutative : (a b : A) → F .sum a b ≡ F .sum b a
   pub sum-associative : (a b c : A) → F .sum (F .sum a b) c ≡ F .sum a (F .sum b c)

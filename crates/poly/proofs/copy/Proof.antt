@@ -1,4 +1,5 @@
--- `poly::copy` meets its contract. The loop's invariant: i entries are copied, the others as they were. Assumes nothing.
+-- `poly::copy` meets its contract. The loop's invariant: i entries are copied, the others as
+-- they were. Assumes nothing.
 use Rattle.poly.proofs.Filling.{filled, filled-start, front-next, front-done}
 use lib.ListN.{length, getD, drop, set, length-set}
 use Prim.Native.Nat.{ℕ, _-_, _≤_}

@@ -1,4 +1,5 @@
--- `poly::evaluate` meets its contract. The loop's invariant: the value is that of the coefficients from i on. Assumes nothing.
+-- `poly::evaluate` meets its contract. The loop's invariant: the value is that of the coefficients
+-- from i on. Assumes nothing.
 use mathlib.Core.Path.{_≡_, ap, _∙_}
 use Prim.Native.Nat.{_-_, _≤_}
 use borrow.Author.Needs.{needs}
@@ -51,7 +52,8 @@ loop-again c =
 returns : tie.Need-returns Inv-loop μ-loop
 returns c =
     let a = c .before .before .before .args in
-    horner-start (a .coefficients .now) (c .before .loop .i) (a .x .0) (c .before .loop .value .0) (c .loop-test .left) (c .before .loop .inv .1)
+    horner-start (a .coefficients .now) (c .before .loop .i) (a .x .0) (c .before .loop .value .0) (c .loop-test .left)
+    (c .before .loop .inv .1)
 
 pub evaluate-spec : {M : Type 1} → statement M
 evaluate-spec =
