@@ -1,5 +1,5 @@
--- `cleared b` is additive with kernel 0 and b, for a b that is not 0: it adds b where the bit is set that is b's highest.
--- Assumes nothing.
+-- `cleared b` is additive with kernel 0 and b, for a b that is not 0: it adds b where the bit is set that is b's
+-- highest. Assumes nothing.
 use mathlib.Core.Path.{_≡_, refl, sym, ap, ap₂, _∙_}
 use mathlib.Core.Logic.{_≢_, _⊎_, inl, inr, ⊎-elim}
 use mathlib.Core.Bool.{Bool, cond, _||_, or-true}
@@ -43,7 +43,8 @@ pub zero-test : (a b v : ℕ) → (v ≡ 0 → (a ≡ 0) ⊎ (a ≡ b)) → (a �
 zero-test a b zero k z s =
     ⊎-elim
     (λ (e : a ≡ 0). sym (ap (λ (t : Bool). t || eqb (bitXor a b) 0) (eq-eqb a 0 e)))
-    (λ (e : a ≡ b). sym (ap (λ (t : Bool). eqb a 0 || t) (eq-eqb (bitXor a b) 0 (xor-of-equal a b e)) ∙ or-true (eqb a 0)))
+    (λ (e : a ≡ b).
+    sym (ap (λ (t : Bool). eqb a 0 || t) (eq-eqb (bitXor a b) 0 (xor-of-equal a b e)) ∙ or-true (eqb a 0)))
     (k refl)
 zero-test a b (suc v) k z s =
     eqb·suc-zero v
@@ -71,7 +72,8 @@ module _ (b p : ℕ) (top : b / 2 ^ p ≡ 1) where
   cleared-at : (a r : ℕ) → r < 2 → a / 2 ^ p % 2 ≡ r → cleared b a ≡ bitXor a (r * b)
   unfolding cleared
   cleared-at a zero l e =
-      ap (λ (t : Bool). cond t (bitXor a b) a) (le-ltb (bitXor a b) a (more a e)) ∙ sym (xor-zero-r a) ∙ ap (bitXor a) (sym (zero-mul b))
+      ap (λ (t : Bool). cond t (bitXor a b) a) (le-ltb (bitXor a b) a (more a e)) ∙ sym (xor-zero-r a)
+      ∙ ap (bitXor a) (sym (zero-mul b))
   cleared-at a (suc zero) l e =
       ap (λ (t : Bool). cond t (bitXor a b) a) (lt-ltb (bitXor a b) a (less a e)) ∙ ap (bitXor a) (sym (one-mul b))
   cleared-at a (suc (suc r)) l e = absurd (omega arith)
@@ -96,8 +98,10 @@ module _ (b p : ℕ) (top : b / 2 ^ p ≡ 1) where
 
   -- what is cleared to zero is 0 or b
   cleared-kernel-at : (a r : ℕ) → r < 2 → a / 2 ^ p % 2 ≡ r → cleared b a ≡ 0 → (a ≡ 0) ⊎ (a ≡ b)
-  cleared-kernel-at a zero l e z = inl (equal-of-xor a 0 (sym (ap (bitXor a) (zero-mul b)) ∙ sym (cleared-at a 0 l e) ∙ z))
-  cleared-kernel-at a (suc zero) l e z = inr (equal-of-xor a b (sym (ap (bitXor a) (one-mul b)) ∙ sym (cleared-at a 1 l e) ∙ z))
+  cleared-kernel-at a zero l e z =
+      inl (equal-of-xor a 0 (sym (ap (bitXor a) (zero-mul b)) ∙ sym (cleared-at a 0 l e) ∙ z))
+  cleared-kernel-at a (suc zero) l e z =
+      inr (equal-of-xor a b (sym (ap (bitXor a) (one-mul b)) ∙ sym (cleared-at a 1 l e) ∙ z))
   cleared-kernel-at a (suc (suc r)) l e z = absurd (omega arith)
 
 pub cleared-additive : (b : ℕ) → b ≢ 0 → Additive (cleared b)

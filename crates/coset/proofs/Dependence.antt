@@ -22,7 +22,8 @@ pub point-shifted : (offset : ℕ) (basis : List ℕ) (j : ℕ) → point offset
 unfolding point
 point-shifted offset [] j = sym (xor-zero-r offset)
 point-shifted offset (b ∷ basis) j =
-    ap (bitXor (j % 2 * b)) (point-shifted offset basis (j / 2)) ∙ xor-left-comm (j % 2 * b) offset (point 0 basis (j / 2))
+    ap (bitXor (j % 2 * b)) (point-shifted offset basis (j / 2))
+    ∙ xor-left-comm (j % 2 * b) offset (point 0 basis (j / 2))
 
 -- an element in the offset, or beside it
 pub point-moved : (offset x : ℕ) (basis : List ℕ) (j : ℕ) → point (sum offset x) basis j ≡ sum x (point offset basis j)
@@ -34,7 +35,8 @@ pub points-moved : (offset x : ℕ) (basis : List ℕ) → map (sum x) (points o
 unfolding points
 points-moved offset x basis =
     map-tabulated (sum x) (point offset basis) 0 (2 ^ length basis)
-    ∙ tabulated-agree (λ j. sum x (point offset basis j)) (point (sum offset x) basis) 0 (2 ^ length basis) (λ j l u. sym (point-moved offset x basis j))
+    ∙ tabulated-agree (λ j. sum x (point offset basis j)) (point (sum offset x) basis) 0 (2 ^ length basis)
+    (λ j l u. sym (point-moved offset x basis j))
 
 -- point 0 is the offset
 pub point-first : (offset : ℕ) (basis : List ℕ) → point offset basis 0 ≡ offset
@@ -50,7 +52,8 @@ or-cases true t P f g e = f refl
 or-cases false t P f g e = g e
 
 without-first : (b : ℕ) (elements : List ℕ) (a : ℕ) → Reached elements a → Reached (b ∷ elements) a
-without-first b elements a r = (r .0 * 2, omega (arith, r .1, pow-suc 2 (length elements)), point-even 0 b elements (r .0) ∙ r .2)
+without-first b elements a r =
+    (r .0 * 2, omega (arith, r .1, pow-suc 2 (length elements)), point-even 0 b elements (r .0) ∙ r .2)
 
 with-first : (b : ℕ) (elements : List ℕ) (a : ℕ) → Reached elements (bitXor a b) → Reached (b ∷ elements) a
 with-first b elements a r = (
@@ -67,13 +70,16 @@ reached-of-span (b ∷ elements) a e =
     (λ s. without-first b elements a (reached-of-span elements a s))
     (λ s. with-first b elements a (reached-of-span elements (bitXor a b) s)) e
 
-span-cons : (b : ℕ) (elements : List ℕ) (j p : ℕ) → inSpan elements p ≡ true → inSpan (b ∷ elements) (bitXor (j % 2 * b) p) ≡ true
+span-cons : (b : ℕ) (elements : List ℕ) (j p : ℕ) → inSpan elements p ≡ true
+    → inSpan (b ∷ elements) (bitXor (j % 2 * b) p) ≡ true
 unfolding inSpan
 span-cons b elements j p h =
     by-bit (λ (d : ℕ). (inSpan elements (bitXor (d * b) p) || inSpan elements (bitXor (bitXor (d * b) p) b)) ≡ true)
-    (ap (λ (t : Bool). t || inSpan elements (bitXor (bitXor (0 * b) p) b)) (ap (λ (s : ℕ). inSpan elements (bitXor s p)) (zero-mul b) ∙ h))
+    (ap (λ (t : Bool). t || inSpan elements (bitXor (bitXor (0 * b) p) b))
+    (ap (λ (s : ℕ). inSpan elements (bitXor s p)) (zero-mul b) ∙ h))
     (ap (λ (t : Bool). inSpan elements (bitXor (1 * b) p) || t)
-    (ap (inSpan elements) (ap (λ (s : ℕ). bitXor (bitXor s p) b) (one-mul b) ∙ xor-comm (bitXor b p) b ∙ xor-cancel b p) ∙ h)
+    (ap (inSpan elements) (ap (λ (s : ℕ). bitXor (bitXor s p) b) (one-mul b) ∙ xor-comm (bitXor b p) b ∙ xor-cancel b p)
+    ∙ h)
     ∙ or-true (inSpan elements (bitXor (1 * b) p))) j
 
 pub span-of-point : (elements : List ℕ) (j : ℕ) → inSpan elements (point 0 elements j) ≡ true
@@ -132,13 +138,17 @@ found-later earlier b elements place i d f =
     none-before zero h = at-first earlier b elements ∙ d
     none-before (suc t) h = at-later earlier b elements t ∙ f .before t (omega arith)
 
-found-after : (earlier elements : List ℕ) (place i : ℕ) → firstDependentAfter earlier elements place ≡ At i → Found earlier elements place i
+found-after : (earlier elements : List ℕ) (place i : ℕ) → firstDependentAfter earlier elements place ≡ At i
+    → Found earlier elements place i
 unfolding firstDependentAfter
 found-after earlier [] place i e = absurd (at-not-absent i (sym e))
-found-after earlier (b ∷ elements) place i e = by-test (inSpan earlier b) refl e (found-after (earlier ++ (b ∷ [])) elements (suc place) i)
+found-after earlier (b ∷ elements) place i e =
+    by-test (inSpan earlier b) refl e (found-after (earlier ++ (b ∷ [])) elements (suc place) i)
   where
-    by-test : (t : Bool) → inSpan earlier b ≡ t → cond t (At place) (firstDependentAfter (earlier ++ (b ∷ [])) elements (suc place)) ≡ At i
-        → (firstDependentAfter (earlier ++ (b ∷ [])) elements (suc place) ≡ At i → Found (earlier ++ (b ∷ [])) elements (suc place) i)
+    by-test : (t : Bool) → inSpan earlier b ≡ t
+        → cond t (At place) (firstDependentAfter (earlier ++ (b ∷ [])) elements (suc place)) ≡ At i
+        → (firstDependentAfter (earlier ++ (b ∷ [])) elements (suc place) ≡ At i
+        → Found (earlier ++ (b ∷ [])) elements (suc place) i)
         → Found earlier (b ∷ elements) place i
     by-test true d h later = found-first earlier b elements place i d h
     by-test false d h later = found-later earlier b elements place i d (later h)
@@ -147,10 +157,13 @@ none-after : (earlier elements : List ℕ) (place : ℕ) → firstDependentAfter
     → (t : ℕ) → t < length elements → dependentAt earlier elements t ≡ false
 unfolding firstDependentAfter
 none-after earlier [] place e t h = absurd (omega arith)
-none-after earlier (b ∷ elements) place e t h = by-test (inSpan earlier b) refl e (none-after (earlier ++ (b ∷ [])) elements (suc place)) t h
+none-after earlier (b ∷ elements) place e t h =
+    by-test (inSpan earlier b) refl e (none-after (earlier ++ (b ∷ [])) elements (suc place)) t h
   where
-    by-test : (s : Bool) → inSpan earlier b ≡ s → cond s (At place) (firstDependentAfter (earlier ++ (b ∷ [])) elements (suc place)) ≡ Absent
-        → (firstDependentAfter (earlier ++ (b ∷ [])) elements (suc place) ≡ Absent → (t : ℕ) → t < length elements → dependentAt (earlier ++ (b ∷ [])) elements t ≡ false)
+    by-test : (s : Bool) → inSpan earlier b ≡ s
+        → cond s (At place) (firstDependentAfter (earlier ++ (b ∷ [])) elements (suc place)) ≡ Absent
+        → (firstDependentAfter (earlier ++ (b ∷ [])) elements (suc place) ≡ Absent → (t : ℕ) → t < length elements
+        → dependentAt (earlier ++ (b ∷ [])) elements t ≡ false)
         → (t : ℕ) → t < suc (length elements) → dependentAt earlier (b ∷ elements) t ≡ false
     by-test true d k later t l = absurd (at-not-absent place k)
     by-test false d k later zero l = at-first earlier b elements ∙ d
@@ -161,15 +174,19 @@ pub first-found : (basis : List ℕ) (i : ℕ) → firstDependent basis ≡ At i
 unfolding firstDependent
 first-found basis i e =
     let f : Found [] basis 0 i = found-after [] basis 0 i e in
-    let same : f .index ≡ i = sym (f .placed ∙ zero-add (f .index)) in
-    (subst (λ (n : ℕ). n < length basis) same (f .inside), subst (λ (n : ℕ). dependentAt [] basis n ≡ true) same (f .dependent))
+    let same : f .index ≡ i = sym (f .placed ∙ zero-add (f .index)) in (
+      subst (λ (n : ℕ). n < length basis) same (f .inside),
+      subst (λ (n : ℕ). dependentAt [] basis n ≡ true) same (f .dependent),
+    )
 
-pub first-before : (basis : List ℕ) (i t : ℕ) → firstDependent basis ≡ At i → t < i → inSpan (take t basis) (getD basis t 0) ≡ false
+pub first-before : (basis : List ℕ) (i t : ℕ) → firstDependent basis ≡ At i → t < i
+    → inSpan (take t basis) (getD basis t 0) ≡ false
 unfolding firstDependent
 first-before basis i t e h =
     let f : Found [] basis 0 i = found-after [] basis 0 i e in
     f .before t (omega (arith, f .placed))
 
-pub none-dependent : (basis : List ℕ) (t : ℕ) → Independent basis → t < length basis → inSpan (take t basis) (getD basis t 0) ≡ false
+pub none-dependent : (basis : List ℕ) (t : ℕ) → Independent basis → t < length basis
+    → inSpan (take t basis) (getD basis t 0) ≡ false
 unfolding firstDependent
 none-dependent basis t e h = none-after [] basis 0 e t h

@@ -44,7 +44,8 @@ point-image f additive offset (b ∷ basis) j =
 pub point-even : (offset b : ℕ) (basis : List ℕ) (j : ℕ) → point offset (b ∷ basis) (j * 2) ≡ point offset basis j
 unfolding point
 point-even offset b basis j =
-    ap₂ (λ (r m : ℕ). bitXor (r * b) (point offset basis m)) lowest half ∙ ap (λ (s : ℕ). bitXor s (point offset basis j)) (zero-mul b)
+    ap₂ (λ (r m : ℕ). bitXor (r * b) (point offset basis m)) lowest half
+    ∙ ap (λ (s : ℕ). bitXor s (point offset basis j)) (zero-mul b)
   where
     lowest : j * 2 % 2 ≡ 0
     lowest = omega arith
@@ -52,10 +53,12 @@ point-even offset b basis j =
     half : j * 2 / 2 ≡ j
     half = omega arith
 
-pub point-odd : (offset b : ℕ) (basis : List ℕ) (j : ℕ) → point offset (b ∷ basis) (suc (j * 2)) ≡ bitXor b (point offset basis j)
+pub point-odd : (offset b : ℕ) (basis : List ℕ) (j : ℕ)
+    → point offset (b ∷ basis) (suc (j * 2)) ≡ bitXor b (point offset basis j)
 unfolding point
 point-odd offset b basis j =
-    ap₂ (λ (r m : ℕ). bitXor (r * b) (point offset basis m)) lowest half ∙ ap (λ (s : ℕ). bitXor s (point offset basis j)) (one-mul b)
+    ap₂ (λ (r m : ℕ). bitXor (r * b) (point offset basis m)) lowest half
+    ∙ ap (λ (s : ℕ). bitXor s (point offset basis j)) (one-mul b)
   where
     lowest : suc (j * 2) % 2 ≡ 1
     lowest = omega arith
@@ -69,8 +72,8 @@ pub first-taken : (b : ℕ) (basis : List ℕ) (place : ℕ) → b ≢ 0
 unfolding firstDependentAfter inSpan
 first-taken b basis place nz =
     ap (λ (t : Bool). cond t (At place) (firstDependentAfter (b ∷ []) basis (suc place))) (ne-eqb b 0 nz)
-    ∙ first-image (λ a. record {}) (λ a c pa pc. record {}) (cleared b) b (cleared-additive b nz) (cleared-kernel b nz) [] basis (suc place)
-    (record {}) (all-of (λ a. record {}) (λ a. record {}) basis)
+    ∙ first-image (λ a. record {}) (λ a c pa pc. record {}) (cleared b) b (cleared-additive b nz)
+    (cleared-kernel b nz) [] basis (suc place) (record {}) (all-of (λ a. record {}) (λ a. record {}) basis)
 
 pub first-zero : (b : ℕ) (basis : List ℕ) (place : ℕ) → b ≡ 0 → firstDependentAfter [] (b ∷ basis) place ≡ At place
 unfolding firstDependentAfter inSpan
@@ -107,7 +110,8 @@ pub point-halved : (f : ℕ → ℕ) → Additive f → (b : ℕ) → f b ≡ 0 
 unfolding point
 point-halved f additive b z offset basis j =
     additive (j % 2 * b) (point offset basis (j / 2))
-    ∙ ap₂ bitXor (bit-image f additive j b ∙ ap (λ (s : ℕ). j % 2 * s) z ∙ mul-zero (j % 2)) (point-image f additive offset basis (j / 2))
+    ∙ ap₂ bitXor (bit-image f additive j b ∙ ap (λ (s : ℕ). j % 2 * s) z ∙ mul-zero (j % 2))
+    (point-image f additive offset basis (j / 2))
 
 point-cleared : (b : ℕ) → b ≢ 0 → (offset : ℕ) (basis : List ℕ) (j : ℕ)
     → cleared b (point offset (b ∷ basis) j) ≡ point (cleared b offset) (map (cleared b) basis) (j / 2)
@@ -149,7 +153,8 @@ injective-of (suc k) offset (b ∷ basis) place i j l d hi hj e =
     in
     halves-eq i j halves (lowest-bit b offset basis i j nz halves e)
 
-pub point-injective : (offset : ℕ) (basis : List ℕ) (i j : ℕ) → Independent basis → i < 2 ^ length basis → j < 2 ^ length basis
+pub point-injective : (offset : ℕ) (basis : List ℕ) (i j : ℕ) → Independent basis → i < 2 ^ length basis
+    → j < 2 ^ length basis
     → point offset basis i ≡ point offset basis j → i ≡ j
 unfolding firstDependent
 point-injective offset basis i j d hi hj e = injective-of (length basis) offset basis 0 i j refl d hi hj e
@@ -168,18 +173,22 @@ getD-tabulated f start (suc count) zero h = ap f (sym (add-zero start))
 getD-tabulated f start (suc count) (suc j) h =
     getD-tabulated f (suc start) count j (omega arith) ∙ ap f (suc-add start j ∙ sym (add-suc start j))
 
-pub all-tabulated : (P : ℕ → Type 0) (f : ℕ → ℕ) (start count : ℕ) → ((j : ℕ) → start ≤ j → j < start + count → P (f j)) → All P (tabulated f start count)
+pub all-tabulated : (P : ℕ → Type 0) (f : ℕ → ℕ) (start count : ℕ) → ((j : ℕ) → start ≤ j → j < start + count → P (f j))
+    → All P (tabulated f start count)
 unfolding tabulated
 all-tabulated P f start zero h = record {}
-all-tabulated P f start (suc count) h =
-    (h start (omega arith) (omega arith), all-tabulated P f (suc start) count (λ j l u. h j (omega arith) (omega arith)))
+all-tabulated P f start (suc count) h = (
+  h start (omega arith) (omega arith),
+  all-tabulated P f (suc start) count (λ j l u. h j (omega arith) (omega arith)),
+)
 
 pub distinct-tabulated : (f : ℕ → ℕ) (start count : ℕ)
     → ((i j : ℕ) → i < start + count → j < start + count → f i ≡ f j → i ≡ j) → Distinct (tabulated f start count)
 unfolding tabulated
 distinct-tabulated f start zero h = record {}
 distinct-tabulated f start (suc count) h = (
-  all-tabulated (λ y. y ≢ f start) f (suc start) count (λ j l u e. later-differs j l (h j start (omega arith) (omega arith) e)),
+  all-tabulated (λ y. y ≢ f start) f (suc start) count
+      (λ j l u e. later-differs j l (h j start (omega arith) (omega arith) e)),
   distinct-tabulated f (suc start) count (λ i j hi hj e. h i j (omega arith) (omega arith) e),
 )
   where
@@ -187,14 +196,16 @@ distinct-tabulated f start (suc count) h = (
     later-differs j l e = omega arith
 
 -- tables of functions that agree
-pub tabulated-agree : (f g : ℕ → ℕ) (start count : ℕ) → ((j : ℕ) → start ≤ j → j < start + count → f j ≡ g j) → tabulated f start count ≡ tabulated g start count
+pub tabulated-agree : (f g : ℕ → ℕ) (start count : ℕ) → ((j : ℕ) → start ≤ j → j < start + count → f j ≡ g j)
+    → tabulated f start count ≡ tabulated g start count
 unfolding tabulated
 tabulated-agree f g start zero h = refl
 tabulated-agree f g start (suc count) h =
     ap₂ (λ (a : ℕ) (l : List ℕ). a ∷ l) (h start (omega arith) (omega arith))
     (tabulated-agree f g (suc start) count (λ j l u. h j (omega arith) (omega arith)))
 
-pub map-tabulated : (g f : ℕ → ℕ) (start count : ℕ) → map g (tabulated f start count) ≡ tabulated (λ j. g (f j)) start count
+pub map-tabulated : (g f : ℕ → ℕ) (start count : ℕ)
+    → map g (tabulated f start count) ≡ tabulated (λ j. g (f j)) start count
 unfolding tabulated
 map-tabulated g f start zero = refl
 map-tabulated g f start (suc count) = ap {B = List ℕ} (λ l. g (f start) ∷ l) (map-tabulated g f (suc start) count)
@@ -207,7 +218,9 @@ tabulated-part f from count whole h =
     (length-part ∙ sym (length-tabulated f from count)) entry
   where
     length-part : length (take count (drop from (tabulated f 0 whole))) ≡ count
-    length-part = length-take-le count (drop from (tabulated f 0 whole)) (omega (arith, length-drop from (tabulated f 0 whole), length-tabulated f 0 whole))
+    length-part =
+        length-take-le count (drop from (tabulated f 0 whole))
+        (omega (arith, length-drop from (tabulated f 0 whole), length-tabulated f 0 whole))
 
     entry : (i : ℕ) → i < length (take count (drop from (tabulated f 0 whole)))
         → getD (take count (drop from (tabulated f 0 whole))) i 0 ≡ getD (tabulated f from count) i 0
@@ -222,7 +235,8 @@ pub length-points : (offset : ℕ) (basis : List ℕ) → length (points offset 
 unfolding points
 length-points offset basis = length-tabulated (point offset basis) 0 (2 ^ length basis)
 
-pub getD-points : (offset : ℕ) (basis : List ℕ) (j : ℕ) → j < 2 ^ length basis → getD (points offset basis) j 0 ≡ point offset basis j
+pub getD-points : (offset : ℕ) (basis : List ℕ) (j : ℕ) → j < 2 ^ length basis
+    → getD (points offset basis) j 0 ≡ point offset basis j
 unfolding points
 getD-points offset basis j h =
     getD-tabulated (point offset basis) 0 (2 ^ length basis) j h ∙ ap (point offset basis) (zero-add j)
@@ -246,13 +260,16 @@ bit-element j b h =
     by-bit (λ (r : ℕ). r * b < 2 ^ 64) (subst (λ (s : ℕ). s < 2 ^ 64) (sym (zero-mul b)) (omega arith))
     (subst (λ (s : ℕ). s < 2 ^ 64) (sym (one-mul b)) h) j
 
-pub point-element : (offset : ℕ) (basis : List ℕ) (j : ℕ) → IsElement offset → All IsElement basis → IsElement (point offset basis j)
+pub point-element : (offset : ℕ) (basis : List ℕ) (j : ℕ) → IsElement offset → All IsElement basis
+    → IsElement (point offset basis j)
 unfolding point
 point-element offset [] j eo eb = eo
 point-element offset (b ∷ basis) j eo eb =
-    xor-lt 64 (j % 2 * b) (point offset basis (j / 2)) (bit-element j b (eb .0)) (point-element offset basis (j / 2) eo (eb .1))
+    xor-lt 64 (j % 2 * b) (point offset basis (j / 2)) (bit-element j b (eb .0))
+    (point-element offset basis (j / 2) eo (eb .1))
 
-pub points-elements : (offset : ℕ) (basis : List ℕ) → IsElement offset → All IsElement basis → All IsElement (points offset basis)
+pub points-elements : (offset : ℕ) (basis : List ℕ) → IsElement offset → All IsElement basis
+    → All IsElement (points offset basis)
 unfolding points
 points-elements offset basis eo eb =
     all-tabulated IsElement (point offset basis) 0 (2 ^ length basis) (λ j l u. point-element offset basis j eo eb)

@@ -1,5 +1,5 @@
--- Points in sequence: point j + 1 is point j plus the sum of the first t + 1 basis elements, where t counts the zeros at the end
--- of j + 1. Assumes nothing.
+-- Points in sequence: point j + 1 is point j plus the sum of the first t + 1 basis elements,
+-- where t counts the zeros at the end of j + 1. Assumes nothing.
 use mathlib.Core.Path.{_≡_, refl, sym, ap, ap₂, _∙_}
 use mathlib.Core.List.{List, [], _∷_}
 use Prim.Native.Nat.{ℕ, zero, suc, _+_, _*_, _/_, _%_, _^_, _<_, _≤_, min}
@@ -34,10 +34,12 @@ prefixSums-next s (b ∷ basis) zero h = refl
 prefixSums-next s (b ∷ basis) (suc t) h = prefixSums-next (bitXor s b) basis t (omega arith)
 
 -- the same among the first 20 elements of a list
-pub prefixSums-taken : (basis : List ℕ) (t s : ℕ) → t < min (length basis) 20 → s ≡ getD (0 ∷ prefixSums 0 (take 20 basis)) t 0
+pub prefixSums-taken : (basis : List ℕ) (t s : ℕ) → t < min (length basis) 20
+    → s ≡ getD (0 ∷ prefixSums 0 (take 20 basis)) t 0
     → bitXor s (getD basis t 0) ≡ getD (prefixSums 0 (take 20 basis)) t 0
 prefixSums-taken basis t s h e =
-    ap₂ bitXor e (sym (getD-take 20 basis t 0 (omega arith))) ∙ prefixSums-next 0 (take 20 basis) t (omega (arith, length-take 20 basis))
+    ap₂ bitXor e (sym (getD-take 20 basis t 0 (omega arith)))
+    ∙ prefixSums-next 0 (take 20 basis) t (omega (arith, length-take 20 basis))
 
 -- ---- from point to point
 
@@ -49,8 +51,10 @@ step-odd : (offset b : ℕ) (basis : List ℕ) (j : ℕ) → suc j % 2 ≡ 1 →
 unfolding point
 step-odd offset b basis j odd =
     ap₂ bitXor
-    (ap (λ (r : ℕ). bitXor (r * b) (point offset basis (j / 2))) even ∙ ap (λ (s : ℕ). bitXor s (point offset basis (j / 2))) (zero-mul b))
-    (ap₂ (λ (r m : ℕ). bitXor (r * b) (point offset basis m)) odd same ∙ ap (λ (s : ℕ). bitXor s (point offset basis (j / 2))) (one-mul b))
+    (ap (λ (r : ℕ). bitXor (r * b) (point offset basis (j / 2))) even
+    ∙ ap (λ (s : ℕ). bitXor s (point offset basis (j / 2))) (zero-mul b))
+    (ap₂ (λ (r m : ℕ). bitXor (r * b) (point offset basis m)) odd same
+    ∙ ap (λ (s : ℕ). bitXor s (point offset basis (j / 2))) (one-mul b))
     ∙ xor-left-comm (point offset basis (j / 2)) b (point offset basis (j / 2))
     ∙ ap (bitXor b) (xor-self (point offset basis (j / 2))) ∙ xor-zero-r b
   where
@@ -60,12 +64,15 @@ step-odd offset b basis j odd =
     same : suc j / 2 ≡ j / 2
     same = omega arith
 
-step-even : (offset b : ℕ) (basis : List ℕ) (j : ℕ) → suc j % 2 ≡ 0 → step offset (b ∷ basis) j ≡ bitXor b (step offset basis (j / 2))
+step-even : (offset b : ℕ) (basis : List ℕ) (j : ℕ) → suc j % 2 ≡ 0
+    → step offset (b ∷ basis) j ≡ bitXor b (step offset basis (j / 2))
 unfolding point
 step-even offset b basis j even =
     ap₂ bitXor
-    (ap (λ (r : ℕ). bitXor (r * b) (point offset basis (j / 2))) odd ∙ ap (λ (s : ℕ). bitXor s (point offset basis (j / 2))) (one-mul b))
-    (ap₂ (λ (r m : ℕ). bitXor (r * b) (point offset basis m)) even next ∙ ap (λ (s : ℕ). bitXor s (point offset basis (suc (j / 2)))) (zero-mul b))
+    (ap (λ (r : ℕ). bitXor (r * b) (point offset basis (j / 2))) odd
+    ∙ ap (λ (s : ℕ). bitXor s (point offset basis (j / 2))) (one-mul b))
+    (ap₂ (λ (r m : ℕ). bitXor (r * b) (point offset basis m)) even next
+    ∙ ap (λ (s : ℕ). bitXor s (point offset basis (suc (j / 2)))) (zero-mul b))
     ∙ xor-assoc b (point offset basis (j / 2)) (point offset basis (suc (j / 2)))
   where
     odd : j % 2 ≡ 1
@@ -79,13 +86,17 @@ sum-of-step : (w s offset : ℕ) (basis : List ℕ) (j : ℕ) → length basis �
 unfolding prefixSums trailingZeros
 sum-of-step w s offset [] j l h = absurd (omega arith)
 sum-of-step zero s offset (b ∷ basis) j l h = absurd (omega arith)
-sum-of-step (suc w) s offset (b ∷ basis) j l h = by-parity (suc j % 2) refl (omega arith) (sum-of-step w (bitXor s b) offset basis (j / 2) (omega arith))
+sum-of-step (suc w) s offset (b ∷ basis) j l h =
+    by-parity (suc j % 2) refl (omega arith) (sum-of-step w (bitXor s b) offset basis (j / 2) (omega arith))
   where
     by-parity : (r : ℕ) → suc j % 2 ≡ r → r < 2
-        → (suc (j / 2) < 2 ^ length basis → getD (prefixSums (bitXor s b) basis) (trailingZeros w (suc (j / 2))) 0 ≡ bitXor (bitXor s b) (step offset basis (j / 2)))
-        → getD (bitXor s b ∷ prefixSums (bitXor s b) basis) (under (suc j % 2) (trailingZeros w (suc j / 2))) 0 ≡ bitXor s (step offset (b ∷ basis) j)
+        → (suc (j / 2) < 2 ^ length basis → getD (prefixSums (bitXor s b) basis) (trailingZeros w (suc (j / 2))) 0
+        ≡ bitXor (bitXor s b) (step offset basis (j / 2)))
+        → getD (bitXor s b ∷ prefixSums (bitXor s b) basis) (under (suc j % 2) (trailingZeros w (suc j / 2))) 0
+        ≡ bitXor s (step offset (b ∷ basis) j)
     by-parity zero e r ih =
-        ap₂ (λ (d n : ℕ). getD (bitXor s b ∷ prefixSums (bitXor s b) basis) (under d (trailingZeros w n)) 0) e (halved e)
+        ap₂ (λ (d n : ℕ). getD (bitXor s b ∷ prefixSums (bitXor s b) basis) (under d (trailingZeros w n)) 0) e
+        (halved e)
         ∙ ih (omega (arith, pow-suc 2 (length basis))) ∙ xor-assoc s b (step offset basis (j / 2))
         ∙ ap (bitXor s) (sym (step-even offset b basis j e))
       where
@@ -97,15 +108,20 @@ sum-of-step (suc w) s offset (b ∷ basis) j l h = by-parity (suc j % 2) refl (o
 
 -- one sum takes point j to point j + 1
 pub point-next : (offset : ℕ) (basis : List ℕ) (j : ℕ) → length basis ≤ 64 → suc j < 2 ^ length basis
-    → bitXor (point offset basis j) (getD (prefixSums 0 basis) (trailingZeros 64 (suc j)) 0) ≡ point offset basis (suc j)
+    → bitXor (point offset basis j) (getD (prefixSums 0 basis) (trailingZeros 64 (suc j)) 0)
+    ≡ point offset basis (suc j)
 point-next offset basis j l h =
-    ap (bitXor (point offset basis j)) (sum-of-step 64 0 offset basis j l h) ∙ xor-cancel (point offset basis j) (point offset basis (suc j))
+    ap (bitXor (point offset basis j)) (sum-of-step 64 0 offset basis j l h)
+    ∙ xor-cancel (point offset basis j) (point offset basis (suc j))
 
 -- from point j to point j + 1 by the sums that `prefix_sums` gives
-pub point-stepped : (offset : ℕ) (basis : List ℕ) (j x : ℕ) → length basis ≤ 20 → x ≡ point offset basis j → j + 1 < 2 ^ length basis
-    → sum x (getD (padded gf64 20 (prefixSums 0 (take 20 basis))) (trailingZeros 64 (j + 1)) 0) ≡ point offset basis (j + 1)
+pub point-stepped : (offset : ℕ) (basis : List ℕ) (j x : ℕ) → length basis ≤ 20 → x ≡ point offset basis j
+    → j + 1 < 2 ^ length basis
+    → sum x (getD (padded gf64 20 (prefixSums 0 (take 20 basis))) (trailingZeros 64 (j + 1)) 0)
+    ≡ point offset basis (j + 1)
 point-stepped offset basis j x k e h =
     ap₂ sum e
     (getD-padded 20 (prefixSums 0 (take 20 basis)) (trailingZeros 64 (j + 1))
-    ∙ ap₂ (λ (l : List ℕ) (n : ℕ). getD (prefixSums 0 l) (trailingZeros 64 n) 0) (take-all 20 basis (omega arith)) (add-one j))
+    ∙ ap₂ (λ (l : List ℕ) (n : ℕ). getD (prefixSums 0 l) (trailingZeros 64 n) 0)
+    (take-all 20 basis (omega arith)) (add-one j))
     ∙ point-next offset basis j (omega arith) (omega arith) ∙ ap (point offset basis) (sym (add-one j))

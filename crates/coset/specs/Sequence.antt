@@ -3,7 +3,7 @@ use mathlib.Core.List.{List, [], _∷_}
 use Prim.Native.Nat.{ℕ}
 use Rattle.gf64.specs.Field.{sum}
 
--- s plus the sums of the first one, two, .. elements of the basis
-unfoldable pub prefixSums : ℕ → List ℕ → List ℕ
-prefixSums s [] = []
-prefixSums s (b ∷ basis) = sum s b ∷ prefixSums (sum s b) basis
+-- the initial value plus the sums of the first one, two, .. elements of the basis
+unfoldable pub prefixSums : (initial : ℕ) (basis : List ℕ) → List ℕ
+prefixSums initial [] = []
+prefixSums initial (b ∷ basis) = sum initial b ∷ prefixSums (sum initial b) basis

@@ -15,6 +15,7 @@ use Rattle.coset.specs.Span.{inSpan, firstDependent, Independent}
 use Rattle.coset.specs.Subspace.{subspacePolynomial, lowerCoefficients, image, nextOffset, nextBasis}
 use Rattle.coset.specs.Steps.{composedMaps, stepElements}
 
+-- the points of a coset
 pub record Cosets : Type 0 where
   -- the span is the coset with offset 0
   pub span : (elements : List ℕ) (a : ℕ)
@@ -23,7 +24,8 @@ pub record Cosets : Type 0 where
   pub shifted : (offset : ℕ) (basis : List ℕ) (j : ℕ) → point offset basis j ≡ sum offset (point 0 basis j)
   -- there are exactly 2^k points, in point order, and over an independent basis no two are equal
   pub count : (offset : ℕ) (basis : List ℕ) → length (points offset basis) ≡ 2 ^ length basis
-  pub in-order : (offset : ℕ) (basis : List ℕ) (j : ℕ) → j < 2 ^ length basis → getD (points offset basis) j 0 ≡ point offset basis j
+  pub in-order : (offset : ℕ) (basis : List ℕ) (j : ℕ) → j < 2 ^ length basis
+      → getD (points offset basis) j 0 ≡ point offset basis j
   pub distinct : (offset : ℕ) (basis : List ℕ) → Independent basis → Distinct (points offset basis)
   -- from point j to point j + 1 by one of the prefix sums of the basis
   pub next : (offset : ℕ) (basis : List ℕ) (j : ℕ) → length basis ≤ 64 → suc j < 2 ^ length basis
@@ -31,11 +33,15 @@ pub record Cosets : Type 0 where
 
 -- `firstDependent` finds the first element that lies in the span of the earlier ones
 pub record FirstDependent : Type 0 where
+  -- it lies there
   pub found : (basis : List ℕ) (i : ℕ) → firstDependent basis ≡ At i
       → (i < length basis) × (inSpan (take i basis) (getD basis i 0) ≡ true)
-  pub first : (basis : List ℕ) (i t : ℕ) → firstDependent basis ≡ At i → t < i → inSpan (take t basis) (getD basis t 0) ≡ false
+  -- and none before it does
+  pub first : (basis : List ℕ) (i t : ℕ) → firstDependent basis ≡ At i → t < i
+      → inSpan (take t basis) (getD basis t 0) ≡ false
   -- an independent basis has none
-  pub none : (basis : List ℕ) (t : ℕ) → Independent basis → t < length basis → inSpan (take t basis) (getD basis t 0) ≡ false
+  pub none : (basis : List ℕ) (t : ℕ) → Independent basis → t < length basis
+      → inSpan (take t basis) (getD basis t 0) ≡ false
   -- and at most 64 elements
   pub short : (basis : List ℕ) → All IsElement basis → Independent basis → length basis ≤ 64
 
@@ -43,8 +49,11 @@ pub record FirstDependent : Type 0 where
 pub record Subspaces : Type 0 where
   -- it is monic, of degree 2^step
   pub monic : (step : ℕ) (basis : List ℕ) → step ≤ length basis
-      → (length (subspacePolynomial step basis) ≡ 2 ^ step + 1) × (getD (subspacePolynomial step basis) (2 ^ step) 0 ≡ 1)
-  pub lower : (step : ℕ) (basis : List ℕ) → step ≤ length basis → subspacePolynomial step basis ≡ lowerCoefficients step basis ++ (1 ∷ [])
+      → (length (subspacePolynomial step basis) ≡ 2 ^ step + 1)
+      × (getD (subspacePolynomial step basis) (2 ^ step) 0 ≡ 1)
+  -- `lowerCoefficients` are those below the leading one
+  pub lower : (step : ℕ) (basis : List ℕ) → step ≤ length basis
+      → subspacePolynomial step basis ≡ lowerCoefficients step basis ++ (1 ∷ [])
   -- additive
   pub additive : (step : ℕ) (basis : List ℕ) (a b : ℕ) → IsElement a → IsElement b
       → image step basis (sum a b) ≡ sum (image step basis a) (image step basis b)
@@ -52,19 +61,25 @@ pub record Subspaces : Type 0 where
   pub zero : (step : ℕ) (basis : List ℕ) (x : ℕ) → All IsElement basis → IsElement x
       → (image step basis x ≡ 0) ↔ (inSpan (take step basis) x ≡ true)
   -- the composition of the maps X · (X - e)
-  pub composition : (step : ℕ) (basis : List ℕ) (x : ℕ) → IsElement x → image step basis x ≡ composedMaps (stepElements step basis) x
+  pub composition : (step : ℕ) (basis : List ℕ) (x : ℕ) → IsElement x
+      → image step basis x ≡ composedMaps (stepElements step basis) x
   -- whose elements are not zero where the basis is independent: these a fold inverts
-  pub elements : (step : ℕ) (basis : List ℕ) → All IsElement basis → Independent basis → All (λ e. e ≢ 0) (stepElements step basis)
+  pub elements : (step : ℕ) (basis : List ℕ) → All IsElement basis → Independent basis
+      → All (λ e. e ≢ 0) (stepElements step basis)
 
 -- the next coset
 pub record NextCosets : Type 0 where
+  -- its dimension is less by the step
   pub count : (step : ℕ) (basis : List ℕ) → length (nextBasis step basis) ≡ length basis - step
   -- its basis is independent where the basis is
-  pub independent : (step : ℕ) (basis : List ℕ) → All IsElement basis → Independent basis → Independent (nextBasis step basis)
+  pub independent : (step : ℕ) (basis : List ℕ) → All IsElement basis → Independent basis
+      → Independent (nextBasis step basis)
   -- its point j is the image of the old points from j · 2^step on, 2^step of them
   pub points : (step offset : ℕ) (basis : List ℕ) (j i : ℕ) → IsElement offset → All IsElement basis → i < 2 ^ step
-      → image step basis (point offset basis (j * 2 ^ step + i)) ≡ point (nextOffset step offset basis) (nextBasis step basis) j
+      → image step basis (point offset basis (j * 2 ^ step + i))
+      ≡ point (nextOffset step offset basis) (nextBasis step basis) j
   -- and of no other
   pub only : (step offset : ℕ) (basis : List ℕ) (i j : ℕ) → IsElement offset → All IsElement basis → Independent basis
       → step ≤ length basis → i < 2 ^ length basis → j < 2 ^ (length basis - step)
-      → image step basis (point offset basis i) ≡ point (nextOffset step offset basis) (nextBasis step basis) j → i / 2 ^ step ≡ j
+      → image step basis (point offset basis i) ≡ point (nextOffset step offset basis) (nextBasis step basis) j
+      → i / 2 ^ step ≡ j
