@@ -42,6 +42,7 @@ code-cases =
       e-back-done = accepted-back;
       e-back =
           ap (interpolated 0 (1 ∷ 2 ∷ [])) (sym encodes)
-          ∙ round-trips .coefficients 0 (1 ∷ 2 ∷ []) (7 ∷ 3 ∷ []) (omega arith) (omega arith, (omega arith, record {})) (omega arith, (omega arith, record {})) independent (omega arith)
+          ∙ round-trips .coefficients 0 (1 ∷ 2 ∷ []) (7 ∷ 3 ∷ []) (omega arith) (omega arith, (omega arith, record {}))
+          (omega arith, (omega arith, record {})) independent (omega arith)
           ∙ filled-in;
     }

@@ -36,10 +36,12 @@ module _ (basis : List ℕ) (fits3 fits6 : Bool) where
   list3-passed : length basis ≤ 12 → fits3 ≡ true → after3 ≡ checked basis fits3 fits6
   list3-passed h e = passed-by fits3 (WrongLength 3) after3 e ∙ dimension-passed h
 
-  pub list6-refused : length basis ≤ 12 → fits3 ≡ true → fits6 ≡ false → Refused (WrongLength 6) ≡ checked basis fits3 fits6
+  pub list6-refused : length basis ≤ 12 → fits3 ≡ true → fits6 ≡ false
+      → Refused (WrongLength 6) ≡ checked basis fits3 fits6
   list6-refused h e f = refused-by fits6 (WrongLength 6) (outcomeOfBasis (firstDependent basis)) f ∙ list3-passed h e
 
-  pub basis-looked-at : length basis ≤ 12 → fits3 ≡ true → fits6 ≡ true → outcomeOfBasis (firstDependent basis) ≡ checked basis fits3 fits6
+  pub basis-looked-at : length basis ≤ 12 → fits3 ≡ true → fits6 ≡ true
+      → outcomeOfBasis (firstDependent basis) ≡ checked basis fits3 fits6
   basis-looked-at h e f = passed-by fits6 (WrongLength 6) (outcomeOfBasis (firstDependent basis)) f ∙ list3-passed h e
 
 -- where all have passed
@@ -62,13 +64,16 @@ passed basis fits3 fits6 e =
     }
 
 -- the code's size is 2^k, or 0 where k is refused anyway: so the tests of the lengths may take it
-pub answered-by-size : (basis : List ℕ) (fits3 fits6 : ℕ → Bool) (size : ℕ) (answer : Outcome) → size ≡ cond (leb (length basis) 12) (2 ^ length basis) 0
-    → answer ≡ checked basis (fits3 size) (fits6 size) → checked basis (fits3 (2 ^ length basis)) (fits6 (2 ^ length basis)) ≡ answer
+pub answered-by-size : (basis : List ℕ) (fits3 fits6 : ℕ → Bool) (size : ℕ) (answer : Outcome)
+    → size ≡ cond (leb (length basis) 12) (2 ^ length basis) 0
+    → answer ≡ checked basis (fits3 size) (fits6 size)
+    → checked basis (fits3 (2 ^ length basis)) (fits6 (2 ^ length basis)) ≡ answer
 answered-by-size basis fits3 fits6 size answer e a =
     sym (a ∙ ap (λ (n : ℕ). checked basis (fits3 n) (fits6 n)) e ∙ by (leb (length basis) 12))
   where
     by : (k : Bool)
-        → refusedUnless k DimensionOutOfRange (lists basis (fits3 (cond k (2 ^ length basis) 0)) (fits6 (cond k (2 ^ length basis) 0)))
+        → refusedUnless k DimensionOutOfRange
+        (lists basis (fits3 (cond k (2 ^ length basis) 0)) (fits6 (cond k (2 ^ length basis) 0)))
         ≡ refusedUnless k DimensionOutOfRange (lists basis (fits3 (2 ^ length basis)) (fits6 (2 ^ length basis)))
     by true = refl
     by false = refl

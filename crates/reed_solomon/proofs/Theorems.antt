@@ -21,7 +21,8 @@ use Rattle.refusal.specs.declared.Cause.the-variants.{DimensionOutOfRange, Basi
 use Rattle.refusal.specs.declared.Outcome.{Outcome}
 use Rattle.refusal.specs.declared.Outcome.the-variants.{Done, Refused}
 use Rattle.refusal.specs.Numbers.{numberOfOutcome, placeOfOutcome}
-use Rattle.reed_solomon.proofs.Checks.{dimension-refused, list3-refused, list6-refused, basis-looked-at, passed, passes}
+use Rattle.reed_solomon.proofs.Checks.{dimension-refused, list3-refused}
+use Rattle.reed_solomon.proofs.Checks.{list6-refused, basis-looked-at, passed, passes}
 use Rattle.refusal.proofs.Checks.{equal-of-test, le-of-test}
 use lib.Dec.{leb, eqb}
 use borrow.Author.Tests.{le-leb, eq-eqb}
@@ -30,21 +31,21 @@ use Rattle.poly.proofs.Interpolation.{values-padded}
 use Rattle.poly.proofs.Entries.{all-replicate}
 use lib.Seq.{drop-append-seam}
 
-coefficients-back : (offset : ℕ) (basis coefficients : List ℕ) → IsElement offset → All IsElement basis → All IsElement coefficients
-    → Independent basis → length coefficients ≤ 2 ^ length basis
+coefficients-back : (offset : ℕ) (basis coefficients : List ℕ) → IsElement offset → All IsElement basis
+    → All IsElement coefficients → Independent basis → length coefficients ≤ 2 ^ length basis
     → interpolated offset basis (encoded offset basis coefficients) ≡ padded gf64 (2 ^ length basis) coefficients
 unfolding encoded interpolated
 coefficients-back offset basis coefficients eo eb ec d h =
-    at-field .interpolation .recovers coefficients (points offset basis) ec (points-elements offset basis eo eb) (points-distinct offset basis d)
-    (omega (arith, length-points offset basis))
+    at-field .interpolation .recovers coefficients (points offset basis) ec (points-elements offset basis eo eb)
+    (points-distinct offset basis d) (omega (arith, length-points offset basis))
     ∙ ap (λ (n : ℕ). padded gf64 n coefficients) (length-points offset basis)
 
 word-back : (offset : ℕ) (basis word : List ℕ) → IsElement offset → All IsElement basis → All IsElement word
     → Independent basis → length word ≡ 2 ^ length basis → encoded offset basis (interpolated offset basis word) ≡ word
 unfolding encoded interpolated
 word-back offset basis word eo eb ew d h =
-    at-field .interpolation .agrees (points offset basis) word (points-elements offset basis eo eb) ew (points-distinct offset basis d)
-    (length-points offset basis ∙ sym h)
+    at-field .interpolation .agrees (points offset basis) word (points-elements offset basis eo eb) ew
+    (points-distinct offset basis d) (length-points offset basis ∙ sym h)
 
 left-off : (offset : ℕ) (basis coefficients : List ℕ)
     → encoded offset basis (padded gf64 (2 ^ length basis) coefficients) ≡ encoded offset basis coefficients
@@ -52,8 +53,8 @@ unfolding encoded
 left-off offset basis coefficients =
     values-padded gf64 IsElement gf64-laws (2 ^ length basis) coefficients (points offset basis)
 
-degree : (offset : ℕ) (basis coefficients : List ℕ) → IsElement offset → All IsElement basis → All IsElement coefficients
-    → Independent basis → length coefficients ≤ 2 ^ length basis
+degree : (offset : ℕ) (basis coefficients : List ℕ) → IsElement offset → All IsElement basis
+    → All IsElement coefficients → Independent basis → length coefficients ≤ 2 ^ length basis
     → WordDegreeBelow (length coefficients) offset basis (encoded offset basis coefficients)
 unfolding padded
 degree offset basis coefficients eo eb ec d h =
@@ -66,16 +67,19 @@ degree offset basis coefficients eo eb ec d h =
 pub encoding : Encoding
 encoding = record { count = length-encoded; values = encoded-getD; left-off = left-off; degree = degree }
 
-interpolated-count : (offset : ℕ) (basis word : List ℕ) → length word ≡ 2 ^ length basis → length (interpolated offset basis word) ≡ 2 ^ length basis
+interpolated-count : (offset : ℕ) (basis word : List ℕ) → length word ≡ 2 ^ length basis
+    → length (interpolated offset basis word) ≡ 2 ^ length basis
 unfolding interpolated
 interpolated-count offset basis word h =
-    at-field .interpolation .count (points offset basis) word (length-points offset basis ∙ sym h) ∙ length-points offset basis
+    at-field .interpolation .count (points offset basis) word (length-points offset basis ∙ sym h)
+    ∙ length-points offset basis
 
 pub round-trips : RoundTrips
 round-trips = record { coefficients = coefficients-back; count = interpolated-count; word = word-back }
 
 -- the checks pass exactly where k is at most 12, what the two tests stand for holds, and the basis is independent
-accepted-by : (basis : List ℕ) (fits3 fits6 : Bool) (P Q : Type 0) → (fits3 ≡ true → P) → (P → fits3 ≡ true) → (fits6 ≡ true → Q) → (Q → fits6 ≡ true)
+accepted-by : (basis : List ℕ) (fits3 fits6 : Bool) (P Q : Type 0) → (fits3 ≡ true → P) → (P → fits3 ≡ true)
+    → (fits6 ≡ true → Q) → (Q → fits6 ≡ true)
     → (checked basis fits3 fits6 ≡ Done) ↔ ((length basis ≤ 12) × P × Q × Independent basis)
 accepted-by basis fits3 fits6 P Q p p′ q q′ = (
   λ e. let all = passed basis fits3 fits6 e in (all .small, p (all .list3), q (all .list6), all .independent),
@@ -110,5 +114,6 @@ refusals =
       list3 = λ basis a b h e. told (checked basis a b) (Refused (WrongLength 3)) (list3-refused basis a b h e);
       list6 = λ basis a b h e f. told (checked basis a b) (Refused (WrongLength 6)) (list6-refused basis a b h e f);
       dependent =
-          λ basis a b place h e f d. told (checked basis a b) (Refused (BasisDependent place)) (ap outcomeOfBasis (sym d) ∙ basis-looked-at basis a b h e f);
+          λ basis a b place h e f d. told (checked basis a b) (Refused (BasisDependent place))
+          (ap outcomeOfBasis (sym d) ∙ basis-looked-at basis a b h e f);
     }

@@ -11,9 +11,11 @@ use Rattle.coset.specs.Coset.{point, points}
 use Rattle.coset.proofs.Points.{length-points, getD-points}
 use Rattle.reed_solomon.specs.Codes.{encoded}
 
-pub length-encoded : (offset : ℕ) (basis coefficients : List ℕ) → length (encoded offset basis coefficients) ≡ 2 ^ length basis
+pub length-encoded : (offset : ℕ) (basis coefficients : List ℕ)
+    → length (encoded offset basis coefficients) ≡ 2 ^ length basis
 unfolding encoded
-length-encoded offset basis coefficients = length-map (points offset basis) (evaluate gf64 coefficients) ∙ length-points offset basis
+length-encoded offset basis coefficients =
+    length-map (points offset basis) (evaluate gf64 coefficients) ∙ length-points offset basis
 
 pub encoded-getD : (offset : ℕ) (basis coefficients : List ℕ) (j : ℕ) → j < 2 ^ length basis
     → getD (encoded offset basis coefficients) j 0 ≡ evaluate gf64 coefficients (point offset basis j)

@@ -1,4 +1,5 @@
--- What encoding and interpolation answer, and what the lent list holds afterwards. The dimension k is the length of the basis.
+-- What encoding and interpolation answer, and what the lent list holds afterwards.
+-- The dimension k is the length of the basis.
 use mathlib.Core.Bool.{Bool}
 use mathlib.Core.List.{List}
 use Prim.Native.Nat.{ℕ, _^_}
@@ -11,30 +12,31 @@ use Rattle.coset.specs.Span.{firstDependent}
 use Rattle.coset.specs.Answers.{outcomeOfBasis}
 use Rattle.reed_solomon.specs.Codes.{encoded, interpolated}
 
--- in the order of document 01: k over 12 (number 4); the lowest list that does not fit, 3 or 6 (13); a dependent basis (8)
-abbrev pub checked : List ℕ → Bool → Bool → Outcome
+-- the checks in the order of document 01: k over 12 (number 4); the lowest list that does not fit,
+-- 3 or 6 (13); a dependent basis (8)
+abbrev pub checked : (basis : List ℕ) (fits3 fits6 : Bool) → Outcome
 checked basis fits3 fits6 =
     refusedUnless (leb (length basis) 12) DimensionOutOfRange
     (refusedUnless fits3 (WrongLength 3)
     (refusedUnless fits6 (WrongLength 6)
     (outcomeOfBasis (firstDependent basis))))
 
--- at most 2^k coefficients, exactly 2^k values
-abbrev pub encodeOutcome : List ℕ → List ℕ → List ℕ → Outcome
+-- what encoding answers: at most 2^k coefficients, exactly 2^k values
+abbrev pub encodeOutcome : (basis coefficients values : List ℕ) → Outcome
 encodeOutcome basis coefficients values =
     checked basis (leb (length coefficients) (2 ^ length basis)) (eqb (length values) (2 ^ length basis))
 
--- exactly 2^k entries of the word, exactly 2^k coefficients
-abbrev pub interpolateOutcome : List ℕ → List ℕ → List ℕ → Outcome
+-- what interpolation answers: exactly 2^k entries of the word, exactly 2^k coefficients
+abbrev pub interpolateOutcome : (basis word coefficients : List ℕ) → Outcome
 interpolateOutcome basis word coefficients =
     checked basis (eqb (length word) (2 ^ length basis)) (eqb (length coefficients) (2 ^ length basis))
 
 -- what the list of values holds after encoding
-abbrev pub valuesAfter : ℕ → List ℕ → List ℕ → List ℕ → List ℕ
+abbrev pub valuesAfter : (offset : ℕ) (basis coefficients values : List ℕ) → List ℕ
 valuesAfter offset basis coefficients values =
     afterwards (encodeOutcome basis coefficients values) (encoded offset basis coefficients) values
 
 -- what the list of coefficients holds after interpolation
-abbrev pub coefficientsAfter : ℕ → List ℕ → List ℕ → List ℕ → List ℕ
+abbrev pub coefficientsAfter : (offset : ℕ) (basis word coefficients : List ℕ) → List ℕ
 coefficientsAfter offset basis word coefficients =
     afterwards (interpolateOutcome basis word coefficients) (interpolated offset basis word) coefficients

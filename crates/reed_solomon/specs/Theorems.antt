@@ -1,4 +1,5 @@
--- What is proved of encoding and interpolation, as statements: proofs/Theorems.antt and Cases.antt have a value of each.
+-- What is proved of encoding and interpolation, as statements: proofs/Theorems.antt and
+-- Cases.antt have a value of each.
 use mathlib.Core.Path.{_≡_}
 use mathlib.Core.Logic.{_↔_}
 use mathlib.Core.Bool.{Bool, true, false}
@@ -21,11 +22,12 @@ use Rattle.reed_solomon.specs.Codes.{encoded, interpolated, WordDegreeBe
 -- encoding and interpolation invert one another, for every offset and every independent basis, of whatever dimension
 pub record RoundTrips : Type 0 where
   -- the coefficients come back, zeros filled in
-  pub coefficients : (offset : ℕ) (basis coefficients : List ℕ) → IsElement offset → All IsElement basis → All IsElement coefficients
-      → Independent basis → length coefficients ≤ 2 ^ length basis
+  pub coefficients : (offset : ℕ) (basis coefficients : List ℕ) → IsElement offset → All IsElement basis
+      → All IsElement coefficients → Independent basis → length coefficients ≤ 2 ^ length basis
       → interpolated offset basis (encoded offset basis coefficients) ≡ padded gf64 (2 ^ length basis) coefficients
   -- interpolation gives 2^k coefficients
-  pub count : (offset : ℕ) (basis word : List ℕ) → length word ≡ 2 ^ length basis → length (interpolated offset basis word) ≡ 2 ^ length basis
+  pub count : (offset : ℕ) (basis word : List ℕ) → length word ≡ 2 ^ length basis
+      → length (interpolated offset basis word) ≡ 2 ^ length basis
   -- the word comes back
   pub word : (offset : ℕ) (basis word : List ℕ) → IsElement offset → All IsElement basis → All IsElement word
       → Independent basis → length word ≡ 2 ^ length basis
@@ -35,19 +37,22 @@ pub record RoundTrips : Type 0 where
 pub record CodesAccepted : Type 0 where
   pub encode : (basis coefficients values : List ℕ)
       → (encodeOutcome basis coefficients values ≡ Done)
-      ↔ ((length basis ≤ 12) × (length coefficients ≤ 2 ^ length basis) × (length values ≡ 2 ^ length basis) × Independent basis)
+      ↔ ((length basis ≤ 12) × (length coefficients ≤ 2 ^ length basis) × (length values ≡ 2 ^ length basis)
+      × Independent basis)
   pub interpolate : (basis word coefficients : List ℕ)
       → (interpolateOutcome basis word coefficients ≡ Done)
-      ↔ ((length basis ≤ 12) × (length word ≡ 2 ^ length basis) × (length coefficients ≡ 2 ^ length basis) × Independent basis)
+      ↔ ((length basis ≤ 12) × (length word ≡ 2 ^ length basis) × (length coefficients ≡ 2 ^ length basis)
+      × Independent basis)
 
 -- an outcome's number and place
-abbrev pub Told : Outcome → ℕ → Position → Type 0
+abbrev pub Told : (outcome : Outcome) (number : ℕ) (place : Position) → Type 0
 Told outcome number place = (numberOfOutcome outcome ≡ number) × (placeOfOutcome outcome ≡ place)
 
 -- the numbers and places of the refusals, by the first check that fails
 pub record CodeRefusals : Type 0 where
   pub dimension : (basis : List ℕ) (fits3 fits6 : Bool) → 12 < length basis → Told (checked basis fits3 fits6) 4 Absent
-  pub list3 : (basis : List ℕ) (fits3 fits6 : Bool) → length basis ≤ 12 → fits3 ≡ false → Told (checked basis fits3 fits6) 13 (At 3)
+  pub list3 : (basis : List ℕ) (fits3 fits6 : Bool) → length basis ≤ 12 → fits3 ≡ false
+      → Told (checked basis fits3 fits6) 13 (At 3)
   pub list6 : (basis : List ℕ) (fits3 fits6 : Bool) → length basis ≤ 12 → fits3 ≡ true → fits6 ≡ false
       → Told (checked basis fits3 fits6) 13 (At 6)
   pub dependent : (basis : List ℕ) (fits3 fits6 : Bool) (place : ℕ) → length basis ≤ 12 → fits3 ≡ true → fits6 ≡ true
@@ -63,8 +68,8 @@ pub record Encoding : Type 0 where
   pub left-off : (offset : ℕ) (basis coefficients : List ℕ)
       → encoded offset basis (padded gf64 (2 ^ length basis) coefficients) ≡ encoded offset basis coefficients
   -- n coefficients give a word of degree below n
-  pub degree : (offset : ℕ) (basis coefficients : List ℕ) → IsElement offset → All IsElement basis → All IsElement coefficients
-      → Independent basis → length coefficients ≤ 2 ^ length basis
+  pub degree : (offset : ℕ) (basis coefficients : List ℕ) → IsElement offset → All IsElement basis
+      → All IsElement coefficients → Independent basis → length coefficients ≤ 2 ^ length basis
       → WordDegreeBelow (length coefficients) offset basis (encoded offset basis coefficients)
 
 -- case E of Table A
