@@ -1,4 +1,5 @@
--- The values of the cosets one after the other are the fold, and so is one of them where a caller reads it. Assumes nothing.
+-- The values of the cosets one after the other are the fold, and so is one of them where a caller
+-- reads it. Assumes nothing.
 use mathlib.Core.Path.{_≡_, sym, ap, ap₂, _∙_}
 use mathlib.Core.List.{List, map}
 use Prim.Native.Nat.{ℕ, _*_, _-_, _^_, _<_, _≤_}
@@ -24,7 +25,8 @@ use Rattle.fold.proofs.Lines.{entry-by-halving}
 pub length-span : (step : ℕ) (basis : List ℕ) → step ≤ length basis → length (points 0 (take step basis)) ≡ 2 ^ step
 length-span step basis h = length-points 0 (take step basis) ∙ ap (λ (n : ℕ). 2 ^ n) (length-take-le step basis h)
 
-module _ (step offset : ℕ) (basis word : List ℕ) (x : ℕ) (w : IsWord offset basis word) (hx : IsElement x) (fits : step ≤ length basis) where
+module _ (step offset : ℕ) (basis word : List ℕ) (x : ℕ) (w : IsWord offset basis word) (hx : IsElement x)
+    (fits : step ≤ length basis) where
   abbrev inverses : List ℕ
   inverses = map inverse (stepElements step basis)
 
@@ -33,7 +35,8 @@ module _ (step offset : ℕ) (basis word : List ℕ) (x : ℕ) (w : IsWord offse
 
   -- a coset's moved points are its first point, moved by the challenge, plus the span
   pub entry-of-moved : (j : ℕ) → j < 2 ^ (length basis - step)
-      → valueAt (map inverse (stepElements step basis)) (map (sum (sum x (point offset (drop step basis) j))) (points 0 (take step basis))) (cosetEntries step word j)
+      → valueAt (map inverse (stepElements step basis))
+      (map (sum (sum x (point offset (drop step basis) j))) (points 0 (take step basis))) (cosetEntries step word j)
       ≡ foldEntry step offset basis word x j
   entry-of-moved j h =
       ap (λ (l : List ℕ). valueAt inverses l (cosetEntries step word j))
@@ -54,7 +57,8 @@ module _ (step offset : ℕ) (basis word : List ℕ) (x : ℕ) (w : IsWord offse
   values-are-fold : cosetValues inverses span (sum offset x) (drop step basis) word ≡ folded step offset basis word x
   unfolding cosetValues folded
   values-are-fold =
-      ap (λ (n : ℕ). tabulated (cosetValue inverses span (sum offset x) (drop step basis) word) 0 (2 ^ n)) (length-drop step basis)
+      ap (λ (n : ℕ). tabulated (cosetValue inverses span (sum offset x) (drop step basis) word) 0 (2 ^ n))
+      (length-drop step basis)
       ∙ tabulated-agree (cosetValue inverses span (sum offset x) (drop step basis) word)
       (foldEntry step offset basis word x) 0 (2 ^ (length basis - step)) (λ j l u. value-is-entry j (omega arith))
 
@@ -75,14 +79,16 @@ upperOf elements basis = take (length basis - length elements) (drop (length ele
 
 module _ {elements basis inverses span : List ℕ} {size : ℕ} (r : Ready elements basis inverses span size) where
   inverses-taken : take (length elements) inverses ≡ map inverse elements
-  inverses-taken = padded-taken 3 (length elements) (map inverse elements) inverses (r .inverted) (length-map elements inverse)
+  inverses-taken =
+      padded-taken 3 (length elements) (map inverse elements) inverses (r .inverted) (length-map elements inverse)
 
   pub length-inverses-taken : length (take (length elements) inverses) ≡ length elements
   length-inverses-taken = ap length inverses-taken ∙ length-map elements inverse
 
   span-taken : take size span ≡ points 0 (take (length elements) basis)
   span-taken =
-      padded-taken 8 size (points 0 (take (length elements) basis)) span (r .spanned) (length-span (length elements) basis (r .fits) ∙ sym (r .sized))
+      padded-taken 8 size (points 0 (take (length elements) basis)) span (r .spanned)
+      (length-span (length elements) basis (r .fits) ∙ sym (r .sized))
 
   pub length-span-taken : length (take size span) ≡ 2 ^ length elements
   length-span-taken = ap length span-taken ∙ length-span (length elements) basis (r .fits)
@@ -105,8 +111,11 @@ module _ {elements basis inverses span : List ℕ} {size : ℕ} (r : Ready eleme
       ap₂ (λ (m n : ℕ). 2 ^ m * n) length-upper length-span-taken ∙ cosets-of (length elements) (length basis) (r .fits)
 
   pub all-cosets : (offset : ℕ) (word : List ℕ) (x : ℕ) → IsWord offset basis word → IsElement x
-      → cosetValues (take (length elements) inverses) (take size span) (sum offset x) (upperOf elements basis) word ≡ folded (length elements) offset basis word x
+      → cosetValues (take (length elements) inverses) (take size span) (sum offset x) (upperOf elements basis) word
+      ≡ folded (length elements) offset basis word x
   all-cosets offset word x w hx =
-      ap (λ (is : List ℕ). cosetValues is (take size span) (sum offset x) (upperOf elements basis) word) (inverses-taken ∙ ap (map inverse) (r .elements-are))
-      ∙ ap₂ (λ (sp others : List ℕ). cosetValues (map inverse (stepElements (length elements) basis)) sp (sum offset x) others word) span-taken (mid-suffix (length elements) basis)
+      ap (λ (is : List ℕ). cosetValues is (take size span) (sum offset x) (upperOf elements basis) word)
+      (inverses-taken ∙ ap (map inverse) (r .elements-are))
+      ∙ ap₂ (λ (sp others : List ℕ). cosetValues (map inverse (stepElements (length elements) basis)) sp
+      (sum offset x) others word) span-taken (mid-suffix (length elements) basis)
       ∙ values-are-fold (length elements) offset basis word x w hx (r .fits)

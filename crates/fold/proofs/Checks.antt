@@ -5,19 +5,22 @@ use mathlib.Core.List.{List}
 use Prim.Native.Nat.{ℕ, _-_, _^_, _≤_}
 use lib.Dec.{leb, eqb}
 use lib.ListN.{length}
-use Rattle.refusal.specs.declared.Cause.the-variants.{DimensionOutOfRange, StepOutOfRange, DimensionTooSmall, WrongLength}
+use Rattle.refusal.specs.declared.Cause.the-variants.{DimensionOutOfRange, StepOutOfRange}
+use Rattle.refusal.specs.declared.Cause.the-variants.{DimensionTooSmall, WrongLength}
 use Rattle.refusal.specs.declared.Outcome.{Outcome}
 use Rattle.refusal.specs.declared.Outcome.the-variants.{Done, Refused}
 use Rattle.refusal.specs.declared.Cause.{Cause}
 use Rattle.refusal.specs.Checks.{refusedUnless, andThen, afterwards}
-use Rattle.refusal.proofs.Checks.{equal-of-test, le-of-test, passed-by, refused-by, unless-done, then-done, within-of, done-holds, refused-holds}
+use Rattle.refusal.proofs.Checks.{equal-of-test, le-of-test, passed-by, refused-by}
+use Rattle.refusal.proofs.Checks.{unless-done, then-done, within-of, done-holds, refused-holds}
 use Rattle.field.specs.declared.Element.{Element}
 use Rattle.coset.specs.Answers.{outcomeOfBasis}
 use Rattle.coset.specs.Span.{firstDependent, Independent}
 use Rattle.coset.proofs.Independence.{independent-of}
 use Rattle.coset.specs.Subspace.{nextBasis}
 use Rattle.fold.specs.declared.Folded.the-variants as answers
-use Rattle.fold.specs.Answers.{foldRangesOutcome, foldLengthsOutcome, outcomeOfNextBasis, foldBasesOutcome, foldOutcome, foldedOf}
+use Rattle.fold.specs.Answers.{foldRangesOutcome, foldLengthsOutcome, outcomeOfNextBasis}
+use Rattle.fold.specs.Answers.{foldBasesOutcome, foldOutcome, foldedOf}
 
 -- ---- ranges
 
@@ -31,7 +34,8 @@ module _ (k step : ℕ) where
   pub dimension-refused : (leb 2 k && leb k 20) ≡ false → Refused DimensionOutOfRange ≡ foldRangesOutcome k step
   dimension-refused e = refused-by (leb 2 k && leb k 20) DimensionOutOfRange stepChecked e
 
-  pub step-refused : (leb 2 k && leb k 20) ≡ true → (leb 1 step && leb step 3) ≡ false → Refused StepOutOfRange ≡ foldRangesOutcome k step
+  pub step-refused : (leb 2 k && leb k 20) ≡ true → (leb 1 step && leb step 3) ≡ false
+      → Refused StepOutOfRange ≡ foldRangesOutcome k step
   step-refused e f =
       refused-by (leb 1 step && leb step 3) StepOutOfRange smallEnough f
       ∙ passed-by (leb 2 k && leb k 20) DimensionOutOfRange stepChecked e
@@ -43,7 +47,8 @@ module _ (k step : ℕ) where
       ∙ passed-by (leb 1 step && leb step 3) StepOutOfRange smallEnough f
       ∙ passed-by (leb 2 k && leb k 20) DimensionOutOfRange stepChecked e
 
-  pub ranges-pass : (leb 2 k && leb k 20) ≡ true → (leb 1 step && leb step 3) ≡ true → leb step k ≡ true → Done ≡ foldRangesOutcome k step
+  pub ranges-pass : (leb 2 k && leb k 20) ≡ true → (leb 1 step && leb step 3) ≡ true → leb step k ≡ true
+      → Done ≡ foldRangesOutcome k step
   ranges-pass e f g =
       passed-by (leb step k) DimensionTooSmall Done g
       ∙ passed-by (leb 1 step && leb step 3) StepOutOfRange smallEnough f
@@ -83,16 +88,19 @@ module _ (k step length1 length3 length6 length7 : ℕ) where
   abbrev pub after1 : Outcome
   after1 = refusedUnless (eqb length3 (2 ^ k)) (WrongLength 3) after3
 
-  pub list1-refused : eqb length1 k ≡ false → Refused (WrongLength 1) ≡ foldLengthsOutcome k step length1 length3 length6 length7
+  pub list1-refused : eqb length1 k ≡ false
+      → Refused (WrongLength 1) ≡ foldLengthsOutcome k step length1 length3 length6 length7
   list1-refused e = refused-by (eqb length1 k) (WrongLength 1) after1 e
 
   list1-passed : eqb length1 k ≡ true → after1 ≡ foldLengthsOutcome k step length1 length3 length6 length7
   list1-passed e = passed-by (eqb length1 k) (WrongLength 1) after1 e
 
-  pub list3-refused : eqb length1 k ≡ true → eqb length3 (2 ^ k) ≡ false → Refused (WrongLength 3) ≡ foldLengthsOutcome k step length1 length3 length6 length7
+  pub list3-refused : eqb length1 k ≡ true → eqb length3 (2 ^ k) ≡ false
+      → Refused (WrongLength 3) ≡ foldLengthsOutcome k step length1 length3 length6 length7
   list3-refused e f = refused-by (eqb length3 (2 ^ k)) (WrongLength 3) after3 f ∙ list1-passed e
 
-  list3-passed : eqb length1 k ≡ true → eqb length3 (2 ^ k) ≡ true → after3 ≡ foldLengthsOutcome k step length1 length3 length6 length7
+  list3-passed : eqb length1 k ≡ true → eqb length3 (2 ^ k) ≡ true
+      → after3 ≡ foldLengthsOutcome k step length1 length3 length6 length7
   list3-passed e f = passed-by (eqb length3 (2 ^ k)) (WrongLength 3) after3 f ∙ list1-passed e
 
   pub list6-refused : eqb length1 k ≡ true → eqb length3 (2 ^ k) ≡ true → eqb length6 (2 ^ (k - step)) ≡ false
@@ -103,12 +111,13 @@ module _ (k step length1 length3 length6 length7 : ℕ) where
       → after6 ≡ foldLengthsOutcome k step length1 length3 length6 length7
   list6-passed e f g = passed-by (eqb length6 (2 ^ (k - step))) (WrongLength 6) after6 g ∙ list3-passed e f
 
-  pub list7-refused : eqb length1 k ≡ true → eqb length3 (2 ^ k) ≡ true → eqb length6 (2 ^ (k - step)) ≡ true → eqb length7 (k - step) ≡ false
+  pub list7-refused : eqb length1 k ≡ true → eqb length3 (2 ^ k) ≡ true → eqb length6 (2 ^ (k - step)) ≡ true
+      → eqb length7 (k - step) ≡ false
       → Refused (WrongLength 7) ≡ foldLengthsOutcome k step length1 length3 length6 length7
   list7-refused e f g h = refused-by (eqb length7 (k - step)) (WrongLength 7) Done h ∙ list6-passed e f g
 
-  pub lengths-pass : eqb length1 k ≡ true → eqb length3 (2 ^ k) ≡ true → eqb length6 (2 ^ (k - step)) ≡ true → eqb length7 (k - step) ≡ true
-      → Done ≡ foldLengthsOutcome k step length1 length3 length6 length7
+  pub lengths-pass : eqb length1 k ≡ true → eqb length3 (2 ^ k) ≡ true → eqb length6 (2 ^ (k - step)) ≡ true
+      → eqb length7 (k - step) ≡ true → Done ≡ foldLengthsOutcome k step length1 length3 length6 length7
   lengths-pass e f g h = passed-by (eqb length7 (k - step)) (WrongLength 7) Done h ∙ list6-passed e f g
 
 pub record Fitting (k step length1 length3 length6 length7 : ℕ) : Type 0 where
@@ -117,11 +126,14 @@ pub record Fitting (k step length1 length3 length6 length7 : ℕ) : Type 0 where
   pub list6-fits : length6 ≡ 2 ^ (k - step)
   pub list7-fits : length7 ≡ k - step
 
-pub fitting : (k step length1 length3 length6 length7 : ℕ) → foldLengthsOutcome k step length1 length3 length6 length7 ≡ Done → Fitting k step length1 length3 length6 length7
+pub fitting : (k step length1 length3 length6 length7 : ℕ)
+    → foldLengthsOutcome k step length1 length3 length6 length7 ≡ Done → Fitting k step length1 length3 length6 length7
 fitting k step length1 length3 length6 length7 e =
     let first = unless-done (eqb length1 k) (WrongLength 1) (after1 k step length1 length3 length6 length7) e in
-    let second = unless-done (eqb length3 (2 ^ k)) (WrongLength 3) (after3 k step length1 length3 length6 length7) (first .1) in
-    let third = unless-done (eqb length6 (2 ^ (k - step))) (WrongLength 6) (after6 k step length1 length3 length6 length7) (second .1) in
+    let second = unless-done (eqb length3 (2 ^ k)) (WrongLength 3)
+    (after3 k step length1 length3 length6 length7) (first .1) in
+    let third = unless-done (eqb length6 (2 ^ (k - step))) (WrongLength 6)
+    (after6 k step length1 length3 length6 length7) (second .1) in
     let fourth = unless-done (eqb length7 (k - step)) (WrongLength 7) Done (third .1) in
     record {
       list1-fits = equal-of-test length1 k (first .0);
@@ -137,12 +149,14 @@ pub record Passed (k step : ℕ) (basis word values next : List ℕ) : Type 0 wh
   pub lengths : Fitting k step (length basis) (length word) (length values) (length next)
   pub independent : Independent basis
 
-pub passed : (k step : ℕ) (basis word values next : List ℕ) → foldOutcome k step basis word values next ≡ Done → Passed k step basis word values next
+pub passed : (k step : ℕ) (basis word values next : List ℕ) → foldOutcome k step basis word values next ≡ Done
+    → Passed k step basis word values next
 passed k step basis word values next e =
     let lengths = foldLengthsOutcome k step (length basis) (length word) (length values) (length next) in
     let first = then-done (foldRangesOutcome k step) (andThen lengths (foldBasesOutcome step basis)) e in
     let second = then-done lengths (foldBasesOutcome step basis) (first .1) in
-    let third = then-done (outcomeOfBasis (firstDependent basis)) (outcomeOfNextBasis (firstDependent (nextBasis step basis))) (second .1) in
+    let third = then-done (outcomeOfBasis (firstDependent basis))
+    (outcomeOfNextBasis (firstDependent (nextBasis step basis))) (second .1) in
     record {
       ranges = in-range k step (first .0);
       lengths = fitting k step (length basis) (length word) (length values) (length next) (second .0);
@@ -154,7 +168,8 @@ passed k step basis word values next e =
 -- what holds where all checks pass, as the code asks for it
 pub passed-facts : (k step : ℕ) (basis word values next : List ℕ) → Passed k step basis word values next
     → (1 ≤ step) × (step ≤ 3) × (step ≤ length basis) × (length basis ≤ 20) × Independent basis
-    × (length word ≡ 2 ^ length basis) × (length values ≡ 2 ^ (length basis - step)) × (length next ≡ length basis - step)
+    × (length word ≡ 2 ^ length basis) × (length values ≡ 2 ^ (length basis - step))
+    × (length next ≡ length basis - step)
 passed-facts k step basis word values next p =
     let same : k ≡ length basis = sym (p .lengths .list1-fits) in (
       p .ranges .step-at-least-1,
@@ -167,16 +182,19 @@ passed-facts k step basis word values next p =
       subst (λ (n : ℕ). length next ≡ n - step) same (p .lengths .list7-fits),
     )
 
-pub done-all : (outcome : Outcome) (offset : Element) (wanted : ℕ) (values values′ wanted6 next next′ wanted7 : List ℕ) → outcome ≡ Done
-    → offset .0 ≡ wanted → values′ ≡ wanted6 → next′ ≡ wanted7
-    → (answers.NextOffset offset ≡ foldedOf outcome wanted) × ((values′ ≡ afterwards outcome wanted6 values) × (next′ ≡ afterwards outcome wanted7 next))
+pub done-all : (outcome : Outcome) (offset : Element) (wanted : ℕ) (values values′ wanted6 next next′ wanted7 : List ℕ)
+    → outcome ≡ Done → offset .0 ≡ wanted → values′ ≡ wanted6 → next′ ≡ wanted7
+    → (answers.NextOffset offset ≡ foldedOf outcome wanted)
+    × ((values′ ≡ afterwards outcome wanted6 values) × (next′ ≡ afterwards outcome wanted7 next))
 done-all outcome offset wanted values values′ wanted6 next next′ wanted7 e o v n = (
   ap (λ (x : ℕ). answers.NextOffset (record { 0 = x })) o ∙ sym (ap (λ (t : Outcome). foldedOf t wanted) e),
   (done-holds outcome wanted6 values values′ e v, done-holds outcome wanted7 next next′ e n),
 )
 
-pub refused-all : (outcome : Outcome) (cause : Cause) (wanted : ℕ) (values wanted6 next wanted7 : List ℕ) → outcome ≡ Refused cause
-    → (answers.Refused cause ≡ foldedOf outcome wanted) × ((values ≡ afterwards outcome wanted6 values) × (next ≡ afterwards outcome wanted7 next))
+pub refused-all : (outcome : Outcome) (cause : Cause) (wanted : ℕ) (values wanted6 next wanted7 : List ℕ)
+    → outcome ≡ Refused cause
+    → (answers.Refused cause ≡ foldedOf outcome wanted)
+    × ((values ≡ afterwards outcome wanted6 values) × (next ≡ afterwards outcome wanted7 next))
 refused-all outcome cause wanted values wanted6 next wanted7 e = (
   sym (ap (λ (t : Outcome). foldedOf t wanted) e),
   (refused-holds outcome cause wanted6 values e, refused-holds outcome cause wanted7 next e),

@@ -11,7 +11,8 @@ use borrow.Author.Tests.{le-leb, lt-leb, eq-eqb, ne-eqb}
 use Rattle.gf64.specs.Field.{IsElement}
 use Rattle.poly.specs.Polynomial.{All}
 use Rattle.refusal.specs.declared.Cause.{Cause}
-use Rattle.refusal.specs.declared.Cause.the-variants.{DimensionOutOfRange, StepOutOfRange, DimensionTooSmall, WrongLength, BasisDependent}
+use Rattle.refusal.specs.declared.Cause.the-variants.{DimensionOutOfRange, StepOutOfRange}
+use Rattle.refusal.specs.declared.Cause.the-variants.{DimensionTooSmall, WrongLength, BasisDependent}
 use Rattle.refusal.specs.declared.Outcome.{Outcome}
 use Rattle.refusal.specs.declared.Outcome.the-variants.{Done, Refused}
 use Rattle.refusal.specs.declared.Position.{Position}
@@ -23,7 +24,9 @@ use Rattle.coset.specs.Span.{firstDependent, Independent}
 use Rattle.coset.specs.Answers.{outcomeOfBasis}
 use Rattle.coset.specs.Subspace.{nextOffset, nextBasis}
 use Rattle.coset.proofs.Subspace.{next-independent}
-use Rattle.fold.specs.Answers.{foldRangesOutcome, foldLengthsOutcome, outcomeOfNextBasis, foldBasesOutcome, foldOutcome, foldedOf, foldAnswer, foldValuesAfter, nextBasisAfter, numberOfFolded, placeOfFolded, roundOfFolded, valueOfFolded}
+use Rattle.fold.specs.Answers.{foldRangesOutcome, foldLengthsOutcome, outcomeOfNextBasis, foldBasesOutcome}
+use Rattle.fold.specs.Answers.{foldOutcome, foldedOf, foldAnswer, foldValuesAfter, nextBasisAfter}
+use Rattle.fold.specs.Answers.{numberOfFolded, placeOfFolded, roundOfFolded, valueOfFolded}
 use Rattle.fold.specs.declared.Folded.{Folded}
 use Rattle.fold.specs.declared.Folded.the-variants.{NextOffset}
 use Rattle.fold.specs.Fold.{folded}
@@ -54,20 +57,24 @@ module _ (k step : ℕ) (basis word values next : List ℕ) where
     ranges-passed = sym (checks.ranges-pass k step (in-range-k k step r) (in-range-step k step r) (le-leb step k fits))
 
     lengths-refuse : (cause : Cause) → Refused cause ≡ lengths → Refused cause ≡ outcome
-    lengths-refuse cause e = then-refused lengths bases cause (sym e) ∙ then-passed (foldRangesOutcome k step) (andThen lengths bases) ranges-passed
+    lengths-refuse cause e =
+        then-refused lengths bases cause (sym e)
+        ∙ then-passed (foldRangesOutcome k step) (andThen lengths bases) ranges-passed
 
     bases-decide : FoldFits k step basis word values next → bases ≡ outcome
     bases-decide f =
         then-passed lengths bases
         (sym
-        (checks.lengths-pass k step (length basis) (length word) (length values) (length next) (eq-eqb (length basis) k (f .0)) (eq-eqb (length word) (2 ^ k) (f .1))
+        (checks.lengths-pass k step (length basis) (length word) (length values) (length next)
+        (eq-eqb (length basis) k (f .0)) (eq-eqb (length word) (2 ^ k) (f .1))
         (eq-eqb (length values) (2 ^ (k - step)) (f .2)) (eq-eqb (length next) (k - step) (f .3))))
         ∙ then-passed (foldRangesOutcome k step) (andThen lengths bases) ranges-passed
 
 -- an independent basis passes, and number 16 does not come
 bases-pass : (step : ℕ) (basis : List ℕ) → All IsElement basis → Independent basis → foldBasesOutcome step basis ≡ Done
 bases-pass step basis h d =
-    sym (then-passed (outcomeOfBasis (firstDependent basis)) (outcomeOfNextBasis (firstDependent (nextBasis step basis))) (ap outcomeOfBasis d))
+    sym (then-passed (outcomeOfBasis (firstDependent basis))
+    (outcomeOfNextBasis (firstDependent (nextBasis step basis))) (ap outcomeOfBasis d))
     ∙ ap outcomeOfNextBasis (next-independent step basis h d)
 
 accepts : (k step : ℕ) (basis word values next : List ℕ) → All IsElement basis
@@ -77,13 +84,18 @@ accepts k step basis word values next h = (
   λ e.
       let p = checks.passed k step basis word values next e in
       let r = p .ranges in
-      let l = p .lengths in
-      ((r .at-least-2, r .at-most-20, r .step-at-least-1, r .step-at-most-3), r .step-fits, (l .list1-fits, l .list3-fits, l .list6-fits, l .list7-fits), p .independent),
+      let l = p .lengths in (
+        (r .at-least-2, r .at-most-20, r .step-at-least-1, r .step-at-most-3),
+        r .step-fits,
+        (l .list1-fits, l .list3-fits, l .list6-fits, l .list7-fits),
+        p .independent,
+      ),
   λ a. sym (bases-decide k step basis word values next (a .0) (a .1) (a .2)) ∙ bases-pass step basis h (a .3),
 )
 
 -- a refusal carries its cause's number, place and round and no value, and leaves both lists
-refuses : (k step : ℕ) (basis word values next : List ℕ) (cause : Cause) → Refused cause ≡ foldOutcome k step basis word values next
+refuses : (k step : ℕ) (basis word values next : List ℕ) (cause : Cause)
+    → Refused cause ≡ foldOutcome k step basis word values next
     → Refuses k step basis word values next (numberOf cause) (placeOf cause) (roundOf cause)
 refuses k step basis word values next cause e offset x =
     subst
@@ -94,7 +106,8 @@ refuses k step basis word values next cause e offset x =
     × (afterwards o (nextBasis step basis) next ≡ next))
     e ((refl, refl, refl), (λ none. refl), refl, refl)
 
-answers-done : (k step offset : ℕ) (basis word : List ℕ) (x : ℕ) (values next : List ℕ) → foldOutcome k step basis word values next ≡ Done
+answers-done : (k step offset : ℕ) (basis word : List ℕ) (x : ℕ) (values next : List ℕ)
+    → foldOutcome k step basis word values next ≡ Done
     → (foldAnswer k step offset basis word values next ≡ NextOffset (record { 0 = nextOffset step offset basis }))
     × FoldTells (foldAnswer k step offset basis word values next) 0 Absent Absent
     × ((none : ℕ) → valueOfFolded (foldAnswer k step offset basis word values next) none ≡ nextOffset step offset basis)
@@ -108,12 +121,15 @@ answers-done k step offset basis word x values next e = (
   ap (λ (o : Outcome). afterwards o (nextBasis step basis) next) e,
 )
   where
-    is-offset : foldAnswer k step offset basis word values next ≡ NextOffset (record { 0 = nextOffset step offset basis })
+    is-offset : foldAnswer k step offset basis word values next
+        ≡ NextOffset (record { 0 = nextOffset step offset basis })
     is-offset = ap (λ (o : Outcome). foldedOf o (nextOffset step offset basis)) e
 
-dependent-refused : (step : ℕ) (basis : List ℕ) (place : ℕ) → firstDependent basis ≡ At place → Refused (BasisDependent place) ≡ foldBasesOutcome step basis
+dependent-refused : (step : ℕ) (basis : List ℕ) (place : ℕ) → firstDependent basis ≡ At place
+    → Refused (BasisDependent place) ≡ foldBasesOutcome step basis
 dependent-refused step basis place e =
-    then-refused (outcomeOfBasis (firstDependent basis)) (outcomeOfNextBasis (firstDependent (nextBasis step basis))) (BasisDependent place) (ap outcomeOfBasis e)
+    then-refused (outcomeOfBasis (firstDependent basis)) (outcomeOfNextBasis (firstDependent (nextBasis step basis)))
+    (BasisDependent place) (ap outcomeOfBasis e)
 
 -- ---- no call is refused with number 16
 
@@ -125,12 +141,15 @@ other-bases : (step : ℕ) (basis : List ℕ) → All IsElement basis → Other 
 other-bases step basis h = by (firstDependent basis) refl
   where
     by : (p : Position) → firstDependent basis ≡ p → numberOfOutcome (foldBasesOutcome step basis) < 16
-    by (At place) e = subst (λ (o : Outcome). numberOfOutcome o < 16) (dependent-refused step basis place e) (omega arith)
+    by (At place) e =
+        subst (λ (o : Outcome). numberOfOutcome o < 16) (dependent-refused step basis place e) (omega arith)
     by Absent e = subst (λ (o : Outcome). numberOfOutcome o < 16) (sym (bases-pass step basis h e)) (omega arith)
 
-other-all : (k step : ℕ) (basis word values next : List ℕ) → All IsElement basis → Other (foldOutcome k step basis word values next)
+other-all : (k step : ℕ) (basis word values next : List ℕ) → All IsElement basis
+    → Other (foldOutcome k step basis word values next)
 other-all k step basis word values next h =
-    number-then (λ n. n < 16) (foldRangesOutcome k step) (andThen lengths (foldBasesOutcome step basis)) ranges-other (number-then (λ n. n < 16) lengths (foldBasesOutcome step basis) lengths-other (other-bases step basis h))
+    number-then (λ n. n < 16) (foldRangesOutcome k step) (andThen lengths (foldBasesOutcome step basis)) ranges-other
+    (number-then (λ n. n < 16) lengths (foldBasesOutcome step basis) lengths-other (other-bases step basis h))
   where
     lengths : Outcome
     lengths = foldLengthsOutcome k step (length basis) (length word) (length values) (length next)
@@ -165,7 +184,8 @@ never : (k step offset : ℕ) (basis word values next : List ℕ) → All IsElem
     → numberOfFolded (foldAnswer k step offset basis word values next) ≢ 16
 never k step offset basis word values next h e =
     not-below
-    (subst (λ (n : ℕ). n < 16) (sym (same-number (foldOutcome k step basis word values next) (nextOffset step offset basis)) ∙ e)
+    (subst (λ (n : ℕ). n < 16)
+    (sym (same-number (foldOutcome k step basis word values next) (nextOffset step offset basis)) ∙ e)
     (other-all k step basis word values next h))
   where
     not-below : 16 < 16 → ⊥
@@ -179,7 +199,8 @@ refusals =
     record {
       dimension = λ k step basis word values next o.
           refuses k step basis word values next DimensionOutOfRange
-          (ranges-refuse k step basis word values next DimensionOutOfRange (checks.dimension-refused k step (outside 2 20 k o)));
+          (ranges-refuse k step basis word values next DimensionOutOfRange
+          (checks.dimension-refused k step (outside 2 20 k o)));
       step = λ k step basis word values next l u o.
           refuses k step basis word values next StepOutOfRange
           (ranges-refuse k step basis word values next StepOutOfRange
@@ -191,20 +212,23 @@ refusals =
       list1 = λ k step basis word values next r s n.
           refuses k step basis word values next (WrongLength 1)
           (lengths-refuse k step basis word values next r s (WrongLength 1)
-          (checks.list1-refused k step (length basis) (length word) (length values) (length next) (ne-eqb (length basis) k n)));
+          (checks.list1-refused k step (length basis) (length word) (length values) (length next)
+          (ne-eqb (length basis) k n)));
       list3 = λ k step basis word values next r s a n.
           refuses k step basis word values next (WrongLength 3)
           (lengths-refuse k step basis word values next r s (WrongLength 3)
-          (checks.list3-refused k step (length basis) (length word) (length values) (length next) (eq-eqb (length basis) k a) (ne-eqb (length word) (2 ^ k) n)));
+          (checks.list3-refused k step (length basis) (length word) (length values) (length next)
+          (eq-eqb (length basis) k a) (ne-eqb (length word) (2 ^ k) n)));
       list6 = λ k step basis word values next r s a b n.
           refuses k step basis word values next (WrongLength 6)
           (lengths-refuse k step basis word values next r s (WrongLength 6)
-          (checks.list6-refused k step (length basis) (length word) (length values) (length next) (eq-eqb (length basis) k a) (eq-eqb (length word) (2 ^ k) b)
-          (ne-eqb (length values) (2 ^ (k - step)) n)));
+          (checks.list6-refused k step (length basis) (length word) (length values) (length next)
+          (eq-eqb (length basis) k a) (eq-eqb (length word) (2 ^ k) b) (ne-eqb (length values) (2 ^ (k - step)) n)));
       list7 = λ k step basis word values next r s a b v n.
           refuses k step basis word values next (WrongLength 7)
           (lengths-refuse k step basis word values next r s (WrongLength 7)
-          (checks.list7-refused k step (length basis) (length word) (length values) (length next) (eq-eqb (length basis) k a) (eq-eqb (length word) (2 ^ k) b)
+          (checks.list7-refused k step (length basis) (length word) (length values) (length next)
+          (eq-eqb (length basis) k a) (eq-eqb (length word) (2 ^ k) b)
           (eq-eqb (length values) (2 ^ (k - step)) v) (ne-eqb (length next) (k - step) n)));
       dependent = λ k step basis word values next place r s f e.
           refuses k step basis word values next (BasisDependent place)

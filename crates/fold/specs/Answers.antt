@@ -4,7 +4,8 @@ use mathlib.Core.List.{List}
 use Prim.Native.Nat.{ℕ, _-_, _^_}
 use lib.Dec.{leb, eqb}
 use lib.ListN.{length}
-use Rattle.refusal.specs.declared.Cause.the-variants.{DimensionOutOfRange, StepOutOfRange, DimensionTooSmall, WrongLength}
+use Rattle.refusal.specs.declared.Cause.the-variants.{DimensionOutOfRange, StepOutOfRange}
+use Rattle.refusal.specs.declared.Cause.the-variants.{DimensionTooSmall, WrongLength}
 use Rattle.refusal.specs.declared.Outcome.{Outcome}
 use Rattle.refusal.specs.declared.Outcome.the-variants.{Done, Refused}
 use Rattle.refusal.specs.declared.Position.{Position}
@@ -19,15 +20,16 @@ use Rattle.fold.specs.declared.Folded.the-variants as answers
 use Rattle.fold.specs.Fold.{folded}
 
 -- the ranges: k 2..20 (number 4), the step 1..3 (6), k at least the step (7)
-abbrev pub foldRangesOutcome : ℕ → ℕ → Outcome
+abbrev pub foldRangesOutcome : (k step : ℕ) → Outcome
 foldRangesOutcome k step =
     refusedUnless (leb 2 k && leb k 20) DimensionOutOfRange
     (refusedUnless (leb 1 step && leb step 3) StepOutOfRange
     (refusedUnless (leb step k) DimensionTooSmall
     Done))
 
--- the lengths of lists 1, 3, 6 and 7, which are basis, word, values and next basis: the lowest list whose length is not the one due (13)
-abbrev pub foldLengthsOutcome : ℕ → ℕ → ℕ → ℕ → ℕ → ℕ → Outcome
+-- the lengths of lists 1, 3, 6 and 7, which are basis, word, values and next basis: the lowest list whose
+-- length is not the one due (13)
+abbrev pub foldLengthsOutcome : (k step length1 length3 length6 length7 : ℕ) → Outcome
 foldLengthsOutcome k step length1 length3 length6 length7 =
     refusedUnless (eqb length1 k) (WrongLength 1)
     (refusedUnless (eqb length3 (2 ^ k)) (WrongLength 3)
@@ -36,55 +38,57 @@ foldLengthsOutcome k step length1 length3 length6 length7 =
     Done)))
 
 -- a dependent next basis is refused (16), with the round whose fold gives it: a lone fold is round 0
-abbrev pub outcomeOfNextBasis : Position → Outcome
-outcomeOfNextBasis next = outcomeOfLaterBasis 0 next
+abbrev pub outcomeOfNextBasis : (dependent : Position) → Outcome
+outcomeOfNextBasis dependent = outcomeOfLaterBasis 0 dependent
 
 -- the basis (8), then the next one
-abbrev pub foldBasesOutcome : ℕ → List ℕ → Outcome
+abbrev pub foldBasesOutcome : (step : ℕ) (basis : List ℕ) → Outcome
 foldBasesOutcome step basis =
     andThen (outcomeOfBasis (firstDependent basis)) (outcomeOfNextBasis (firstDependent (nextBasis step basis)))
 
 -- all checks, in the order of document 01: 4, 6, 7, 13, 8, 16
-abbrev pub foldOutcome : ℕ → ℕ → List ℕ → List ℕ → List ℕ → List ℕ → Outcome
+abbrev pub foldOutcome : (k step : ℕ) (basis word values next : List ℕ) → Outcome
 foldOutcome k step basis word values next =
     andThen (foldRangesOutcome k step)
     (andThen (foldLengthsOutcome k step (length basis) (length word) (length values) (length next))
     (foldBasesOutcome step basis))
 
 -- the next offset, or the refusal
-abbrev pub foldedOf : Outcome → ℕ → Folded
+abbrev pub foldedOf : (outcome : Outcome) (offset : ℕ) → Folded
 foldedOf Done offset = answers.NextOffset (record { 0 = offset })
 foldedOf (Refused cause) offset = answers.Refused cause
 
 -- the answer of a call
-abbrev pub foldAnswer : ℕ → ℕ → ℕ → List ℕ → List ℕ → List ℕ → List ℕ → Folded
-foldAnswer k step offset basis word values next = foldedOf (foldOutcome k step basis word values next) (nextOffset step offset basis)
+abbrev pub foldAnswer : (k step offset : ℕ) (basis word values next : List ℕ) → Folded
+foldAnswer k step offset basis word values next =
+    foldedOf (foldOutcome k step basis word values next) (nextOffset step offset basis)
 
--- what list 6 holds afterwards
-abbrev pub foldValuesAfter : ℕ → ℕ → ℕ → List ℕ → List ℕ → ℕ → List ℕ → List ℕ → List ℕ
-foldValuesAfter k step offset basis word x values next =
-    afterwards (foldOutcome k step basis word values next) (folded step offset basis word x) values
+-- what list 6, the values, holds afterwards
+abbrev pub foldValuesAfter : (k step offset : ℕ) (basis word : List ℕ) (challenge : ℕ) (values next : List ℕ) → List ℕ
+foldValuesAfter k step offset basis word challenge values next =
+    afterwards (foldOutcome k step basis word values next) (folded step offset basis word challenge) values
 
--- what list 7 holds afterwards
-abbrev pub nextBasisAfter : ℕ → ℕ → List ℕ → List ℕ → List ℕ → List ℕ → List ℕ
+-- what list 7, the next basis, holds afterwards
+abbrev pub nextBasisAfter : (k step : ℕ) (basis word values next : List ℕ) → List ℕ
 nextBasisAfter k step basis word values next =
     afterwards (foldOutcome k step basis word values next) (nextBasis step basis) next
 
 -- the number of an answer: 0 where there is a next offset, else that of the cause
-abbrev pub numberOfFolded : Folded → ℕ
+abbrev pub numberOfFolded : (answer : Folded) → ℕ
 numberOfFolded (answers.NextOffset offset) = 0
 numberOfFolded (answers.Refused cause) = numberOf cause
 
--- its place and its round: those of the cause
-abbrev pub placeOfFolded : Folded → Position
+-- the place of an answer: that of the cause
+abbrev pub placeOfFolded : (answer : Folded) → Position
 placeOfFolded (answers.NextOffset offset) = Absent
 placeOfFolded (answers.Refused cause) = placeOf cause
 
-abbrev pub roundOfFolded : Folded → Position
+-- the round of an answer: that of the cause
+abbrev pub roundOfFolded : (answer : Folded) → Position
 roundOfFolded (answers.NextOffset offset) = Absent
 roundOfFolded (answers.Refused cause) = roundOf cause
 
--- its value: the next offset, where there is one
-abbrev pub valueOfFolded : Folded → ℕ → ℕ
+-- the value of an answer: the next offset, or `none` where there is none
+abbrev pub valueOfFolded : (answer : Folded) (none : ℕ) → ℕ
 valueOfFolded (answers.NextOffset offset) none = offset .0
 valueOfFolded (answers.Refused cause) none = none

@@ -7,19 +7,21 @@ use Rattle.poly.specs.Polynomial.{evaluate, interpolant}
 use Rattle.coset.specs.Coset.{point, tabulated}
 
 -- the points of the coset of the fold with index j: the old points from j · 2^step on, 2^step of them
-unfoldable pub cosetPoints : ℕ → ℕ → List ℕ → ℕ → List ℕ
+unfoldable pub cosetPoints : (step offset : ℕ) (basis : List ℕ) (j : ℕ) → List ℕ
 cosetPoints step offset basis j = tabulated (point offset basis) (j * 2 ^ step) (2 ^ step)
 
--- the word's entries there
-unfoldable pub cosetEntries : ℕ → List ℕ → ℕ → List ℕ
+-- the word's entries at the points of coset j
+unfoldable pub cosetEntries : (step : ℕ) (word : List ℕ) (j : ℕ) → List ℕ
 cosetEntries step word j = take (2 ^ step) (drop (j * 2 ^ step) word)
 
--- entry j of the fold at x: the value at x of the one polynomial of degree below 2^step that agrees with the word at the points of coset j, where
--- the basis is independent; by `NextCosets` these are the points that q sends to point j of the next coset
-unfoldable pub foldEntry : ℕ → ℕ → List ℕ → List ℕ → ℕ → ℕ → ℕ
-foldEntry step offset basis word x j =
-    evaluate gf64 (interpolant gf64 (cosetPoints step offset basis j) (cosetEntries step word j)) x
+-- entry j of the fold: the value at the challenge of the one polynomial of degree below 2^step that agrees with the
+-- word at the points of coset j, where the basis is independent; by `NextCosets` these are the points that q sends to
+-- point j of the next coset
+unfoldable pub foldEntry : (step offset : ℕ) (basis word : List ℕ) (challenge j : ℕ) → ℕ
+foldEntry step offset basis word challenge j =
+    evaluate gf64 (interpolant gf64 (cosetPoints step offset basis j) (cosetEntries step word j)) challenge
 
--- the fold at x: 2^(k - step) values, a word over the next coset
-unfoldable pub folded : ℕ → ℕ → List ℕ → List ℕ → ℕ → List ℕ
-folded step offset basis word x = tabulated (foldEntry step offset basis word x) 0 (2 ^ (length basis - step))
+-- the fold at the challenge: 2^(k - step) values, a word over the next coset
+unfoldable pub folded : (step offset : ℕ) (basis word : List ℕ) (challenge : ℕ) → List ℕ
+folded step offset basis word challenge =
+    tabulated (foldEntry step offset basis word challenge) 0 (2 ^ (length basis - step))

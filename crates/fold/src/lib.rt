@@ -1,4 +1,5 @@
-// The fold of a word over a coset as definitions (specs/) and theorems about them (proofs/). The code here is what a fold answers.
+// The fold of a word over a coset as definitions (specs/) and theorems about them (proofs/).
+// The code here is what a fold answers.
 use field::Element;
 use refusal::Cause;
 
