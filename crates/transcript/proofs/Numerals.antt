@@ -17,7 +17,8 @@ unfolding littleEndian
 number-of-none n = ap littleEndian (take-nil n)
 
 -- the lowest byte, and the number of those after it
-next-byte : (bytes : List ℕ) (at n : ℕ) → littleEndian (take (suc n) (drop at bytes)) ≡ getD bytes at 0 + 256 * littleEndian (take n (drop (suc at) bytes))
+next-byte : (bytes : List ℕ) (at n : ℕ)
+    → littleEndian (take (suc n) (drop at bytes)) ≡ getD bytes at 0 + 256 * littleEndian (take n (drop (suc at) bytes))
 unfolding littleEndian
 next-byte [] zero n = omega (arith, number-of-none n)
 next-byte [] (suc at) n = omega (arith, number-of-none n)
@@ -26,7 +27,8 @@ next-byte (b ∷ bytes) (suc at) n = next-byte bytes at n
 
 byte-then : (bytes : List ℕ) (at after n : ℕ) → after ≡ suc at
     → littleEndian (take (suc n) (drop at bytes)) ≡ getD bytes at 0 + 256 * littleEndian (take n (drop after bytes))
-byte-then bytes at after n e = next-byte bytes at n ∙ ap (λ (m : ℕ). getD bytes at 0 + 256 * littleEndian (take n (drop m bytes))) (sym e)
+byte-then bytes at after n e =
+    next-byte bytes at n ∙ ap (λ (m : ℕ). getD bytes at 0 + 256 * littleEndian (take n (drop m bytes))) (sym e)
 
 -- four bytes, and the number of those after them
 four-bytes : (bytes : List ℕ) (at n : ℕ)
@@ -43,7 +45,8 @@ four-bytes bytes at n =
     )
 
 pub count-bytes : (bytes : List ℕ) (at : ℕ)
-    → countAt bytes at ≡ getD bytes at 0 + 256 * getD bytes (at + 1) 0 + 65536 * getD bytes (at + 2) 0 + 16777216 * getD bytes (at + 3) 0
+    → countAt bytes at
+    ≡ getD bytes at 0 + 256 * getD bytes (at + 1) 0 + 65536 * getD bytes (at + 2) 0 + 16777216 * getD bytes (at + 3) 0
 unfolding countAt littleEndian
 count-bytes bytes at = omega (arith, four-bytes bytes at 0)
 
@@ -61,7 +64,14 @@ byte-fits bytes h at = all-getD (λ b. b < 256) bytes at 0 (omega arith) h
 
 pub count-fits : (bytes : List ℕ) → AreBytes bytes → (at : ℕ) → countAt bytes at < 4294967296
 count-fits bytes h at =
-    omega (arith, count-bytes bytes at, byte-fits bytes h at, byte-fits bytes h (at + 1), byte-fits bytes h (at + 2), byte-fits bytes h (at + 3))
+    omega (
+      arith,
+      count-bytes bytes at,
+      byte-fits bytes h at,
+      byte-fits bytes h (at + 1),
+      byte-fits bytes h (at + 2),
+      byte-fits bytes h (at + 3),
+    )
 
 pub entry-fits : (bytes : List ℕ) → AreBytes bytes → (at : ℕ) → IsElement (entryAt bytes at)
 entry-fits bytes h at = omega (arith, entry-counts bytes at, count-fits bytes h at, count-fits bytes h (at + 4))
@@ -83,12 +93,15 @@ first-entries : (bytes : List ℕ) (at n m : ℕ) → m ≤ n → take m (entrie
 unfolding entriesAt
 first-entries bytes at n zero h = refl
 first-entries bytes at zero (suc m) h = absurd (omega arith)
-first-entries bytes at (suc n) (suc m) h = ap (λ (l : List ℕ). entryAt bytes at ∷ l) (first-entries bytes (at + 8) n m (omega arith))
+first-entries bytes at (suc n) (suc m) h =
+    ap (λ (l : List ℕ). entryAt bytes at ∷ l) (first-entries bytes (at + 8) n m (omega arith))
 
 -- a part of them
-pub part-of-entries : (bytes : List ℕ) (at n begin m : ℕ) → begin + m ≤ n → take m (drop begin (entriesAt bytes at n)) ≡ entriesAt bytes (at + 8 * begin) m
+pub part-of-entries : (bytes : List ℕ) (at n begin m : ℕ) → begin + m ≤ n
+    → take m (drop begin (entriesAt bytes at n)) ≡ entriesAt bytes (at + 8 * begin) m
 unfolding entriesAt
-part-of-entries bytes at n zero m h = first-entries bytes at n m (omega arith) ∙ ap (λ (a : ℕ). entriesAt bytes a m) (omega arith)
+part-of-entries bytes at n zero m h =
+    first-entries bytes at n m (omega arith) ∙ ap (λ (a : ℕ). entriesAt bytes a m) (omega arith)
 part-of-entries bytes at zero (suc begin) m h = absurd (omega arith)
 part-of-entries bytes at (suc n) (suc begin) m h =
     part-of-entries bytes (at + 8) n begin m (omega arith) ∙ ap (λ (a : ℕ). entriesAt bytes a m) (omega arith)

@@ -10,7 +10,8 @@ use Rattle.poly.proofs.Entries.{all-append, all-drop, all-getD}
 use Rattle.fri.specs.Layout.{joinedLayers}
 use Rattle.fri.specs.Demand.{Elements}
 use Rattle.transcript.specs.Numerals.{AreBytes}
-use Rattle.transcript.specs.Sections.{sectionEnd, sectionStart, sectionCount, sectionEntries, layerSection, transcriptRounds, runIn}
+use Rattle.transcript.specs.Sections.{sectionEnd, sectionStart, sectionCount}
+use Rattle.transcript.specs.Sections.{sectionEntries, layerSection, transcriptRounds, runIn}
 use Rattle.transcript.proofs.Numerals.{count-fits, entries-fit}
 
 module _ (bytes : List ℕ) where
@@ -31,7 +32,8 @@ module _ (bytes : List ℕ) where
   start-after s zero h = le-of-eq (ap (sectionStart bytes) (sym (add-zero s)))
   start-after s (suc n) h =
       le-trans (start-after s n h)
-      (le-trans (omega (arith, start-next (s + n) (omega arith))) (le-of-eq (ap (sectionStart bytes) (sym (add-suc s n)))))
+      (le-trans (omega (arith, start-next (s + n) (omega arith)))
+      (le-of-eq (ap (sectionStart bytes) (sym (add-suc s n)))))
 
   -- a later section begins later
   pub start-later : (s t : ℕ) → 1 ≤ s → s ≤ t → sectionStart bytes s ≤ sectionStart bytes t
@@ -58,8 +60,8 @@ module _ (bytes : List ℕ) where
     unfolding joinedLayers
     joined-fit zero = record {}
     joined-fit (suc n) =
-        all-append IsElement (joinedLayers (λ i. sectionEntries bytes (layerSection i)) n) (sectionEntries bytes (layerSection (suc n))) (joined-fit n)
-        (section-fits (layerSection (suc n)))
+        all-append IsElement (joinedLayers (λ i. sectionEntries bytes (layerSection i)) n)
+        (sectionEntries bytes (layerSection (suc n))) (joined-fit n) (section-fits (layerSection (suc n)))
 
     -- the run that they carry has 64-bit numbers
     pub run-fits : Elements (runIn bytes)

@@ -37,7 +37,8 @@ use Rattle.transcript.specs.Numerals.{AreBytes}
 use Rattle.transcript.specs.Sections.{sectionStart, transcriptSteps, runIn, queriesIn}
 use Rattle.transcript.specs.Checks.{transcriptOutcome}
 use Rattle.transcript.specs.Judge.{transcriptVerdict, inputVerdict}
-use Rattle.transcript.specs.Theorems.{Carries, JudgingBytes, TranscriptCompleteness, OfRun, TranscriptSoundness, TranscriptNumbers}
+use Rattle.transcript.specs.Theorems.{Carries, JudgingBytes, TranscriptCompleteness}
+use Rattle.transcript.specs.Theorems.{OfRun, TranscriptSoundness, TranscriptNumbers}
 use Rattle.transcript.proofs.Sections.{run-fits}
 use Rattle.transcript.proofs.Refusals.{transcript-number}
 use Rattle.transcript.proofs.Carried.{fit, checks-are, passed-carries}
@@ -77,19 +78,24 @@ accepted-carries : (bytes : List ℕ) → transcriptVerdict bytes .answer ≡ an
 unfolding transcriptVerdict
 accepted-carries bytes e =
     let rounds = roundsOutcome (runIn bytes) (queriesIn bytes) 0 in
-    passed-carries bytes (then-done (transcriptOutcome bytes) rounds (done-of (andThen (transcriptOutcome bytes) rounds) e) .0)
+    passed-carries bytes
+    (then-done (transcriptOutcome bytes) rounds (done-of (andThen (transcriptOutcome bytes) rounds) e) .0)
 
-refused-carries : (bytes : List ℕ) (query round : ℕ) → transcriptVerdict bytes .answer ≡ answers.Refused (RoundCheckFails query round) → Carries bytes
+refused-carries : (bytes : List ℕ) (query round : ℕ)
+    → transcriptVerdict bytes .answer ≡ answers.Refused (RoundCheckFails query round) → Carries bytes
 unfolding transcriptVerdict
 refused-carries bytes query round e =
     let rounds = roundsOutcome (runIn bytes) (queriesIn bytes) 0 in
-    by (which (transcriptOutcome bytes) rounds (RoundCheckFails query round) (refused-of (andThen (transcriptOutcome bytes) rounds) (RoundCheckFails query round) e))
+    by (which (transcriptOutcome bytes) rounds (RoundCheckFails query round)
+    (refused-of (andThen (transcriptOutcome bytes) rounds) (RoundCheckFails query round) e))
   where
-    by : Either (transcriptOutcome bytes) (roundsOutcome (runIn bytes) (queriesIn bytes) 0) (RoundCheckFails query round) → Carries bytes
+    by : Either (transcriptOutcome bytes) (roundsOutcome (runIn bytes) (queriesIn bytes) 0)
+        (RoundCheckFails query round) → Carries bytes
     by (inl early) =
         absurd
-        (transcript-number (λ n. n ≢ 11) (λ n l e. omega arith) bytes (early-not 11 (numberOfOutcome (basesOutcome (transcriptSteps bytes) (runIn bytes .basis))) (omega arith) (omega arith) (bases-early (runIn bytes)))
-        (ap numberOfOutcome early))
+        (transcript-number (λ n. n ≢ 11) (λ n l e. omega arith) bytes
+        (early-not 11 (numberOfOutcome (basesOutcome (transcriptSteps bytes) (runIn bytes .basis))) (omega arith)
+        (omega arith) (bases-early (runIn bytes))) (ap numberOfOutcome early))
     by (inr (passed, late)) = passed-carries bytes passed
 
 -- ---- demand 3
@@ -119,24 +125,31 @@ queries-of (bytes ∷ transcripts) = queriesIn bytes ∷ queries-of transcripts
 
 -- what is accepted as bytes is accepted as lists
 visited : (sent : Run) (coset : ℕ) (transcripts : List (List ℕ)) → All (OfRun sent) transcripts
-    → Any (λ bytes. (transcriptVerdict bytes .answer ≡ answers.Accepted) × Visits sent (queriesIn bytes) coset) transcripts
+    → Any (λ bytes. (transcriptVerdict bytes .answer ≡ answers.Accepted)
+    × Visits sent (queriesIn bytes) coset) transcripts
     → Any (λ queries. Accepted sent queries × Visits sent queries coset) (queries-of transcripts)
 unfolding queries-of
 visited sent coset (bytes ∷ transcripts) of-run (inl (a, v)) =
-    inl
-    (sym (ap (λ (x : Verdict). x .answer) (carried bytes (accepted-carries bytes a) ∙ ap (λ (r : Run). verdictOf r (queriesIn bytes)) (of-run .0 .1))) ∙ a, v)
+    inl (
+      sym (ap (λ (x : Verdict). x .answer)
+          (carried bytes (accepted-carries bytes a) ∙ ap (λ (r : Run). verdictOf r (queriesIn bytes)) (of-run .0 .1)))
+          ∙ a,
+      v,
+    )
 visited sent coset (bytes ∷ transcripts) of-run (inr rest) = inr (visited sent coset transcripts (of-run .1) rest)
 visited sent coset [] of-run none = none
 
 -- there is a transcript, so that the run has 64-bit numbers
-sent-fits : (sent : Run) (P : List ℕ → Type 0) (transcripts : List (List ℕ)) → All (OfRun sent) transcripts → Any P transcripts → Elements sent
+sent-fits : (sent : Run) (P : List ℕ → Type 0) (transcripts : List (List ℕ)) → All (OfRun sent) transcripts
+    → Any P transcripts → Elements sent
 sent-fits sent P [] of-run none = absurd none
 sent-fits sent P (bytes ∷ transcripts) of-run some = subst Elements (of-run .0 .1) (run-fits bytes (of-run .0 .0))
 
 transcript-soundness : TranscriptSoundness
 transcript-soundness sent transcripts of-run covers =
     soundness sent (queries-of transcripts)
-    (sent-fits sent (λ bytes. (transcriptVerdict bytes .answer ≡ answers.Accepted) × Visits sent (queriesIn bytes) 0) transcripts of-run
+    (sent-fits sent
+    (λ bytes. (transcriptVerdict bytes .answer ≡ answers.Accepted) × Visits sent (queriesIn bytes) 0) transcripts of-run
     (covers 0 (pow-pos (sent .k - run.stepIn sent 0))))
     (λ coset h. visited sent coset transcripts of-run (covers coset h))
 
@@ -158,11 +171,13 @@ told verdict e = (
   ap (λ (v : Verdict). v .reads) e,
 )
 
-either-accepted : (test : Bool) (verdict : Verdict) → cond test verdict too-long .answer ≡ answers.Accepted → verdict .answer ≡ answers.Accepted
+either-accepted : (test : Bool) (verdict : Verdict) → cond test verdict too-long .answer ≡ answers.Accepted
+    → verdict .answer ≡ answers.Accepted
 either-accepted true verdict e = e
 either-accepted false verdict e = absurd (let impossible : _≡_ {A = ℕ} 0 1 = cc in omega arith)
 
-program-accepted : (bytes : List ℕ) → inputVerdict bytes .answer ≡ answers.Accepted → transcriptVerdict bytes .answer ≡ answers.Accepted
+program-accepted : (bytes : List ℕ) → inputVerdict bytes .answer ≡ answers.Accepted
+    → transcriptVerdict bytes .answer ≡ answers.Accepted
 unfolding inputVerdict
 program-accepted bytes e = either-accepted (leb (length bytes) 65536) (transcriptVerdict bytes) e
 
@@ -180,7 +195,8 @@ judging-bytes =
 
 -- ---- numbers
 
-rounds-number : (bytes : List ℕ) (o : Outcome) → roundsOutcome (runIn bytes) (queriesIn bytes) 0 ≡ o → numberOfOutcome o ≤ 11
+rounds-number : (bytes : List ℕ) (o : Outcome) → roundsOutcome (runIn bytes) (queriesIn bytes) 0 ≡ o
+    → numberOfOutcome o ≤ 11
 rounds-number bytes Done e = omega arith
 rounds-number bytes (Refused cause) e = omega (arith, refused-by-round (runIn bytes) (queriesIn bytes) cause e)
 
@@ -190,13 +206,15 @@ library-number bytes h =
     let rounds = roundsOutcome (runIn bytes) (queriesIn bytes) 0 in
     subst (λ (n : ℕ). n ≤ 11) (sym (same-number (andThen (transcriptOutcome bytes) rounds)))
     (number-then (λ n. n ≤ 11) (transcriptOutcome bytes) rounds
-    (transcript-number (λ n. n ≤ 11) (λ n l. omega arith) bytes (bases-number (λ n. n ≤ 11) (omega arith) (omega arith) (runIn bytes) (run-fits bytes h .basis)))
+    (transcript-number (λ n. n ≤ 11) (λ n l. omega arith) bytes
+    (bases-number (λ n. n ≤ 11) (omega arith) (omega arith) (runIn bytes) (run-fits bytes h .basis)))
     (rounds-number bytes rounds refl))
 
 abbrev ProgramNumber : Verdict → Type 0
 ProgramNumber verdict = (numberOfAnswer (verdict .answer) ≤ 11) ⊎ (numberOfAnswer (verdict .answer) ≡ 14)
 
-either-number : (test : Bool) (verdict : Verdict) → numberOfAnswer (verdict .answer) ≤ 11 → ProgramNumber (cond test verdict too-long)
+either-number : (test : Bool) (verdict : Verdict) → numberOfAnswer (verdict .answer) ≤ 11
+    → ProgramNumber (cond test verdict too-long)
 either-number true verdict h = inl h
 either-number false verdict h = inr refl
 

@@ -15,7 +15,7 @@ use Rattle.transcript.specs.Sections.{runIn, queriesIn}
 use Rattle.transcript.specs.Checks.{transcriptOutcome}
 
 -- the verdict: the sections in order, then the round checks (11) of the run that they carry, with the entries read
-unfoldable pub transcriptVerdict : List ℕ → Verdict
+unfoldable pub transcriptVerdict : (bytes : List ℕ) → Verdict
 transcriptVerdict bytes =
     record {
       answer = answerOf (andThen (transcriptOutcome bytes) (roundsOutcome (runIn bytes) (queriesIn bytes) 0));
@@ -23,5 +23,7 @@ transcriptVerdict bytes =
     }
 
 -- the program's answer: an input of over 65,536 bytes is refused first (14)
-unfoldable pub inputVerdict : List ℕ → Verdict
-inputVerdict bytes = cond (leb (length bytes) 65536) (transcriptVerdict bytes) (record { answer = answers.Refused InputTooLong; reads = 0 })
+unfoldable pub inputVerdict : (bytes : List ℕ) → Verdict
+inputVerdict bytes =
+    cond (leb (length bytes) 65536) (transcriptVerdict bytes)
+    (record { answer = answers.Refused InputTooLong; reads = 0 })
