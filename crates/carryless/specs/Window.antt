@@ -16,7 +16,7 @@ wideOf w = w .high * 2 ^ 64 + w .low
 -- entry n is n · a, for the sixteen polynomials n of four bits
 pub record Multiples (a : ℕ) (t : List ℕ) : Type 0 where
   pub short : a < 2 ^ 32
-  pub at : (n : ℕ) → n < 16 → getD t n 0 ≡ carryless n a
+  pub at : (n : ℕ) → n < 2 ^ 4 → getD t n 0 ≡ carryless n a
 
 -- the sums of the products of x and y by a₀ and a₁
 pub record Sums (a₀ a₁ x y : ℕ) (p : Products) : Type 0 where

@@ -1,12 +1,12 @@
 -- Numbers in bytes, little-endian: counts in 4 bytes, entries in 8. Bytes beyond the end count as zeros.
 use mathlib.Core.List.{List, [], _∷_}
-use Prim.Native.Nat.{ℕ, zero, suc, _+_, _*_, _<_}
+use Prim.Native.Nat.{ℕ, zero, suc, _+_, _*_, _^_, _<_}
 use lib.ListN.{take, drop}
 use Rattle.poly.specs.Polynomial.{All}
 
 -- each is a byte, of 8 bits
 abbrev pub AreBytes : (bytes : List ℕ) → Type 0
-AreBytes bytes = All (λ b. b < 256) bytes
+AreBytes bytes = All (λ b. b < 2 ^ 8) bytes
 
 -- the number of these bytes, the lowest first
 unfoldable pub littleEndian : (bytes : List ℕ) → ℕ
