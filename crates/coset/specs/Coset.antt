@@ -5,7 +5,8 @@ use Prim.Native.Nat.{ℕ, zero, suc, _*_, _/_, _%_, _^_}
 use lib.ListN.{length}
 use Rattle.gf64.specs.Field.{sum}
 
--- point j: the offset plus the sum of all basis elements whose bit of j is set, bit 0 for the first
+-- point j, in document 01's order: the offset plus the sum of all basis elements whose bit of j is set, bit 0 for the
+-- first of them
 unfoldable pub point : (offset : ℕ) (basis : List ℕ) (j : ℕ) → ℕ
 point offset [] j = offset
 point offset (b ∷ basis) j = sum ((j % 2) * b) (point offset basis (j / 2))

@@ -1,3 +1,4 @@
+-- Cosets: points, span, the test of independence, the next coset, refusals, and what is proved of them.
 pub mod Coset
 pub mod Span
 pub mod Elimination

@@ -1,4 +1,4 @@
--- The subspace polynomial q of a step, and the next coset, which it sends a coset to.
+-- The subspace polynomial q of a step, and document 01's next coset, which q sends a coset to.
 use mathlib.Core.List.{List, map}
 use Prim.Native.Nat.{ℕ, _^_}
 use lib.ListN.{take, drop}

@@ -1,1 +1,2 @@
+-- What the operations of an element answer.
 pub mod Answers

@@ -1,4 +1,5 @@
--- What a lone fold answers, and what the lent lists hold afterwards.
+-- What a lone fold, a fold outside a run, answers, and what the lent lists hold afterwards. The lists have the numbers
+-- that document 01 gives them: 1 basis, 3 word, 6 values, 7 next basis.
 use mathlib.Core.Bool.{_&&_}
 use mathlib.Core.List.{List}
 use Prim.Native.Nat.{ℕ, _-_, _^_}
@@ -27,8 +28,7 @@ foldRangesOutcome k step =
     (refusedUnless (leb step k) DimensionTooSmall
     Done))
 
--- the lengths of lists 1, 3, 6 and 7, which are basis, word, values and next basis: the lowest list whose
--- length is not the one due (13)
+-- the lengths of the lists: the lowest list whose length is not the one due (13)
 abbrev pub foldLengthsOutcome : (k step length1 length3 length6 length7 : ℕ) → Outcome
 foldLengthsOutcome k step length1 length3 length6 length7 =
     refusedUnless (eqb length1 k) (WrongLength 1)

@@ -6,7 +6,7 @@ use Rattle.poly.specs.Carrier.{gf64}
 use Rattle.poly.specs.Polynomial.{evaluate, interpolant}
 use Rattle.coset.specs.Coset.{point, tabulated}
 
--- the points of the coset of the fold with index j: the old points from j · 2^step on, 2^step of them
+-- the points of coset j of the fold, document 01's term: the old points from j · 2^step on, 2^step of them
 unfoldable pub cosetPoints : (step offset : ℕ) (basis : List ℕ) (j : ℕ) → List ℕ
 cosetPoints step offset basis j = tabulated (point offset basis) (j * 2 ^ step) (2 ^ step)
 

@@ -1,3 +1,4 @@
+-- The fold: its entries, rows and exceptional sets, what it answers, how it is computed, and what is proved of it.
 pub mod Fold
 pub mod Rows
 pub mod Exceptional

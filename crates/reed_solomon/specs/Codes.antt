@@ -14,6 +14,6 @@ encoded offset basis coefficients = map (evaluate gf64 coefficients) (points off
 unfoldable pub interpolated : (offset : ℕ) (basis word : List ℕ) → List ℕ
 interpolated offset basis word = interpolant gf64 (points offset basis) word
 
--- the word's degree, which is that of its interpolant, is below n
+-- a word's degree, which document 01 defines as that of its interpolant, is below n
 abbrev pub WordDegreeBelow : (n offset : ℕ) (basis word : List ℕ) → Type 0
 WordDegreeBelow n offset basis word = DegreeBelow gf64 n (interpolated offset basis word)

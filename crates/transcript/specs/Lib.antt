@@ -1,3 +1,4 @@
+-- The transcript: numbers in bytes, sections, refusals, the verdict, and what is proved of them.
 pub mod Numerals
 pub mod Sections
 pub mod Checks

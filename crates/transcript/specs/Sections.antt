@@ -1,5 +1,5 @@
--- The sections of a transcript, counted from 1, and the lists that are read from it: 1 k, R, η; 2 offset and basis;
--- 3 challenges; 4 queries; 5 to 4 + r layers 0 to r - 1; 5 + r the last coefficients.
+-- The sections of a transcript, document 01's own format, counted from 1, and the lists that are read from it: 1 k, R,
+-- η; 2 offset and basis; 3 challenges; 4 queries; 5 to 4 + r layers 0 to r - 1; 5 + r the last coefficients.
 use mathlib.Core.List.{List}
 use Prim.Native.Nat.{ℕ, zero, suc, _+_, _*_, _-_}
 use lib.ListN.{getD, length, drop}
