@@ -17,7 +17,8 @@ use Rattle.fri.specs.Layers.{basisIn, offsetIn, foldOf, honestLayer, las
 use Rattle.fri.specs.Demand.{ValidParameters, ValidCoset}
 use Rattle.fri.specs.Theorems.{Layouts, LayerCosets, HonestLayers}
 use Rattle.fri.proofs.Layouts as laws
-use Rattle.fri.proofs.Cosets.{first-coset, layer-images, length-layerBasis, layerBasis-elements, layerOffset-element, layerBasis-independent, length-honestStore}
+use Rattle.fri.proofs.Cosets.{first-coset, layer-images, length-layerBasis, layerBasis-elements}
+use Rattle.fri.proofs.Cosets.{layerOffset-element, layerBasis-independent, length-honestStore}
 use Rattle.fri.proofs.Completeness.{length-honestLast, honestStore-elements, honestLast-elements}
 
 -- ---- layout
@@ -29,10 +30,18 @@ counted k rate step i h = subst (λ (n : ℕ). i ≤ n) (sym (laws.length-steps 
 rounds-leave : (k rate step : ℕ) → 1 ≤ step → k - rate < roundsOf k rate step * step + step
 rounds-leave k rate step h = lt-div-mul-add {a = k - rate} {b = step} h
 
-few-points : (k rate step : ℕ) → ValidParameters k rate step → 2 ^ dimension k (stepsOf k rate step) (roundsOf k rate step) ≤ 256
+few-points : (k rate step : ℕ) → ValidParameters k rate step
+    → 2 ^ dimension k (stepsOf k rate step) (roundsOf k rate step) ≤ 256
 few-points k rate step v =
     let few : dimension k (stepsOf k rate step) (roundsOf k rate step) ≤ 8 =
-    omega (arith, laws.dimension-of-layer k rate step (roundsOf k rate step) (counted k rate step (roundsOf k rate step) (omega arith)), rounds-leave k rate step (v .step-least), v .rate-most, v .step-most)
+    omega (
+      arith,
+      laws.dimension-of-layer k rate step (roundsOf k rate step)
+          (counted k rate step (roundsOf k rate step) (omega arith)),
+      rounds-leave k rate step (v .step-least),
+      v .rate-most,
+      v .step-most,
+    )
     in
     pow-mono {i = dimension k (stepsOf k rate step) (roundsOf k rate step)} {j = 8} few
 
@@ -43,7 +52,8 @@ few-powers (suc (suc zero)) d h s = inr (inr s)
 few-powers (suc (suc (suc e))) d h s = absurd (omega arith)
 
 few-coefficients : (k rate step : ℕ) → ValidParameters k rate step
-    → (lastCount k rate (stepsOf k rate step) ≡ 1) ⊎ (lastCount k rate (stepsOf k rate step) ≡ 2) ⊎ (lastCount k rate (stepsOf k rate step) ≡ 4)
+    → (lastCount k rate (stepsOf k rate step) ≡ 1) ⊎ (lastCount k rate (stepsOf k rate step) ≡ 2)
+    ⊎ (lastCount k rate (stepsOf k rate step) ≡ 4)
 few-coefficients k rate step v =
     few-powers (k - rate - roundsOf k rate step * step) (lastCount k rate (stepsOf k rate step))
     (omega (arith, rounds-leave k rate step (v .step-least), v .step-most)) (laws.last-count k rate step)
@@ -52,7 +62,8 @@ first-start : (k rate step : ℕ) → layerStart k (stepsOf k rate step) 1 ≡ 0
 unfolding layerStart
 first-start k rate step = refl
 
-store-end : (k rate step : ℕ) → storeLength k (stepsOf k rate step) ≡ layerStart k (stepsOf k rate step) (roundsOf k rate step)
+store-end : (k rate step : ℕ)
+    → storeLength k (stepsOf k rate step) ≡ layerStart k (stepsOf k rate step) (roundsOf k rate step)
 unfolding storeLength
 store-end k rate step = ap (layerStart k (stepsOf k rate step)) (laws.length-steps k rate step)
 
@@ -66,13 +77,16 @@ layouts =
       steps = λ k rate step i h. laws.step-of-round k rate step i (counted k rate step (suc i) h);
       dimensions = λ k rate step i h. laws.dimension-of-layer k rate step i (counted k rate step i h);
       last-count = laws.last-count;
-      some-round = λ k rate step v. subst (λ (n : ℕ). 1 ≤ n) (laws.length-steps k rate step) (laws.some-round k rate step (v .step-least) (v .k-enough));
+      some-round = λ k rate step v.
+          subst (λ (n : ℕ). 1 ≤ n) (laws.length-steps k rate step)
+          (laws.some-round k rate step (v .step-least) (v .k-enough));
       few-points = few-points;
       few-coefficients = few-coefficients;
       first-start = first-start;
       next-start = λ k rate step i l h.
           laws.start-next k (stepsOf k rate step) i l
-          ∙ ap (λ (n : ℕ). layerStart k (stepsOf k rate step) i + 2 ^ n) (laws.dimension-of-layer k rate step i (counted k rate step i (omega arith)));
+          ∙ ap (λ (n : ℕ). layerStart k (stepsOf k rate step) i + 2 ^ n)
+          (laws.dimension-of-layer k rate step i (counted k rate step i (omega arith)));
       store-end = store-end;
       empty-store = empty-store;
       indices = λ k rate step j i h. laws.index-of-layer k rate step j i (counted k rate step i h);
@@ -81,12 +95,15 @@ layouts =
 -- ---- the cosets of the layers
 
 layer-points : (run : Run) (i j t : ℕ) → ValidCoset run → i < roundsIn run → t < 2 ^ run .step
-    → image (run .step) (basisIn run i) (point (offsetIn run i) (basisIn run i) (j * 2 ^ run .step + t)) ≡ point (offsetIn run (suc i)) (basisIn run (suc i)) j
+    → image (run .step) (basisIn run i) (point (offsetIn run i) (basisIn run i) (j * 2 ^ run .step + t))
+    ≡ point (offsetIn run (suc i)) (basisIn run (suc i)) j
 layer-points run i j t v h l =
     let same : stepIn run i ≡ run .step = laws.step-of-round (run .k) (run .rate) (run .step) i h in
     subst
-    (λ (s : ℕ). image s (basisIn run i) (point (offsetIn run i) (basisIn run i) (j * 2 ^ s + t)) ≡ point (offsetIn run (suc i)) (basisIn run (suc i)) j) same
-    (layer-images run i j t (layerOffset-element run v i) (layerBasis-elements run v i) (subst (λ (s : ℕ). t < 2 ^ s) (sym same) l))
+    (λ (s : ℕ). image s (basisIn run i) (point (offsetIn run i) (basisIn run i) (j * 2 ^ s + t))
+    ≡ point (offsetIn run (suc i)) (basisIn run (suc i)) j) same
+    (layer-images run i j t (layerOffset-element run v i) (layerBasis-elements run v i)
+    (subst (λ (s : ℕ). t < 2 ^ s) (sym same) l))
 
 pub layer-cosets : LayerCosets
 layer-cosets =
@@ -116,7 +133,8 @@ unfolding honestLayer
 honest-next run i = refl
 
 honest-interpolant : (run : Run)
-    → lastInterpolant run ≡ interpolated (offsetIn run (roundsIn run)) (basisIn run (roundsIn run)) (honestLayer run (roundsIn run))
+    → lastInterpolant run
+    ≡ interpolated (offsetIn run (roundsIn run)) (basisIn run (roundsIn run)) (honestLayer run (roundsIn run))
 unfolding lastInterpolant
 honest-interpolant run = refl
 

@@ -37,14 +37,16 @@ module _ (k rate step : ℕ) (store : List ℕ) (i : ℕ) where
 
   empty-by : test ≡ false → layerPart k rate step store i ≡ []
   empty-by e =
-      ap (λ (t : Bool). partAfter (parametersOutcome k rate step) (cond t (storedLayer k steps store i) [])) e ∙ empty-after (parametersOutcome k rate step)
+      ap (λ (t : Bool). partAfter (parametersOutcome k rate step) (cond t (storedLayer k steps store i) [])) e
+      ∙ empty-after (parametersOutcome k rate step)
 
   no-layer : (i < 1) ⊎ (roundsOf k rate step ≤ i) → layerPart k rate step store i ≡ []
   no-layer o =
       empty-by
       (first-false (leb 1 i && ltb i (length steps)) (eqb (length store) (storeLength k steps))
       (⊎-elim (λ (l : i < 1). first-false (leb 1 i) (ltb i (length steps)) (lt-leb 1 i l))
-      (λ (u : roundsOf k rate step ≤ i). second-false (leb 1 i) (ltb i (length steps)) (le-ltb i (length steps) (subst (λ (n : ℕ). n ≤ i) (sym (laws.length-steps k rate step)) u))) o))
+      (λ (u : roundsOf k rate step ≤ i). second-false (leb 1 i) (ltb i (length steps))
+      (le-ltb i (length steps) (subst (λ (n : ℕ). n ≤ i) (sym (laws.length-steps k rate step)) u))) o))
 
   not-done : (o : Outcome) (part : List ℕ) → o ≢ Done → partAfter o part ≡ []
   not-done Done part n = absurd (n refl)
@@ -53,11 +55,12 @@ module _ (k rate step : ℕ) (store : List ℕ) (i : ℕ) where
   looked-up : ValidParameters k rate step → 1 ≤ i → i < roundsOf k rate step → length store ≡ storeLength k steps
       → layerPart k rate step store i ≡ storedLayer k steps store i
   looked-up v l h e =
-      ap (λ (o : Outcome). partAfter o (cond test (storedLayer k steps store i) [])) (checks.parameters-pass k rate step v)
+      ap (λ (o : Outcome). partAfter o (cond test (storedLayer k steps store i) []))
+      (checks.parameters-pass k rate step v)
       ∙ ap (λ (t : Bool). cond t (storedLayer k steps store i) [])
       (both-true (leb 1 i && ltb i (length steps)) (eqb (length store) (storeLength k steps))
-      (both-true (leb 1 i) (ltb i (length steps)) (le-leb 1 i l) (lt-ltb i (length steps) (counted k rate step (suc i) h)))
-      (eq-eqb (length store) (storeLength k steps) e))
+      (both-true (leb 1 i) (ltb i (length steps)) (le-leb 1 i l)
+      (lt-ltb i (length steps) (counted k rate step (suc i) h))) (eq-eqb (length store) (storeLength k steps) e))
 
   part-length : ValidParameters k rate step → 1 ≤ i → i < roundsOf k rate step → length store ≡ storeLength k steps
       → length (layerPart k rate step store i) ≡ 2 ^ (k - i * step)
@@ -67,13 +70,17 @@ module _ (k rate step : ℕ) (store : List ℕ) (i : ℕ) where
       ∙ ap (λ (n : ℕ). 2 ^ n) (laws.dimension-of-layer k rate step i (counted k rate step i (omega arith)))
 
   no-parameters : (ValidParameters k rate step → ⊥) → layerPart k rate step store i ≡ []
-  no-parameters n = not-done (parametersOutcome k rate step) (cond test (storedLayer k steps store i) []) (λ e. n (checks.parameters-valid k rate step e))
+  no-parameters n =
+      not-done (parametersOutcome k rate step) (cond test (storedLayer k steps store i) [])
+      (λ e. n (checks.parameters-valid k rate step e))
 
   no-store : length store ≢ storeLength k steps → layerPart k rate step store i ≡ []
   no-store n =
-      empty-by (second-false (leb 1 i && ltb i (length steps)) (eqb (length store) (storeLength k steps)) (ne-eqb (length store) (storeLength k steps) n))
+      empty-by (second-false (leb 1 i && ltb i (length steps)) (eqb (length store) (storeLength k steps))
+      (ne-eqb (length store) (storeLength k steps) n))
 
-part-entries : (k rate step : ℕ) (store : List ℕ) (i t : ℕ) → ValidParameters k rate step → 1 ≤ i → i < roundsOf k rate step
+part-entries : (k rate step : ℕ) (store : List ℕ) (i t : ℕ) → ValidParameters k rate step → 1 ≤ i
+    → i < roundsOf k rate step
     → length store ≡ storeLength k (stepsOf k rate step) → t < 2 ^ (k - i * step)
     → getD (layerPart k rate step store i) t 0 ≡ getD store (layerStart k (stepsOf k rate step) i + t) 0
 unfolding storedLayer
@@ -92,13 +99,15 @@ of-honest : (run : Run) (i : ℕ) → ValidCoset run → length (run .word) ≡ 
 unfolding layerIn
 of-honest run zero v lw l h = absurd (omega arith)
 of-honest run (suc i) v lw l h =
-    looked-up (run .k) (run .rate) (run .step) (honestStore run) (suc i) (v .parameters) l (in-rounds run (suc (suc i)) h) (length-honestStore run v lw)
+    looked-up (run .k) (run .rate) (run .step) (honestStore run) (suc i) (v .parameters) l
+    (in-rounds run (suc (suc i)) h) (length-honestStore run v lw)
     ∙ honest-layers run v lw (suc i) h
 
 pub lookups : Lookups
 lookups =
     record {
-      found = λ k rate step store i v l h e. (looked-up k rate step store i v l h e, part-length k rate step store i v l h e);
+      found = λ k rate step store i v l h e.
+          (looked-up k rate step store i v l h e, part-length k rate step store i v l h e);
       entries = part-entries;
       bad-parameters = no-parameters;
       other-layer = no-layer;
@@ -113,10 +122,12 @@ unfolding layerIn
 sent-word run = refl
 
 sent-stored : (run : Run) (i : ℕ) → ValidParameters (run .k) (run .rate) (run .step) → 1 ≤ i → i < roundsIn run
-    → length (run .store) ≡ storeLength (run .k) (stepsIn run) → layerIn run i ≡ layerPart (run .k) (run .rate) (run .step) (run .store) i
+    → length (run .store) ≡ storeLength (run .k) (stepsIn run)
+    → layerIn run i ≡ layerPart (run .k) (run .rate) (run .step) (run .store) i
 unfolding layerIn
 sent-stored run zero v l h e = absurd (omega arith)
-sent-stored run (suc i) v l h e = sym (looked-up (run .k) (run .rate) (run .step) (run .store) (suc i) v l (in-rounds run (suc (suc i)) h) e)
+sent-stored run (suc i) v l h e =
+    sym (looked-up (run .k) (run .rate) (run .step) (run .store) (suc i) v l (in-rounds run (suc (suc i)) h) e)
 
 pub sent-layers : SentLayers
 sent-layers = record { word = sent-word; stored = sent-stored }

@@ -13,7 +13,8 @@ use Rattle.refusal.specs.declared.Outcome.{Outcome}
 use Rattle.refusal.specs.declared.Outcome.the-variants.{Done, Refused}
 use Rattle.refusal.specs.Checks.{refusedUnless, afterwards}
 use Rattle.refusal.specs.Numbers.{numberOfOutcome}
-use Rattle.refusal.proofs.Checks.{le-of-test, refused-not-done, passed-by, refused-by, unless-done, then-passed, then-refused, then-done, number-unless}
+use Rattle.refusal.proofs.Checks.{le-of-test, refused-not-done, passed-by, refused-by, unless-done}
+use Rattle.refusal.proofs.Checks.{then-passed, then-refused, then-done, number-unless}
 use Rattle.fri.specs.Layout.{lastCount}
 use Rattle.fri.specs.Run.{Run, stepsIn}
 use Rattle.fri.specs.Layers.{honestStore, lastInterpolant, honestLast}
@@ -43,7 +44,8 @@ module _ (run : Run) where
       sym (then-passed (runOutcome run) (degreeOutcome run) e) ∙ degree-passes l
 
   -- a refusal by 12 is the degree's
-  degree-refused : (degree : ℕ) (test : Bool) → leb bound d ≡ test → refusedUnless test (DegreeTooLarge (bound - 1)) Done ≡ Refused (DegreeTooLarge degree)
+  degree-refused : (degree : ℕ) (test : Bool) → leb bound d ≡ test
+      → refusedUnless test (DegreeTooLarge (bound - 1)) Done ≡ Refused (DegreeTooLarge degree)
       → (bound ≡ suc degree) × (d ≤ degree)
   degree-refused degree true t e = absurd (refused-not-done (DegreeTooLarge degree) (sym e))
   degree-refused degree false t e =
@@ -51,23 +53,27 @@ module _ (run : Run) where
       let over : d < bound = leb-false bound d t in
       (omega (arith, same, over), omega (arith, same, over))
 
-  high-degree : (degree : ℕ) → proveOutcome run ≡ Refused (DegreeTooLarge degree) → (runOutcome run ≡ Done) × (bound ≡ suc degree) × (d ≤ degree)
+  high-degree : (degree : ℕ) → proveOutcome run ≡ Refused (DegreeTooLarge degree)
+      → (runOutcome run ≡ Done) × (bound ≡ suc degree) × (d ≤ degree)
   high-degree degree e =
       ⊎-elim
-      (λ (h : runOutcome run ≡ Refused (DegreeTooLarge degree)). absurd (checks.early-not 12 (numberOfOutcome (runOutcome run)) (omega arith) (omega arith) (checks.run-early run) (ap numberOfOutcome h)))
+      (λ (h : runOutcome run ≡ Refused (DegreeTooLarge degree)). absurd (checks.early-not 12
+      (numberOfOutcome (runOutcome run)) (omega arith) (omega arith) (checks.run-early run) (ap numberOfOutcome h)))
       (λ (h : (runOutcome run ≡ Done) × (degreeOutcome run ≡ Refused (DegreeTooLarge degree))).
       let told = degree-refused degree (leb bound d) refl (h .1) in
       (h .0, told .0, told .1))
       (which (runOutcome run) (degreeOutcome run) (DegreeTooLarge degree) e)
 
-  degree-high : (degree : ℕ) → runOutcome run ≡ Done → bound ≡ suc degree → d ≤ degree → proveOutcome run ≡ Refused (DegreeTooLarge degree)
+  degree-high : (degree : ℕ) → runOutcome run ≡ Done → bound ≡ suc degree → d ≤ degree
+      → proveOutcome run ≡ Refused (DegreeTooLarge degree)
   degree-high degree e s l =
       let same : bound - 1 ≡ degree = omega (arith, s) in
       sym (then-passed (runOutcome run) (degreeOutcome run) e)
       ∙ sym (refused-by (leb bound d) (DegreeTooLarge (bound - 1)) Done (lt-leb bound d (omega (arith, s))))
       ∙ ap (λ (n : ℕ). Refused (DegreeTooLarge n)) same
 
-  high-holds : (degree : ℕ) → proveOutcome run ≡ Refused (DegreeTooLarge degree) → (storeAfter run ≡ honestStore run) × (lastAfter run ≡ run .last)
+  high-holds : (degree : ℕ) → proveOutcome run ≡ Refused (DegreeTooLarge degree)
+      → (storeAfter run ≡ honestStore run) × (lastAfter run ≡ run .last)
   high-holds degree e = (
     ap (λ (o : Outcome). afterwards o (honestStore run) (run .store)) (high-degree degree e .0),
     ap (λ (o : Outcome). afterwards o (honestLast run) (run .last)) e,
@@ -83,7 +89,8 @@ module _ (run : Run) where
   pub refused-prove : (cause : Cause) → runOutcome run ≡ Refused cause → proveOutcome run ≡ Refused cause
   refused-prove cause e = sym (then-refused (runOutcome run) (degreeOutcome run) cause e)
 
-  pub refused-holds-both : (cause : Cause) → runOutcome run ≡ Refused cause → (storeAfter run ≡ run .store) × (lastAfter run ≡ run .last)
+  pub refused-holds-both : (cause : Cause) → runOutcome run ≡ Refused cause
+      → (storeAfter run ≡ run .store) × (lastAfter run ≡ run .last)
   refused-holds-both cause e = (
     ap (λ (o : Outcome). afterwards o (honestStore run) (run .store)) e,
     ap (λ (o : Outcome). afterwards o (honestLast run) (run .last)) (refused-prove cause e),

@@ -20,17 +20,17 @@ abbrev pub checksOutcome : Run → List ℕ → Outcome
 checksOutcome run queries = andThen (runOutcome run) (queriesOutcome (run .k) queries)
 
 -- accepted, or the cause
-abbrev pub answerOf : Outcome → Answer
+abbrev pub answerOf : (outcome : Outcome) → Answer
 answerOf Done = answers.Accepted
 answerOf (Refused cause) = answers.Refused cause
 
 -- nothing is read before the round checks
-abbrev pub readsAfter : Outcome → ℕ → ℕ
+abbrev pub readsAfter : (outcome : Outcome) (reads : ℕ) → ℕ
 readsAfter Done reads = reads
 readsAfter (Refused cause) reads = 0
 
 -- the verdict: all checks in order, the round checks (11) last, with the entries read
-abbrev pub verdictOf : Run → List ℕ → Verdict
+abbrev pub verdictOf : (run : Run) (queries : List ℕ) → Verdict
 verdictOf run queries =
     record {
       answer = answerOf (andThen (checksOutcome run queries) (roundsOutcome run queries 0));
@@ -38,15 +38,15 @@ verdictOf run queries =
     }
 
 -- the number of an answer: 0 where accepted, else that of the cause
-abbrev pub numberOfAnswer : Answer → ℕ
+abbrev pub numberOfAnswer : (answer : Answer) → ℕ
 numberOfAnswer answers.Accepted = 0
 numberOfAnswer (answers.Refused cause) = numberOf cause
 
 -- its place and its round: those of the cause
-abbrev pub placeOfAnswer : Answer → Position
+abbrev pub placeOfAnswer : (answer : Answer) → Position
 placeOfAnswer answers.Accepted = Absent
 placeOfAnswer (answers.Refused cause) = placeOf cause
 
-abbrev pub roundOfAnswer : Answer → Position
+abbrev pub roundOfAnswer : (answer : Answer) → Position
 roundOfAnswer answers.Accepted = Absent
 roundOfAnswer (answers.Refused cause) = roundOf cause

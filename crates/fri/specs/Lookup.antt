@@ -10,16 +10,16 @@ use Rattle.fri.specs.Layout.{stepsOf, storeLength, storedLayer}
 use Rattle.fri.specs.Checks.{parametersOutcome}
 
 -- the part if the checks pass, else the empty part
-abbrev pub partAfter : Outcome → List ℕ → List ℕ
+abbrev pub partAfter : (outcome : Outcome) (part : List ℕ) → List ℕ
 partAfter Done part = part
 partAfter (Refused cause) part = []
 
 -- the store has a layer i: 1 ≤ i < r, and the length of the store is the one due
-abbrev pub inStore : ℕ → List ℕ → List ℕ → ℕ → Bool
+abbrev pub inStore : (k : ℕ) (steps store : List ℕ) (i : ℕ) → Bool
 inStore k steps store i = leb 1 i && ltb i (length steps) && eqb (length store) (storeLength k steps)
 
 -- the layer lookup: layer i of a store, or the empty part for bad parameters, another i or a store of another length
-abbrev pub layerPart : ℕ → ℕ → ℕ → List ℕ → ℕ → List ℕ
+abbrev pub layerPart : (k rate step : ℕ) (store : List ℕ) (i : ℕ) → List ℕ
 layerPart k rate step store i =
     let steps = stepsOf k rate step in
     partAfter (parametersOutcome k rate step) (cond (inStore k steps store i) (storedLayer k steps store i) [])
