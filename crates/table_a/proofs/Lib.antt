@@ -1,3 +1,4 @@
+mod Values
 pub mod TableA
 pub mod Needed
 mod Transcripts

@@ -1,29 +1,34 @@
--- The queries 0 and 2 of case J visit both cosets, and are accepted by computation. Assumes nothing.
+-- The queries 0 and 2 of case J visit both cosets, and are accepted. Assumes nothing.
 use mathlib.Core.Path.{refl}
 use mathlib.Core.Logic.{inl, inr}
 use mathlib.Core.List.{[], _∷_}
 use Prim.Native.Nat.{zero, suc}
 use native.Mathlib.Omega.{arith}
-use Rattle.gf64.specs.Field.{product, inverse, power, powerIn, timesWhere}
+use Rattle.gf64.specs.Field.{product}
 use Rattle.gf64.specs.Polynomial.{carryless, carrylessIn, remainder, remainderIn, timesT}
-use Rattle.poly.specs.Polynomial.{evaluate, interpolant, plus, scale, timesLinear, dividedDifferences, vanishingPolynomial}
+use Rattle.poly.specs.Polynomial.{evaluate, plus, scale, timesLinear, vanishingPolynomial}
 use Rattle.coset.specs.Coset.{point, points, tabulated}
 use Rattle.coset.specs.Span.{inSpan, firstDependentAfter, firstDependent}
 use Rattle.coset.specs.Subspace.{nextOffset, nextBasis, image, subspacePolynomial}
-use Rattle.fold.specs.Fold.{foldEntry, cosetPoints, cosetEntries}
 use Rattle.fold.proofs.Cases.{fold-cases}
 use Rattle.fri.specs.Layout.{dimension, lastCount, layerStart, storeLength, indexIn}
 use Rattle.fri.specs.Run.{layerIn}
 use Rattle.fri.specs.Layers.{layerBasis, layerOffset}
 use Rattle.fri.specs.Checks.{laterBasesOutcome, firstOutside}
-use Rattle.fri.specs.Rounds.{valueComputed, valueFound, firstFailingRound, roundsOutcome}
+use Rattle.fri.specs.Rounds.{valueFound, firstFailingRound, roundsOutcome}
 use Rattle.fri.specs.Demand.{Accepted, Covered}
 use Rattle.table_a.specs.TableA.{small}
 use Rattle.table_a.specs.Needed.{ExceptionalSetsNeeded}
+use Rattle.table_a.proofs.Values.{j-value}
 
 accepted : Accepted (small 2 (0 ∷ 0 ∷ 0 ∷ 1 ∷ []) (0 ∷ [])) (0 ∷ 2 ∷ [])
-unfolding product inverse power powerIn timesWhere carryless carrylessIn remainder remainderIn timesT evaluate interpolant plus scale timesLinear dividedDifferences vanishingPolynomial point points tabulated inSpan firstDependentAfter firstDependent nextOffset nextBasis image subspacePolynomial foldEntry cosetPoints cosetEntries dimension lastCount layerStart storeLength indexIn layerIn layerBasis layerOffset laterBasesOutcome firstOutside valueComputed valueFound firstFailingRound roundsOutcome
-accepted = refl
+unfolding product carryless carrylessIn remainder remainderIn timesT evaluate plus scale timesLinear vanishingPolynomial
+    point points tabulated inSpan firstDependentAfter firstDependent nextOffset nextBasis image subspacePolynomial
+    dimension lastCount layerStart storeLength indexIn layerIn layerBasis layerOffset laterBasesOutcome firstOutside
+    valueFound firstFailingRound roundsOutcome
+accepted =
+    let first = j-value (0 ∷ []) 0 0 (omega arith) refl in
+    let second = j-value (0 ∷ []) 2 1 (omega arith) refl in simp (first, second)
 
 covered : Covered (small 2 (0 ∷ 0 ∷ 0 ∷ 1 ∷ []) (0 ∷ [])) ((0 ∷ 2 ∷ []) ∷ [])
 covered zero h = inl (accepted, inl refl)

@@ -1,4 +1,5 @@
--- Cases G and H as transcripts: the bytes carry the runs of Table A, whose verdicts are computed there. Assumes nothing.
+-- Cases G and H as transcripts: the bytes carry the runs of Table A, whose verdicts are
+-- computed there. Assumes nothing.
 use mathlib.Core.Path.{_≡_, refl, sym, ap₂, _∙_, subst}
 use mathlib.Core.List.{[], _∷_}
 use Prim.Native.Nat.{ℕ, zero, suc, _^_, _≤_, _<_}
@@ -72,7 +73,8 @@ queries-both : (last : ℕ) → queriesIn (oneRound last) ≡ 0 ∷ 3 ∷ []
 unfolding littleEndian countAt entryAt entriesAt sectionStart
 queries-both last = refl
 
-verdict-is : (last : ℕ) (run : Run) → runIn (oneRound last) ≡ run → inputVerdict (oneRound last) ≡ verdictOf run (0 ∷ 3 ∷ [])
+verdict-is : (last : ℕ) (run : Run) → runIn (oneRound last) ≡ run
+    → inputVerdict (oneRound last) ≡ verdictOf run (0 ∷ 3 ∷ [])
 verdict-is last run e =
     judging-bytes .short (oneRound last) (let short : 136 ≤ 65536 = omega arith in short)
     ∙ judging-bytes .carried (oneRound last) (carries last) ∙ ap₂ verdictOf e (queries-both last)
@@ -81,6 +83,10 @@ transcript-cases : TranscriptCases
 transcript-cases =
     record {
       size = refl;
-      g = subst (λ (v : Verdict). Tells v 0 Absent Absent 4) (sym (verdict-is 2 (small 4 (7 ∷ 4 ∷ 1 ∷ 2 ∷ []) (0xb ∷ [])) run-g)) (table-a .g);
-      h = subst (λ (v : Verdict). Tells v 11 (At 1) (At 0) 4) (sym (verdict-is 3 (small 4 (7 ∷ 4 ∷ 1 ∷ 3 ∷ []) (0xb ∷ [])) run-h)) (table-a .h);
+      g =
+          subst (λ (v : Verdict). Tells v 0 Absent Absent 4)
+          (sym (verdict-is 2 (small 4 (7 ∷ 4 ∷ 1 ∷ 2 ∷ []) (0xb ∷ [])) run-g)) (table-a .g);
+      h =
+          subst (λ (v : Verdict). Tells v 11 (At 1) (At 0) 4)
+          (sym (verdict-is 3 (small 4 (7 ∷ 4 ∷ 1 ∷ 3 ∷ []) (0xb ∷ [])) run-h)) (table-a .h);
     }

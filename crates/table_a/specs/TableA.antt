@@ -1,5 +1,5 @@
--- Table A of document 01: its starred cases, A to L, as one table. proofs/TableA.antt shows every row true of the definitions, by computation but
--- for the exceptional set of case J, which speaks of every element.
+-- Table A of document 01: its starred cases, A to L, as one table. proofs/TableA.antt shows every row true of the
+-- definitions, by computation and by the laws of the fold.
 use mathlib.Core.Path.{_≡_}
 use mathlib.Core.Logic.{_↔_}
 use mathlib.Core.List.{List, [], _∷_}
@@ -17,7 +17,7 @@ use Rattle.fri.specs.Prover.{proveOutcome, storeAfter, lastAfter}
 use Rattle.fri.specs.Theorems.{Tells}
 
 -- k 2, R 1, η 1, offset 0, basis 1, 2
-abbrev pub small : ℕ → List ℕ → List ℕ → Run
+abbrev pub small : (challenge : ℕ) (word last : List ℕ) → Run
 small challenge word last =
     record {
       k = 2;
@@ -32,7 +32,7 @@ small challenge word last =
     }
 
 -- case K's parameters, basis, word and challenges
-abbrev pub twoRounds : List ℕ → List ℕ → Run
+abbrev pub twoRounds : (store last : List ℕ) → Run
 twoRounds store last =
     record {
       k = 3;
@@ -66,7 +66,8 @@ pub record TableA : Type 0 where
   pub h : Tells (verdictOf (small 4 (7 ∷ 4 ∷ 1 ∷ 3 ∷ []) (0xb ∷ [])) (0 ∷ 3 ∷ [])) 11 (At 1) (At 0) 4
   -- I: only query 0: accepted, 2 reads
   pub i : Tells (verdictOf (small 4 (7 ∷ 4 ∷ 1 ∷ 3 ∷ []) (0xb ∷ [])) (0 ∷ [])) 0 Absent Absent 2
-  -- J: challenge 4 gives 12, degree 1, and leaves the coefficient list; challenge 2 gives coefficient 0; the exceptional set is 2 alone
+  -- J: challenge 4 gives 12, degree 1, and leaves the coefficient list; challenge 2 gives coefficient 0;
+  -- the exceptional set is 2 alone
   pub j-number : numberOfOutcome (proveOutcome (small 4 (0 ∷ 0 ∷ 0 ∷ 1 ∷ []) (7 ∷ []))) ≡ 12
   pub j-degree : placeOfOutcome (proveOutcome (small 4 (0 ∷ 0 ∷ 0 ∷ 1 ∷ []) (7 ∷ []))) ≡ At 1
   pub j-store : storeAfter (small 4 (0 ∷ 0 ∷ 0 ∷ 1 ∷ []) (7 ∷ [])) ≡ []

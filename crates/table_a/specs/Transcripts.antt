@@ -8,17 +8,18 @@ use Rattle.fri.specs.Theorems.{Tells}
 use Rattle.transcript.specs.Judge.{inputVerdict}
 
 -- a count below 256, in 4 bytes
-abbrev pub count : ℕ → List ℕ
+abbrev pub count : (n : ℕ) → List ℕ
 count n = n ∷ 0 ∷ 0 ∷ 0 ∷ []
 
 -- an entry below 256, in 8 bytes
-abbrev pub entry : ℕ → List ℕ
+abbrev pub entry : (n : ℕ) → List ℕ
 entry n = n ∷ 0 ∷ 0 ∷ 0 ∷ 0 ∷ 0 ∷ 0 ∷ 0 ∷ []
 
 -- case G where entry 3 of the word is 2, case H where it is 3
-abbrev pub oneRound : ℕ → List ℕ
+abbrev pub oneRound : (last : ℕ) → List ℕ
 oneRound last =
-    (count 3 ++ entry 2 ++ entry 1 ++ entry 1) ++ (count 3 ++ entry 0 ++ entry 1 ++ entry 2) ++ (count 1 ++ entry 4) ++ (count 2 ++ entry 0 ++ entry 3)
+    (count 3 ++ entry 2 ++ entry 1 ++ entry 1) ++ (count 3 ++ entry 0 ++ entry 1 ++ entry 2) ++ (count 1 ++ entry 4)
+    ++ (count 2 ++ entry 0 ++ entry 3)
     ++ (count 4 ++ entry 7 ++ entry 4 ++ entry 1 ++ entry last) ++ (count 1 ++ entry 0xb)
 
 -- 136 bytes; G is accepted with 4 reads, H refused by 11 at query 1 in round 0 with 4 reads

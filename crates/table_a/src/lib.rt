@@ -1,1 +1,1 @@
-// Table A of document 01, which the checker computes from the definitions. No code.
+// Table A of document 01, shown true of the definitions. No code.
