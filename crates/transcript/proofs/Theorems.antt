@@ -125,8 +125,8 @@ queries-of (bytes ∷ transcripts) = queriesIn bytes ∷ queries-of transcripts
 
 -- what is accepted as bytes is accepted as lists
 visited : (sent : Run) (coset : ℕ) (transcripts : List (List ℕ)) → All (OfRun sent) transcripts
-    → Any (λ bytes. (transcriptVerdict bytes .answer ≡ answers.Accepted)
-    × Visits sent (queriesIn bytes) coset) transcripts
+    → Any (λ bytes. (transcriptVerdict bytes .answer ≡ answers.Accepted) × Visits sent (queriesIn bytes) coset)
+    transcripts
     → Any (λ queries. Accepted sent queries × Visits sent queries coset) (queries-of transcripts)
 unfolding queries-of
 visited sent coset (bytes ∷ transcripts) of-run (inl (a, v)) =

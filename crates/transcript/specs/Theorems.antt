@@ -1,5 +1,5 @@
--- What is proved of judging bytes: where they carry lists, the verdict is that of the judge over those lists; so that both halves of demand 3 hold of the
--- lists that they carry. proofs/Theorems.antt has the values.
+-- What is proved of judging bytes: where they carry lists, the verdict is that of the judge over those lists;
+-- so that both halves of demand 3 hold of the lists that they carry. proofs/Theorems.antt has the values.
 use mathlib.Core.Path.{_≡_}
 use mathlib.Core.Logic.{_⊎_}
 use mathlib.Core.List.{List, []}
@@ -20,18 +20,22 @@ use Rattle.fri.specs.Judge.{numberOfAnswer, verdictOf}
 use Rattle.fri.specs.Demand.{ValidParameters, LowDegree, ValidQueries, Any, Visits, Sound}
 use Rattle.fri.specs.Theorems.{Tells}
 use Rattle.transcript.specs.Numerals.{AreBytes}
-use Rattle.transcript.specs.Sections.{sectionStart, sectionCount, layerSection, transcriptK, transcriptRate, transcriptStep, transcriptSteps, transcriptRounds, runIn, queriesIn}
+use Rattle.transcript.specs.Sections.{sectionStart, sectionCount, layerSection, transcriptK, transcriptRate}
+use Rattle.transcript.specs.Sections.{transcriptStep, transcriptSteps, transcriptRounds, runIn, queriesIn}
 use Rattle.transcript.specs.Checks.{transcriptOutcome}
 use Rattle.transcript.specs.Judge.{transcriptVerdict, inputVerdict}
 
--- the bytes carry the lists that are read from them: parameters in range, the counts due but for the queries', and nothing follows the last section
+-- the bytes carry the lists that are read from them: parameters in range, the counts due but for the queries',
+-- and nothing follows the last section
 pub record Carries (bytes : List ℕ) : Type 0 where
   pub parameters-count : sectionCount bytes 1 ≡ 3
   pub parameters : ValidParameters (transcriptK bytes) (transcriptRate bytes) (transcriptStep bytes)
   pub coset-count : sectionCount bytes 2 ≡ transcriptK bytes + 1
   pub challenges-count : sectionCount bytes 3 ≡ transcriptRounds bytes
-  pub layer-counts : (i : ℕ) → i < transcriptRounds bytes → sectionCount bytes (layerSection i) ≡ 2 ^ dimension (transcriptK bytes) (transcriptSteps bytes) i
-  pub last-count : sectionCount bytes (layerSection (transcriptRounds bytes)) ≡ lastCount (transcriptK bytes) (transcriptRate bytes) (transcriptSteps bytes)
+  pub layer-counts : (i : ℕ) → i < transcriptRounds bytes
+      → sectionCount bytes (layerSection i) ≡ 2 ^ dimension (transcriptK bytes) (transcriptSteps bytes) i
+  pub last-count : sectionCount bytes (layerSection (transcriptRounds bytes))
+      ≡ lastCount (transcriptK bytes) (transcriptRate bytes) (transcriptSteps bytes)
   pub ends : sectionStart bytes (suc (layerSection (transcriptRounds bytes))) ≡ length bytes
 
 -- judging bytes is judging the lists that they carry
@@ -39,37 +43,48 @@ pub record JudgingBytes : Type 0 where
   -- where they carry lists, the verdict is that of the judge over those lists
   pub carried : (bytes : List ℕ) → Carries bytes → transcriptVerdict bytes ≡ verdictOf (runIn bytes) (queriesIn bytes)
   -- a section's refusal is the answer, and nothing is read
-  pub early : (bytes : List ℕ) (cause : Cause) → transcriptOutcome bytes ≡ Refused cause → transcriptVerdict bytes ≡ record { answer = answers.Refused cause; reads = 0 }
+  pub early : (bytes : List ℕ) (cause : Cause) → transcriptOutcome bytes ≡ Refused cause
+      → transcriptVerdict bytes ≡ record { answer = answers.Refused cause; reads = 0 }
   -- they carry lists where they are accepted or refused by a round check
   pub accepted : (bytes : List ℕ) → transcriptVerdict bytes .answer ≡ answers.Accepted → Carries bytes
-  pub refused : (bytes : List ℕ) (query round : ℕ) → transcriptVerdict bytes .answer ≡ answers.Refused (RoundCheckFails query round) → Carries bytes
+  pub refused : (bytes : List ℕ) (query round : ℕ)
+      → transcriptVerdict bytes .answer ≡ answers.Refused (RoundCheckFails query round) → Carries bytes
   -- the program's answer: the same, unless there are over 65,536 bytes (14)
   pub short : (bytes : List ℕ) → length bytes ≤ 65536 → inputVerdict bytes ≡ transcriptVerdict bytes
   pub long : (bytes : List ℕ) → 65536 < length bytes → Tells (inputVerdict bytes) 14 Absent Absent 0
   -- so what the program accepts the library accepts
-  pub program-accepted : (bytes : List ℕ) → inputVerdict bytes .answer ≡ answers.Accepted → transcriptVerdict bytes .answer ≡ answers.Accepted
+  pub program-accepted : (bytes : List ℕ) → inputVerdict bytes .answer ≡ answers.Accepted
+      → transcriptVerdict bytes .answer ≡ answers.Accepted
 
--- demand 3, first half: bytes that carry an honest run of a word of low degree over an independent basis, and a valid query list, are accepted,
--- whatever the offset and the challenges, and queries · r · 2^η entries are read
+-- demand 3, first half: bytes that carry an honest run of a word of low degree over an independent basis,
+-- and a valid query list, are accepted, whatever the offset and the challenges, and queries · r · 2^η entries are read
 abbrev pub TranscriptCompleteness : Type 0
 TranscriptCompleteness =
-    (bytes : List ℕ) → AreBytes bytes → Carries bytes → Independent (runIn bytes .basis) → LowDegree (runIn bytes) → runIn bytes ≡ honest (runIn bytes)
+    (bytes : List ℕ) → AreBytes bytes → Carries bytes → Independent (runIn bytes .basis) → LowDegree (runIn bytes)
+    → runIn bytes ≡ honest (runIn bytes)
     → ValidQueries (transcriptK bytes) (queriesIn bytes)
-    → transcriptVerdict bytes ≡ record { answer = answers.Accepted; reads = length (queriesIn bytes) * transcriptRounds bytes * 2 ^ transcriptStep bytes }
+    → transcriptVerdict bytes
+    ≡ record {
+      answer = answers.Accepted;
+      reads = length (queriesIn bytes) * transcriptRounds bytes * 2 ^ transcriptStep bytes;
+    }
 
 -- bytes from which this run is read
-abbrev pub OfRun : Run → List ℕ → Type 0
+abbrev pub OfRun : (sent : Run) (bytes : List ℕ) → Type 0
 OfRun sent bytes = AreBytes bytes × (runIn bytes ≡ sent)
 
 -- the accepted ones together visit every first-layer coset
-abbrev pub VisitedByTranscripts : Run → List (List ℕ) → Type 0
+abbrev pub VisitedByTranscripts : (sent : Run) (transcripts : List (List ℕ)) → Type 0
 VisitedByTranscripts sent transcripts =
     (coset : ℕ) → coset < 2 ^ (sent .k - run.stepIn sent 0)
-    → Any (λ bytes. (transcriptVerdict bytes .answer ≡ answers.Accepted) × Visits sent (queriesIn bytes) coset) transcripts
+    → Any (λ bytes. (transcriptVerdict bytes .answer ≡ answers.Accepted) × Visits sent (queriesIn bytes) coset)
+    transcripts
 
 -- demand 3, second half: one claim over any list of transcripts of the same layers from anybody
 abbrev pub TranscriptSoundness : Type 0
-TranscriptSoundness = (sent : Run) (transcripts : List (List ℕ)) → All (OfRun sent) transcripts → VisitedByTranscripts sent transcripts → Sound sent
+TranscriptSoundness =
+    (sent : Run) (transcripts : List (List ℕ)) → All (OfRun sent) transcripts → VisitedByTranscripts sent transcripts
+    → Sound sent
 
 -- no other numbers are given: over bytes 0 to 11, and 14 by the program
 pub record TranscriptNumbers : Type 0 where
