@@ -20,7 +20,8 @@ proved-is-accepted p offset basis challenges queries word store last outcome sto
     let honest = honest-proofs .proves run (h .coset) (h .input) (h .low) (h .store-fits) (h .last-fits) in (
       proved .outcome-is ∙ honest .0,
       v
-          ∙ ap₂ (λ (x y : List ℕ). verdictOf (runOf p offset basis challenges word x y) queries) (proved .store-is ∙ honest .1) (proved .last-is ∙ honest .2)
+          ∙ ap₂ (λ (x y : List ℕ). verdictOf (runOf p offset basis challenges word x y) queries)
+          (proved .store-is ∙ honest .1) (proved .last-is ∙ honest .2)
           ∙ completeness run queries (h .coset) (h .input) (h .low) (h .queries-valid),
     )
 
@@ -32,9 +33,11 @@ visited : (run : Run) (coset : ℕ) (judgings : List Judging) → All (Judged ru
     → Any (λ judging. (judging .verdict .answer ≡ answers.Accepted) × Visits run (judging .queries) coset) judgings
     → Any (λ queries. Accepted run queries × Visits run queries coset) (lists judgings)
 unfolding lists
-visited run coset (judging ∷ judgings) judged (inl (a, v)) = inl (sym (ap (λ (x : Verdict). x .answer) (judged .0)) ∙ a, v)
+visited run coset (judging ∷ judgings) judged (inl (a, v)) =
+    inl (sym (ap (λ (x : Verdict). x .answer) (judged .0)) ∙ a, v)
 visited run coset (judging ∷ judgings) judged (inr rest) = inr (visited run coset judgings (judged .1) rest)
 visited run coset [] judged none = none
 
 pub judged-soundness : JudgedSoundness
-judged-soundness run judgings e judged covers = soundness run (lists judgings) e (λ coset h. visited run coset judgings judged (covers coset h))
+judged-soundness run judgings e judged covers =
+    soundness run (lists judgings) e (λ coset h. visited run coset judgings judged (covers coset h))

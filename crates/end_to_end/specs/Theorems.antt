@@ -1,5 +1,6 @@
--- Demand 3, stated of what the functions return: an outcome, lists and verdicts that are what the contracts of `prove` and `judge` say they are. The
--- numbers of a call are 64-bit numbers, so that `Elements` holds of its run. proofs/Theorems.antt has the values; `prove_and_judge` calls both functions.
+-- Demand 3, stated of what the functions return: an outcome, lists and verdicts that are what the contracts of
+-- `prove` and `judge` say they are. The numbers of a call are 64-bit numbers, so that `Elements` holds of its run.
+-- proofs/Theorems.antt has the values; `prove_and_judge` calls both functions.
 use mathlib.Core.Path.{_≡_}
 use mathlib.Core.List.{List}
 use Prim.Native.Nat.{ℕ, _*_, _-_, _^_, _<_}
@@ -27,7 +28,7 @@ pub record Honest (run : Run) (queries : List ℕ) : Type 0 where
   pub queries-valid : ValidQueries (run .k) queries
 
 -- accepted, with queries · r · 2^η entries read
-abbrev pub accepted : Run → List ℕ → Verdict
+abbrev pub accepted : (run : Run) (queries : List ℕ) → Verdict
 accepted run queries = record { answer = answers.Accepted; reads = length queries * roundsIn run * 2 ^ run .step }
 
 -- the contract of `prove`: what it returns, and what it leaves in the two lent lists
@@ -39,7 +40,8 @@ pub record Proved (run : Run) (outcome : Outcome) (store last : List ℕ) : Type
 -- demand 3, first half: what `prove` leaves of a word of low degree is accepted by `judge`
 abbrev pub ProvedIsAccepted : Type 0
 ProvedIsAccepted =
-    (p : Parameters) (offset : ℕ) (basis challenges queries word store last : List ℕ) (outcome : Outcome) (store′ last′ : List ℕ) (verdict : Verdict)
+    (p : Parameters) (offset : ℕ) (basis challenges queries word store last : List ℕ) (outcome : Outcome)
+    (store′ last′ : List ℕ) (verdict : Verdict)
     → Honest (runOf p offset basis challenges word store last) queries
     → Proved (runOf p offset basis challenges word store last) outcome store′ last′
     → verdict ≡ verdictOf (runOf p offset basis challenges word store′ last′) queries
@@ -51,15 +53,17 @@ pub record Judging : Type 0 where
   pub verdict : Verdict
 
 -- the contract of `judge`: the verdict is that of the definition
-abbrev pub Judged : Run → Judging → Type 0
+abbrev pub Judged : (run : Run) (judging : Judging) → Type 0
 Judged run judging = judging .verdict ≡ verdictOf run (judging .queries)
 
 -- the accepted ones together visit every first-layer coset
-abbrev pub VisitedByAccepted : Run → List Judging → Type 0
+abbrev pub VisitedByAccepted : (run : Run) (judgings : List Judging) → Type 0
 VisitedByAccepted run judgings =
     (coset : ℕ) → coset < 2 ^ (run .k - stepIn run 0)
     → Any (λ judging. (judging .verdict .answer ≡ answers.Accepted) × Visits run (judging .queries) coset) judgings
 
 -- demand 3, second half: one claim over any list of judgings of the same layers from anybody
 abbrev pub JudgedSoundness : Type 0
-JudgedSoundness = (run : Run) (judgings : List Judging) → Elements run → All (Judged run) judgings → VisitedByAccepted run judgings → Sound run
+JudgedSoundness =
+    (run : Run) (judgings : List Judging) → Elements run → All (Judged run) judgings → VisitedByAccepted run judgings
+    → Sound run
