@@ -20,7 +20,7 @@ use Rattle.transcript.proofs.Sections.{start-next, start-below}
 use Rattle.transcript.proofs.Carried.{layer-is, checks-are}
 use Rattle.sections.specs.Views.{parametersIn}
 use Rattle.byte_rounds.specs.Layers.{sentIn, layerAt, LaidOut}
-use Rattle.byte_rounds.proofs.Lying.{at-first, at-next}
+use Rattle.byte_rounds.proofs.LayerPlaces.{at-first, at-next}
 
 module _ (bytes : List ℕ) (c : Carries bytes) where
   abbrev r : ℕ

@@ -1,4 +1,5 @@
-// The round checks of a run whose layers lie in the bytes of a transcript. A coset's entries are read from the bytes as they are needed.
+// The round checks of a run whose layers lie in the bytes of a transcript. A coset's entries are read from the bytes as
+// they are needed.
 use field::Element;
 use fri::Answer;
 use fri::Verdict;
@@ -7,20 +8,19 @@ use refusal::Cause;
 use round_checks::QueryPoint;
 use round_checks::Round;
 ghost use mathlib.Core.Path.{_≡_};
-ghost use mathlib.Core.Bool.{cond};
-ghost use Prim.Native.Nat.{_+_, _*_, _/_, _^_, _≤_};
+ghost use Prim.Native.Nat.{_+_, _*_, _^_, _≤_};
 ghost use lib.ListN.{length};
-ghost use Rattle.poly.specs.Carrier.{gf64};
-ghost use Rattle.poly.specs.Polynomial.{evaluate};
 ghost use Rattle.refusal.specs.declared.Outcome.the-variants as outcomes;
 ghost use Rattle.fri.specs.Layout.{dimension};
+ghost use Rattle.fri.specs.Run.{Run};
 ghost use Rattle.fri.specs.Judge.{checksOutcome, verdictOf};
 ghost use Rattle.layout.specs.Parameters.{stepsBy, Valid};
 ghost use Rattle.round_checks.specs.Rounds.{valueFolded};
-ghost use Rattle.transcript.specs.Numerals.{entryAt, entriesAt};
-ghost use Rattle.byte_rounds.specs.Layers.{sentIn, LaidOut};
+ghost use Rattle.transcript.specs.Numerals.{entriesAt};
+ghost use Rattle.byte_rounds.specs.Layers.{sentIn, LaidOut, partAt, valueReadAt};
 
-// The round checks, lowest query first, then lowest round, up to the first that fails; the entries of layer 0 begin at `begin`.
+// The round checks, lowest query first, then lowest round, up to the first that fails; the entries of layer 0 begin at
+// `begin`.
 pub fn judge_rounds(
     parameters: Parameters,
     offset: Element,
@@ -31,9 +31,11 @@ pub fn judge_rounds(
     begin: usize,
     last: &[u64],
 ) -> Verdict
-    requires { ⌜ (checksOutcome (sentIn parameters (offset .0) (now basis) (now challenges) (now bytes) (now last)) (now queries) ≡ outcomes.Done)
-        × LaidOut (now bytes) begin (sentIn parameters (offset .0) (now basis) (now challenges) (now bytes) (now last)) ⌝ }
-    ensures { λ r. ⌜ r ≡ verdictOf (sentIn parameters (offset .0) (now (basis .entry)) (now (challenges .entry)) (now (bytes .entry)) (now (last .entry))) (now (queries .entry)) ⌝ }
+    ghost { Run }
+    requires { λ run. ⌜ sentIn parameters (offset .0) (now basis) (now challenges) (now bytes) (now last) ≡ run ⌝ }
+    requires { λ run. ⌜ checksOutcome run (now queries) ≡ outcomes.Done ⌝ }
+    requires { λ run. ⌜ LaidOut (now bytes) begin run ⌝ }
+    ensures { λ run r. ⌜ r ≡ verdictOf run (now (queries .entry)) ⌝ }
 {
     let count = parameters.rounds();
     let table = round_checks::set_up(parameters, basis, challenges);
@@ -74,9 +76,10 @@ pub fn judge_rounds(
     }
 }
 
-// Where the entries of the next layer begin, after those of layer i, which begin there, and a count.
+// Where the entries of the next layer begin, after those of layer i, which begin there, and a count. No layer begins
+// after 2^42: see LaidOut.
 fn after_layer(parameters: Parameters, at: usize, i: usize) -> usize
-    requires { ⌜ Valid parameters × (i ≤ length (stepsBy parameters)) × (at ≤ 1099511627776) ⌝ }
+    requires { ⌜ Valid parameters × (i ≤ length (stepsBy parameters)) × (at ≤ 2 ^ 42) ⌝ }
     ensures { λ r. ⌜ r ≡ at + 8 * 2 ^ dimension (parameters .k) (stepsBy parameters) i + 4 ⌝ }
 {
     let size: usize = 1 << parameters.dimension(i);
@@ -85,8 +88,8 @@ fn after_layer(parameters: Parameters, at: usize, i: usize) -> usize
 
 // The fold, at the round's challenge, of the coset that holds the query's index, in a layer whose entries begin there.
 fn computed(bytes: &[u8], at: usize, step: usize, round: Round, here: QueryPoint) -> Element
-    requires { ⌜ (1 ≤ step) × (step ≤ 3) × (at ≤ 1099511627776) × (here .index ≤ 1048576) ⌝ }
-    ensures { λ r. ⌜ r .0 ≡ valueFolded step round here (entriesAt (now (bytes .entry)) (at + 8 * (here .index / 2 ^ step * 2 ^ step)) (2 ^ step)) ⌝ }
+    requires { ⌜ (1 ≤ step) × (step ≤ 3) × (at ≤ 2 ^ 42) × (here .index ≤ 2 ^ 20) ⌝ }
+    ensures { λ r. ⌜ r .0 ≡ valueFolded step round here (partAt (now (bytes .entry)) at step here) ⌝ }
 {
     let size = 1 << step;
     let begin = here.index / size * size;
@@ -103,17 +106,18 @@ fn folded(
     here: QueryPoint,
     part: &mut [u64],
 ) -> Element
-    requires { ⌜ (1 ≤ step) × (step ≤ 3) × (length (now part) ≡ 2 ^ step) × (at ≤ 2199023255552) ⌝ }
+    requires { ⌜ (1 ≤ step) × (step ≤ 3) × (length (now part) ≡ 2 ^ step) × (at ≤ 2 ^ 43) ⌝ }
     ensures { λ r. ⌜ r .0 ≡ valueFolded step round here (entriesAt (now (bytes .entry)) at (2 ^ step)) ⌝ }
 {
     entries::read(bytes, at, part);
     round.folded(step, here, &part[..])
 }
 
-// The value that the fold must equal: an entry of the next layer, whose entries begin there, or, in the last round, the last polynomial's.
+// The value that the fold must equal: an entry of the next layer, whose entries begin there, or, in the last round, the
+// last polynomial's.
 fn found(bytes: &[u8], at: usize, stored: bool, next: QueryPoint, last: &[u64]) -> Element
-    requires { ⌜ (at ≤ 1099511627776) × (next .index ≤ 1048576) ⌝ }
-    ensures { λ r. ⌜ r .0 ≡ cond stored (entryAt (now (bytes .entry)) (at + 8 * next .index)) (evaluate gf64 (now (last .entry)) (next .point .0)) ⌝ }
+    requires { ⌜ (at ≤ 2 ^ 42) × (next .index ≤ 2 ^ 20) ⌝ }
+    ensures { λ r. ⌜ r .0 ≡ valueReadAt (now (bytes .entry)) at stored next (now (last .entry)) ⌝ }
 {
     if stored {
         Element(entries::entry_at(bytes, at + 8 * next.index))

@@ -1,4 +1,5 @@
-// The judge over lists: all checks in order, then the round checks query by query, and the verdict with the entries read.
+// The judge over lists: all checks in order, then the round checks query by query, and the verdict with the entries
+// read.
 use field::Element;
 use fri::Answer;
 use fri::Verdict;
@@ -9,14 +10,15 @@ use refusal::Position;
 use round_checks::QueryPoint;
 ghost use mathlib.Core.Path.{_≡_};
 ghost use Prim.Native.Nat.{_≤_};
+ghost use Rattle.fri.specs.Run.{Run};
 ghost use Rattle.fri.specs.Checks.{queriesOutcome};
 ghost use Rattle.fri.specs.Judge.{checksOutcome, verdictOf};
 ghost use Rattle.layout.specs.Parameters.{runOf};
 ghost use Rattle.refusal.specs.declared.Outcome.the-variants as outcomes;
 
-// The verdict on a run, with the entries read. Refused, in this order: parameters (4, 5, 6, 7), the lowest list whose length is not the
-// one due (13), a dependent basis (8), a dependent one of a later layer (16), the number of queries (9), a query out of range (10), and
-// the first round check that fails (11).
+// The verdict on a run, with the entries read. Refused, in this order: parameters (4, 5, 6, 7), the lowest list whose
+// length is not the one due (13), a dependent basis (8), a dependent one of a later layer (16), the number of queries
+// (9), a query out of range (10), and the first round check that fails (11).
 pub fn judge(
     parameters: Parameters,
     offset: Element,
@@ -27,7 +29,10 @@ pub fn judge(
     store: &[u64],
     last: &[u64],
 ) -> Verdict
-    ensures { λ r. ⌜ r ≡ verdictOf (runOf parameters (offset .0) (now (basis .entry)) (now (challenges .entry)) (now (word .entry)) (now (store .entry)) (now (last .entry))) (now (queries .entry)) ⌝ }
+    ensures { λ r.
+        let run = runOf parameters (offset .0) (now (basis .entry)) (now (challenges .entry)) (now (word .entry))
+        (now (store .entry)) (now (last .entry)) in
+        ⌜ r ≡ verdictOf run (now (queries .entry)) ⌝ }
 {
     let outcome = checked(
         parameters,
@@ -68,7 +73,10 @@ fn checked(
     store: &[u64],
     last: &[u64],
 ) -> Outcome
-    ensures { λ r. ⌜ r ≡ checksOutcome (runOf parameters (offset .0) (now (basis .entry)) (now (challenges .entry)) (now (word .entry)) (now (store .entry)) (now (last .entry))) (now (queries .entry)) ⌝ }
+    ensures { λ r.
+        let run = runOf parameters (offset .0) (now (basis .entry)) (now (challenges .entry)) (now (word .entry))
+        (now (store .entry)) (now (last .entry)) in
+        ⌜ r ≡ checksOutcome run (now (queries .entry)) ⌝ }
 {
     let outcome = run_checks::checked(parameters, offset, basis, challenges, word, store, last);
     match outcome {
@@ -103,8 +111,11 @@ fn judge_checked(
     store: &[u64],
     last: &[u64],
 ) -> Verdict
-    requires { ⌜ checksOutcome (runOf parameters (offset .0) (now basis) (now challenges) (now word) (now store) (now last)) (now queries) ≡ outcomes.Done ⌝ }
-    ensures { λ r. ⌜ r ≡ verdictOf (runOf parameters (offset .0) (now (basis .entry)) (now (challenges .entry)) (now (word .entry)) (now (store .entry)) (now (last .entry))) (now (queries .entry)) ⌝ }
+    ghost { Run }
+    requires { λ run.
+        ⌜ runOf parameters (offset .0) (now basis) (now challenges) (now word) (now store) (now last) ≡ run ⌝ }
+    requires { λ run. ⌜ checksOutcome run (now queries) ≡ outcomes.Done ⌝ }
+    ensures { λ run r. ⌜ r ≡ verdictOf run (now (queries .entry)) ⌝ }
 {
     let count = parameters.rounds();
     let table = round_checks::set_up(parameters, basis, challenges);

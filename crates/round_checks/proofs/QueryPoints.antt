@@ -1,4 +1,5 @@
--- A coset that is met at one of its indices: its first point, its fold, and the point of the next layer. Assumes nothing.
+-- A coset that is met at one of its indices: its first point, its fold, and the point of the next layer. Assumes
+-- nothing.
 use mathlib.Core.Path.{_≡_, refl, sym, ap, ap₂, _∙_, subst}
 use mathlib.Core.List.{List, map}
 use Prim.Native.Nat.{ℕ, _-_, _/_, _%_, _^_, _≤_, _<_}
@@ -30,7 +31,8 @@ use Rattle.round_checks.specs.Rounds.{roundOver, queryPointAt, nextQuery
 sum-back : (a b : ℕ) → sum (sum a b) b ≡ a
 sum-back a b = xor-assoc a b b ∙ ap (bitXor a) (xor-self b) ∙ xor-zero-r a
 
-module _ (step offset : ℕ) (basis word : List ℕ) (w : IsWord offset basis word) (fits : step ≤ length basis) (index : ℕ) (inside : index < 2 ^ length basis) where
+module _ (step offset : ℕ) (basis word : List ℕ) (w : IsWord offset basis word) (fits : step ≤ length basis)
+    (index : ℕ) (inside : index < 2 ^ length basis) where
   abbrev coset : ℕ
   coset = index / 2 ^ step
 
@@ -44,18 +46,23 @@ module _ (step offset : ℕ) (basis word : List ℕ) (w : IsWord offset basis wo
   between-small = mod-lt index (pow-pos step)
 
   pub coset-inside : coset < 2 ^ (length basis - step)
-  coset-inside = div-lt-iff-lt-mul {k = 2 ^ step} {x = index} {y = 2 ^ (length basis - step)} (pow-pos step) .1 (subst (λ (n : ℕ). index < n) (sym (cosets-of step (length basis) fits)) inside)
+  coset-inside =
+      div-lt-iff-lt-mul {k = 2 ^ step} {x = index} {y = 2 ^ (length basis - step)} (pow-pos step) .1
+      (subst (λ (n : ℕ). index < n) (sym (cosets-of step (length basis) fits)) inside)
 
   span-at : getD (padded gf64 8 span) between 0 ≡ point 0 (take step basis) between
   span-at =
       getD-padded 8 span between
-      ∙ getD-points 0 (take step basis) between (subst (λ (n : ℕ). between < 2 ^ n) (sym (length-take-le step basis fits)) between-small)
+      ∙ getD-points 0 (take step basis) between
+      (subst (λ (n : ℕ). between < 2 ^ n) (sym (length-take-le step basis fits)) between-small)
 
   -- the coset's first point is the point at the index plus the span's element between the two
-  first-point : sum (point offset basis index) (getD (padded gf64 8 span) between 0) ≡ point offset (drop step basis) coset
+  first-point : sum (point offset basis index) (getD (padded gf64 8 span) between 0)
+      ≡ point offset (drop step basis) coset
   first-point =
       ap₂ sum
-      (ap (point offset basis) (sym (div-add-mod' index (2 ^ step))) ∙ point-parted step offset basis coset between between-small fits
+      (ap (point offset basis) (sym (div-add-mod' index (2 ^ step)))
+      ∙ point-parted step offset basis coset between between-small fits
       ∙ point-shifted (point offset (drop step basis) coset) (take step basis) between)
       span-at
       ∙ sum-back (point offset (drop step basis) coset) (point 0 (take step basis) between)
@@ -71,10 +78,14 @@ module _ (step offset : ℕ) (basis word : List ℕ) (w : IsWord offset basis wo
       ∙ ap (λ (p : ℕ). valueAt (map inverse (stepElements step basis)) (map (sum (sum x p)) span) (cosetEntries step word coset)) first-point
       ∙ entry-of-moved step offset basis word x w hx fits coset coset-inside
 
-  pub query-point-next : nextQueryPoint step (padded gf64 3 (stepElements step basis)) (queryPointAt offset basis index) ≡ queryPointAt (nextOffset step offset basis) (nextBasis step basis) coset
+  pub query-point-next : nextQueryPoint step (padded gf64 3 (stepElements step basis)) (queryPointAt offset basis index)
+      ≡ queryPointAt (nextOffset step offset basis) (nextBasis step basis) coset
   query-point-next =
       ap {B = QueryPoint} (λ (p : ℕ). record { index = coset; point = record { 0 = p } })
-      (ap (λ (es : List ℕ). composedMaps es (point offset basis index)) (elements-taken step basis (padded gf64 3 (stepElements step basis)) fits refl)
-      ∙ sym (image-through step basis (point offset basis index) (point-element offset basis index (w .offset-element) (w .basis-elements)))
+      (ap (λ (es : List ℕ). composedMaps es (point offset basis index))
+      (elements-taken step basis (padded gf64 3 (stepElements step basis)) fits refl)
+      ∙ sym
+      (image-through step basis (point offset basis index)
+      (point-element offset basis index (w .offset-element) (w .basis-elements)))
       ∙ ap (λ (n : ℕ). image step basis (point offset basis n)) (sym (div-add-mod' index (2 ^ step)))
       ∙ image-of-coset step offset basis coset between (w .offset-element) (w .basis-elements) between-small)

@@ -15,22 +15,35 @@ use Rattle.coset.specs.Coset.{points}
 use Rattle.coset.specs.Steps.{stepElements}
 use Rattle.fri.specs.Layout.{layerStart}
 use Rattle.round_checks.specs.declared.Round.{Round}
-use Rattle.round_checks.specs.Rounds.{noRound, roundOver}
+use Rattle.round_checks.specs.Rounds.{noRound, roundOver, Holds}
+
+-- a round with these three lists, as the code makes it
+abbrev roundWith : (elements inverses span : List ℕ) (challenge start next : ℕ) → Round
+roundWith elements inverses span challenge start next =
+    record {
+      elements = elements;
+      inverses = inverses;
+      span = span;
+      challenge = record { 0 = challenge };
+      start = start;
+      next = next;
+    }
 
 pub round-equal : (step : ℕ) (basis : List ℕ) (challenge start next : ℕ) (elements inverses span : List ℕ)
-    → elements ≡ padded gf64 3 (stepElements step basis) → inverses ≡ padded gf64 3 (map inverse (stepElements step basis)) → span ≡ padded gf64 8 (points 0 (take step basis))
-    → _≡_ {A = Round} (record { elements = elements; inverses = inverses; span = span; challenge = record { 0 = challenge }; start = start; next = next })
-    (roundOver step basis challenge start next)
+    → elements ≡ padded gf64 3 (stepElements step basis)
+    → inverses ≡ padded gf64 3 (map inverse (stepElements step basis))
+    → span ≡ padded gf64 8 (points 0 (take step basis))
+    → roundWith elements inverses span challenge start next ≡ roundOver step basis challenge start next
 round-equal step basis challenge start next elements inverses span e i s =
-    ap₂ (λ (es is : List ℕ). record { elements = es; inverses = is; span = span; challenge = record { 0 = challenge }; start = start; next = next }) e i
-    ∙ ap (λ (l : List ℕ). record { elements = padded gf64 3 (stepElements step basis); inverses = padded gf64 3 (map inverse (stepElements step basis)); span = l; challenge = record { 0 = challenge }; start = start; next = next }) s
+    ap₂ (λ (es is : List ℕ). roundWith es is span challenge start next) e i
+    ∙ ap
+    (λ (l : List ℕ).
+    roundWith (padded gf64 3 (stepElements step basis)) (padded gf64 3 (map inverse (stepElements step basis))) l
+    challenge start next)
+    s
 
--- the first n rounds stand in the table
-abbrev pub Holds : List Round → (ℕ → Round) → ℕ → Type 0
-Holds table round n = (i : ℕ) → i < n → getD table i noRound ≡ round i
-
-pub holds-next : (table : List Round) (round : ℕ → Round) (n : ℕ) (value : Round) → n < length table → Holds table round n → value ≡ round n
-    → Holds (set table n value) round (n + 1)
+pub holds-next : (table : List Round) (round : ℕ → Round) (n : ℕ) (value : Round) → n < length table
+    → Holds table round n → value ≡ round n → Holds (set table n value) round (n + 1)
 holds-next table round n value h held e i l = by (eq-or-lt-of-le at-most)
   where
     at-most : i ≤ n
@@ -38,7 +51,10 @@ holds-next table round n value h held e i l = by (eq-or-lt-of-le at-most)
 
     by : (i ≡ n) ⊎ (i < n) → getD (set table n value) i noRound ≡ round i
     by (inl same) =
-        ap (λ (m : ℕ). getD (set table n value) m noRound) same ∙ getD-set-same table n value noRound h ∙ e ∙ ap round (sym same)
+        ap (λ (m : ℕ). getD (set table n value) m noRound) same
+        ∙ getD-set-same table n value noRound h
+        ∙ e
+        ∙ ap round (sym same)
     by (inr before) = getD-set-other table n i value noRound (λ same. omega arith) ∙ held i before
 
 pub start-of-word : (k : ℕ) (steps : List ℕ) → 0 ≡ layerStart k steps 0

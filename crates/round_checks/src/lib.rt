@@ -1,22 +1,23 @@
-// What the judge over lists and the one over bytes have in common: what is computed once for each round, before the queries, a query's index and point
-// in a layer, the first query out of range, and the cosets that a query has read.
+// What the judge over lists and the one over bytes have in common: what is computed once for each round, before the
+// queries, a query's index and point in a layer, the first query out of range, and the cosets that a query has read.
 use coset_value::Coset;
 use field::Element;
 use layer_cosets::LayerCoset;
 use layout::Parameters;
 use refusal::Position;
 ghost use mathlib.Core.Path.{_≡_};
-ghost use mathlib.Core.Bool.{true, false};
-ghost use Prim.Native.Nat.{ℕ, _+_, _*_, _/_, _^_, _≤_, _<_, min};
-ghost use lib.ListN.{length, getD};
+ghost use mathlib.Core.Bool.{true};
+ghost use Prim.Native.Nat.{_+_, _^_, _≤_, _<_, min};
+ghost use lib.ListN.{length};
 ghost use Rattle.fri.specs.Checks.{firstOutside};
-ghost use Rattle.fri.specs.Layout.{dimension};
 ghost use Rattle.layout.specs.Parameters.{stepsBy, Valid};
 ghost use Rattle.layer_cosets.specs.Cosets.{basisOf};
-ghost use Rattle.round_checks.specs.Rounds.{noRound, roundOver, roundAt, queryPointAt, nextQueryPoint, valueFolded, partRead, valueRead};
+ghost use Rattle.round_checks.specs.Rounds.{roundOver, roundAt, Holds, queryPointAt, nextQueryPoint};
+ghost use Rattle.round_checks.specs.Rounds.{valueFolded, partRead, PartWithin, valueRead};
 
-// A round: the elements of its step's maps, their inverses, the span of the step's basis elements in point order, the challenge, and where
-// its layer and the next one begin in the store: the word, layer 0, is not there, and where layer r would begin the store ends.
+// A round: the elements of its step's maps, their inverses, the span of the step's basis elements in point order, the
+// challenge, and where its layer and the next one begin in the store: the word, layer 0, is not there, and where
+// layer r would begin the store ends.
 pub struct Round {
     pub elements: [u64; 3],
     pub inverses: [u64; 3],
@@ -34,8 +35,11 @@ pub struct QueryPoint {
 
 // All rounds. What is inverted is inverted here, before the queries: the elements of each round's maps.
 pub fn set_up(parameters: Parameters, basis: &[u64], challenges: &[u64]) -> [Round; 19]
-    requires { ⌜ Valid parameters × (length (now basis) ≡ parameters .k) × (length (now challenges) ≡ length (stepsBy parameters)) ⌝ }
-    ensures { λ r. ⌜ ((i : ℕ) → i < length (stepsBy parameters) → getD r i noRound ≡ roundAt parameters (now (basis .entry)) (now (challenges .entry)) i) ⌝ }
+    requires { ⌜ Valid parameters × (length (now basis) ≡ parameters .k)
+        × (length (now challenges) ≡ length (stepsBy parameters)) ⌝ }
+    ensures { λ r.
+        let round = roundAt parameters (now (basis .entry)) (now (challenges .entry)) in
+        ⌜ Holds r round (length (stepsBy parameters)) ⌝ }
 {
     let count = parameters.rounds();
     let none = Round {
@@ -78,7 +82,8 @@ impl Round {
         }
     }
 
-    // The fold, at the challenge, of the coset that holds the query's index; in the first round it is one of the word, later one of the store.
+    // The fold, at the challenge, of the coset that holds the query's index; in the first round it is one of the word,
+    // later one of the store.
     pub fn computed(
         self,
         step: usize,
@@ -87,9 +92,10 @@ impl Round {
         word: &[u64],
         store: &[u64],
     ) -> Element
-        requires { ⌜ (1 ≤ step) × (step ≤ 3) × (first ≡ true → here .index / 2 ^ step * 2 ^ step + 2 ^ step ≤ length (now word))
-            × (first ≡ false → self .start + here .index / 2 ^ step * 2 ^ step + 2 ^ step ≤ length (now store)) ⌝ }
-        ensures { λ r. ⌜ r .0 ≡ valueFolded step self here (partRead step self here first (now (word .entry)) (now (store .entry))) ⌝ }
+        requires { ⌜ (1 ≤ step) × (step ≤ 3) × PartWithin step self here first (now word) (now store) ⌝ }
+        ensures { λ r.
+            let part = partRead step self here first (now (word .entry)) (now (store .entry)) in
+            ⌜ r .0 ≡ valueFolded step self here part ⌝ }
     {
         let size = 1 << step;
         let begin = here.index / size * size;
@@ -118,7 +124,8 @@ impl Round {
         coset.value_at(&inverses[..step])
     }
 
-    // The value that the fold must equal: an entry of the next layer, where that is stored, or, in the last round, the last polynomial's.
+    // The value that the fold must equal: an entry of the next layer, where that is stored, or, in the last round, the
+    // last polynomial's.
     pub fn found(self, next: QueryPoint, stored: bool, store: &[u64], last: &[u64]) -> Element
         requires { ⌜ (stored ≡ true → self .next + next .index < length (now store)) ⌝ }
         ensures { λ r. ⌜ r .0 ≡ valueRead self next stored (now (store .entry)) (now (last .entry)) ⌝ }
@@ -170,8 +177,8 @@ pub fn first_outside(size: usize, queries: &[u64]) -> Position
     Position::Absent
 }
 
-// Where `count` is r: how many cosets a query has read when the check of round i fails, those up to round i and, for the value found, the next one,
-// if there is one.
+// Where `count` is r: how many cosets a query has read when the check of round i fails, those up to round i and, for
+// the value found, the next one, if there is one.
 pub fn read_until(i: usize, count: usize) -> usize
     requires { ⌜ i < count ⌝ }
     ensures { λ r. ⌜ r ≡ min (i + 2) count ⌝ }

@@ -1,4 +1,4 @@
--- `byte_judge::after_layer` meets its contract. Assumes nothing.
+-- `byte_rounds::after_layer` meets its contract. Assumes nothing.
 use mathlib.Core.Path.{_≡_, ap, _∙_}
 use Prim.Native.Nat.{ℕ, _+_, _*_, _%_, _^_, _≤_}
 use Rattle.layout.specs.Parameters.{stepsBy}
@@ -19,21 +19,24 @@ size-is : (c : tie.After-dimension) → SizeIs c
 size-is c =
     let start = c .before in
     let few = dimension-most (start .args .parameters) (start .pre .0) (start .args .i) in
-    size-shifted (c .dimension .result) (omega (arith, c .dimension .ensures, few)) ∙ ap (λ (n : ℕ). 2 ^ n) (c .dimension .ensures)
+    size-shifted (c .dimension .result) (omega (arith, c .dimension .ensures, few))
+    ∙ ap (λ (n : ℕ). 2 ^ n) (c .dimension .ensures)
 
 abbrev SizeSmall : tie.After-dimension → Type 0
-SizeSmall c = 1 * 2 ^ c .dimension .result % 2 ^ 64 ≤ 1048576
+SizeSmall c = 1 * 2 ^ c .dimension .result % 2 ^ 64 ≤ 2 ^ 20
 
 size-small : (c : tie.After-dimension) → SizeSmall c
 size-small c =
-    let a = c .before .args in
-    omega (arith, size-is c, layer-small (a .parameters .k) (stepsBy (a .parameters)) (a .i) (c .before .pre .0 .k-most))
+    let p = c .before .args .parameters in
+    omega (arith, size-is c, layer-small (p .k) (stepsBy p) (c .before .args .i) (c .before .pre .0 .k-most))
 
 dimension-requires : tie.Need-dimension-requires
 dimension-requires c κs = search needs
 
 shl-size : tie.Need-shl-size
-shl-size c = let start = c .before in omega (arith, c .dimension .ensures, dimension-most (start .args .parameters) (start .pre .0) (start .args .i))
+shl-size c =
+    let start = c .before in
+    omega (arith, c .dimension .ensures, dimension-most (start .args .parameters) (start .pre .0) (start .args .i))
 
 mul-result : tie.Need-mul-result
 mul-result c = omega (arith, size-small c)

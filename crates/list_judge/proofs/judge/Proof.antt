@@ -29,9 +29,13 @@ returns c = c .judge-checked .ensures
 
 returns-2 : tie.Need-returns-2
 returns-2 c =
-    let a = c .before .before .before .before .before .before .before .before .before .before .args in
-    let run = runOf (a .parameters) (a .offset .0) (a .basis .now) (a .challenges .now) (a .word .now) (a .store .now) (a .last .now) in
-    let told = refused-early run (a .queries .now) (c .before .outcome .given .0 .0) (sym (c .before .before .before .checked .ensures) ∙ c .before .outcome .given .1) in
+    let checked = c .before .before .before in
+    let a = checked .before .before .before .before .before .before .before .args in
+    let run =
+    runOf (a .parameters) (a .offset .0) (a .basis .now) (a .challenges .now) (a .word .now) (a .store .now)
+    (a .last .now) in
+    let refusal = c .before .outcome .given in
+    let told = refused-early run (a .queries .now) (refusal .0 .0) (sym (checked .checked .ensures) ∙ refusal .1) in
     ap₂ {C = Verdict} (λ (x : Answer) (n : ℕ). record { answer = x; reads = n }) (sym (told .0)) (sym (told .1))
 
 pub judge-spec : {M : Type 1} → statement M

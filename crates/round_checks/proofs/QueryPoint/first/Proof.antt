@@ -10,7 +10,9 @@ point-requires : tie.Need-point-requires
 point-requires c κs = search needs
 
 returns : tie.Need-returns
-returns c = ap {B = QueryPoint} (λ (x : ℕ). record { index = c .before .before .args .index; point = record { 0 = x } }) (c .point .ensures)
+returns c =
+    let a = c .before .before .args in
+    ap {B = QueryPoint} (λ (x : ℕ). record { index = a .index; point = record { 0 = x } }) (c .point .ensures)
 
 pub first-spec : {M : Type 1} → statement M
 first-spec = tie.close (tie.spec point-requires returns)

@@ -9,26 +9,28 @@ use native.Mathlib.Omega.{arith}
 use Rattle.round_checks.proofs.QueryPoint.next.Statement.{statement}
 use Rattle.round_checks.proofs.QueryPoint.next.Tie as tie
 
+three : (start : tie.Start) → length (start .args .round .elements) ≡ 3
+three start = search needs
+
 shr-t5 : tie.Need-shr-t5
 shr-t5 c = search needs
 
 array-share-prefix-elements : tie.Need-array-share-prefix-elements
-array-share-prefix-elements c =
-    let start = c .before .before in
-    let three : length (start .args .round .elements) ≡ 3 = search needs in
-    omega (arith, three, start .pre)
+array-share-prefix-elements c = let start = c .before .before in omega (arith, three start, start .pre)
 
 slice-aggregate-composed-maps : tie.Need-slice-aggregate-composed-maps
 slice-aggregate-composed-maps c =
     let start = c .before .before .before in
-    let three : length (start .args .round .elements) ≡ 3 = search needs in
-    sym (length-take-le (start .args .step) (start .args .round .elements) (omega (arith, three, start .pre)))
+    sym (length-take-le (start .args .step) (start .args .round .elements) (omega (arith, three start, start .pre)))
 
 composed-maps-requires : tie.Need-composed-maps-requires
 composed-maps-requires c κs = search needs
 
 returns : tie.Need-returns
-returns c = ap {B = QueryPoint} (λ (x : ℕ). record { index = c .before .before .before .before .args .self .index / 2 ^ c .before .before .before .before .args .step; point = record { 0 = x } }) (c .composed-maps .ensures)
+returns c =
+    let a = c .before .before .before .before .args in
+    ap {B = QueryPoint} (λ (x : ℕ). record { index = a .self .index / 2 ^ a .step; point = record { 0 = x } })
+    (c .composed-maps .ensures)
 
 pub next-spec : {M : Type 1} → statement M
 next-spec =
