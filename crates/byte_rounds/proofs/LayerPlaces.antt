@@ -96,6 +96,13 @@ pub record AtLayer (run : Run) (queries : List ℕ) (count : ℕ) (table : List 
   pub laid : LaidOut bytes begin run
   pub at-is : at ≡ placeOf run begin i
 
+pub first-layer : {run : Run} {queries : List ℕ} {count : ℕ} {table : List Round} {bytes : List ℕ}
+    {begin cosets query : ℕ} {here : QueryPoint} → LaidOut bytes begin run
+    → BeforeRound run queries count table cosets query 0 here
+    → AtLayer run queries count table bytes begin cosets query 0 here begin
+first-layer {run} {begin = begin} laid r =
+    record { before-round = r; laid = laid; at-is = at-first (run .k) (stepsIn run) begin }
+
 module _ {run : Run} {queries : List ℕ} {count : ℕ} {table : List Round} {bytes : List ℕ}
     {begin cosets query i at : ℕ} {here : QueryPoint}
     (r : AtLayer run queries count table bytes begin cosets query i here at) (within : i < count) where

@@ -30,9 +30,9 @@ use Rattle.fri.proofs.Verdicts.{checks-valid, accepted-verdict, refused-by, rea
 use Rattle.layout.proofs.Sizes.{few-rounds}
 use Rattle.round_checks.specs.declared.Round.{Round}
 use Rattle.round_checks.specs.declared.QueryPoint.{QueryPoint}
-use Rattle.round_checks.specs.Rounds.{noRound, Holds, nextQueryPoint}
+use Rattle.round_checks.specs.Rounds.{noRound, Holds, queryPointAt, nextQueryPoint}
 use Rattle.round_checks.specs.Rounds.{valueFolded, partRead, PartWithin, valueRead}
-use Rattle.round_checks.proofs.Runs.{Checked, parametersOf, roundIn, queryPointOf}
+use Rattle.round_checks.proofs.Runs.{Checked, parametersOf, roundIn, queryPointOf, query-point-first}
 use Rattle.round_checks.proofs.Runs.{next-query-point, part-within, found-within, computed-is, found-is}
 
 -- the checks before the round checks tell what the judge must know
@@ -126,7 +126,8 @@ module _ {run : Run} {queries : List ℕ} {count : ℕ} {table : List Round} whe
         mul-le-mul (le-trans (q .query-most) (queries-are (q .prepared) .most)) few in
         omega (arith, q .cosets-are)
 
-    pub first-round : {here : QueryPoint} → query < length queries → here ≡ queryPointOf run (getD queries query 0) 0
+    pub first-round : {here : QueryPoint} → query < length queries
+        → here ≡ queryPointAt (run .offset) (run .basis) (getD queries query 0)
         → BeforeRound run queries count table cosets query 0 here
     first-round h e =
         record {
@@ -134,7 +135,7 @@ module _ {run : Run} {queries : List ℕ} {count : ℕ} {table : List Round} whe
           query-within = h;
           round-most = omega arith;
           rounds-passed = λ n l. absurd (omega arith);
-          here-is = e;
+          here-is = e ∙ query-point-first run (getD queries query 0);
         }
 
     -- no query is left

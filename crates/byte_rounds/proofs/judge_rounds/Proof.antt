@@ -1,19 +1,18 @@
 -- `byte_rounds::judge_rounds` meets its contract. What holds before a query is BeforeQuery of round_checks'
 -- Judged.antt; before a round it is AtLayer, which has BeforeRound and where the layer's entries begin. Assumes
 -- nothing.
-use mathlib.Core.Path.{_∙_, subst}
+use mathlib.Core.Path.{subst}
 use mathlib.Core.Logic.{⊎-elim}
 use Prim.Native.Nat.{ℕ, _-_, _^_, _<_}
-use lib.ListN.{length, getD}
+use lib.ListN.{length}
 use Rattle.coset.proofs.Points.{all-elements}
 use Rattle.fri.specs.Run.{Run}
-use Rattle.layout.specs.Parameters.{stepsBy}
 use Rattle.transcript.proofs.Sections.{run-fits}
 use Rattle.transcript.proofs.Numerals.{are-bytes}
 use Rattle.byte_rounds.specs.Layers.{sentIn}
-use Rattle.byte_rounds.proofs.LayerPlaces.{AtLayer, at-first, at-few, index-few, next-at-few, next-index-few}
-use Rattle.byte_rounds.proofs.LayerPlaces.{read-in-bytes, next-layer}
-use Rattle.round_checks.proofs.Runs.{Checked, query-point-first}
+use Rattle.byte_rounds.proofs.LayerPlaces.{AtLayer, at-few, index-few, next-at-few, next-index-few}
+use Rattle.byte_rounds.proofs.LayerPlaces.{first-layer, read-in-bytes, next-layer}
+use Rattle.round_checks.proofs.Runs.{Checked}
 use Rattle.round_checks.proofs.Judged.{checked-run, BeforeQuery}
 use Rattle.round_checks.proofs.Judged.{count-few, cosets-few, first-query, first-round, query-passed, accepted, refused}
 use borrow.Author.Needs.{needs}
@@ -91,15 +90,10 @@ first-requires c κs = search needs
 
 loop-holds : tie.Need-loop-holds Inv-loop μ-loop Inv-queries μ-queries
 loop-holds c =
-    let at = c .before .before .before in
-    let start = at .before .before .before .before .before .before .before .before in
-    let a = start .args in
-    let j = getD (a .queries .now) (at .queries .query) 0 in
-    record {
-      before-round = first-round (at .queries .inv) (omega arith) (c .first .ensures ∙ query-point-first (run start) j);
-      laid = start .pre .1;
-      at-is = at-first (a .parameters .k) (stepsBy (a .parameters)) (a .begin);
-    }
+    let in-queries = c .before .before in
+    let prepared = in-queries .before .before in
+    first-layer (prepared .before .before .before .before .before .before .before .pre .1)
+    (first-round (in-queries .before .queries .inv) (in-queries .queries-test .taken) (c .first .ensures))
 
 mul-round : tie.Need-mul-round Inv-loop μ-loop Inv-queries μ-queries
 mul-round c = omega (arith, count-few (c .before .loop .inv .before-round .before-query .prepared))
@@ -147,8 +141,9 @@ read-until-requires c κs = omega arith
 
 add-cosets : tie.Need-add-cosets Inv-loop μ-loop Inv-queries μ-queries
 add-cosets c =
-    let l = c .before .before .before .before .before .before .before .before .before .before .loop in
-    omega (arith, cosets-few (l .inv .before-round .before-query), c .read-until .ensures)
+    let found = c .before .before .before .before in
+    let at-loop = found .before .before .before .before .before .before in
+    omega (arith, cosets-few (at-loop .loop .inv .before-round .before-query), c .read-until .ensures)
 
 add-i : tie.Need-add-i Inv-loop μ-loop Inv-queries μ-queries
 add-i c = search needs

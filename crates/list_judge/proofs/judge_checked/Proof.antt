@@ -3,14 +3,14 @@
 use Rattle.round_checks.proofs.Judged.{checked-run, BeforeQuery, BeforeRound}
 use Rattle.round_checks.proofs.Judged.{count-few, cosets-few, first-query, first-round, query-passed, accepted}
 use Rattle.round_checks.proofs.Judged.{part-fits, found-fits, read-in-lists, next-round, refused}
-use Rattle.round_checks.proofs.Runs.{Checked, query-point-first}
+use Rattle.round_checks.proofs.Runs.{Checked}
 use Rattle.layout.specs.Parameters.{runOf}
 use Rattle.fri.specs.Run.{Run}
 use Rattle.coset.proofs.Points.{all-elements}
-use lib.ListN.{length, getD}
+use lib.ListN.{length}
 use Prim.Native.Nat.{ℕ, _-_, _^_, _<_}
 use mathlib.Core.Logic.{⊎-elim}
-use mathlib.Core.Path.{_∙_, subst}
+use mathlib.Core.Path.{subst}
 use borrow.Author.Needs.{needs}
 use native.Mathlib.Omega.{arith}
 use Rattle.list_judge.proofs.judge_checked.Statement.{statement}
@@ -87,10 +87,8 @@ first-requires c κs = search needs
 
 loop-holds : tie.Need-loop-holds Inv-loop μ-loop Inv-queries μ-queries
 loop-holds c =
-    let at = c .before .before .before in
-    let start = at .before .before .before .before .before .before .before .before .before in
-    let j = getD (start .args .queries .now) (at .queries .query) 0 in
-    first-round (at .queries .inv) (omega arith) (c .first .ensures ∙ query-point-first (run start) j)
+    let in-queries = c .before .before in
+    first-round (in-queries .before .queries .inv) (in-queries .queries-test .taken) (c .first .ensures)
 
 mul-round : tie.Need-mul-round Inv-loop μ-loop Inv-queries μ-queries
 mul-round c = omega (arith, count-few (c .before .loop .inv .before-query .prepared))
@@ -121,8 +119,9 @@ read-until-requires c κs = omega arith
 
 add-cosets : tie.Need-add-cosets Inv-loop μ-loop Inv-queries μ-queries
 add-cosets c =
-    let l = c .before .before .before .before .before .before .before .before .before .loop in
-    omega (arith, cosets-few (l .inv .before-query), c .read-until .ensures)
+    let found = c .before .before .before .before in
+    let at-loop = found .before .before .before .before .before in
+    omega (arith, cosets-few (at-loop .loop .inv .before-query), c .read-until .ensures)
 
 add-i : tie.Need-add-i Inv-loop μ-loop Inv-queries μ-queries
 add-i c = search needs

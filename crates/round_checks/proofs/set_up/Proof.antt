@@ -101,8 +101,9 @@ mul-challenge c = omega (arith, within (c .before) .place-within)
 
 shared-slice-read-challenge : tie.Need-shared-slice-read-challenge Inv-loop μ-loop
 shared-slice-read-challenge c =
-    let start = c .before .before .before .before .before .before .before .before in
-    omega (arith, start .pre .2, within (c .before .before) .round-within)
+    let in-loop = c .before .before in
+    let start = in-loop .before .before .before .before .before .before in
+    omega (arith, start .pre .2, within in-loop .round-within)
 
 over-requires : tie.Need-over-requires Inv-loop μ-loop
 over-requires c κs = let w = within (c .before .before) in (w .step-few, w .step-fits, w .dimension-few)
@@ -127,14 +128,15 @@ loop-less c = search needs
 -- the round that is put into the table is round i
 abbrev RoundMade : tie.After-over Inv-loop μ-loop → Type 0
 RoundMade c =
-    let l = c .before .before .before .before .loop in
-    let a = c .before .before .before .before .before .before .before .before .before .args in
-    c .over .result ≡ roundAt (a .parameters) (a .basis .now) (a .challenges .now) (l .i)
+    let at-loop = c .before .before .before .before in
+    let a = at-loop .before .before .before .before .before .args in
+    c .over .result ≡ roundAt (a .parameters) (a .basis .now) (a .challenges .now) (at-loop .loop .i)
 
 round-made : (c : tie.After-over Inv-loop μ-loop) → RoundMade c
 round-made c =
-    let l = c .before .before .before .before .loop in
-    let a = c .before .before .before .before .before .before .before .before .before .args in
+    let at-loop = c .before .before .before .before in
+    let l = at-loop .loop in
+    let a = at-loop .before .before .before .before .before .args in
     let p = a .parameters in
     let basis = layerBasis (stepsBy p) (a .basis .now) (l .i) in
     let challenge = getD (a .challenges .now) (l .i) 0 in
@@ -147,11 +149,12 @@ round-made c =
 
 loop-again : tie.Need-loop-again Inv-loop μ-loop
 loop-again c =
-    let l = c .before .before .before .before .before .loop in
-    let a = c .before .before .before .before .before .before .before .before .before .before .args in
+    let in-loop = c .before .before .before .before in
+    let l = in-loop .before .loop in
+    let a = in-loop .before .before .before .before .before .before .args in
     let p = a .parameters in
     let basis = a .basis .now in
-    let w = within (c .before .before .before .before) in
+    let w = within in-loop in
     let next =
     coset-next p basis (l .i) (l .coset) (c .next .result) (w .round-within) (l .inv .coset-is) (c .next .ensures) in
     record {
