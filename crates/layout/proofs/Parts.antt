@@ -20,7 +20,8 @@ use Rattle.layout.specs.Parameters.{stepsBy}
 use Rattle.layout.specs.Parts.{empty, orEmpty, partOf, partIn}
 use Rattle.layout.proofs.Sizes.{storeLength-is}
 
-storedLayer-is : (k : ℕ) (steps store : List ℕ) (i : ℕ) → take (2 ^ dimension k steps i) (drop (layerStart k steps i) store) ≡ storedLayer k steps store i
+storedLayer-is : (k : ℕ) (steps store : List ℕ) (i : ℕ)
+    → take (2 ^ dimension k steps i) (drop (layerStart k steps i) store) ≡ storedLayer k steps store i
 unfolding storedLayer
 storedLayer-is k steps store i = refl
 
@@ -32,7 +33,8 @@ module _ (p : Parameters) (count i : ℕ) where
   abbrev pub has : Bool
   has = leb 1 i && ltb i (length (stepsBy p)) && eqb count (storeLength (p .k) (stepsBy p))
 
-  pub part-where : (outcome : Outcome) (test : Bool) (part : Part) → parametersOutcome (p .k) (p .rate) (p .step) ≡ outcome → has ≡ test
+  pub part-where : (outcome : Outcome) (test : Bool) (part : Part)
+      → parametersOutcome (p .k) (p .rate) (p .step) ≡ outcome → has ≡ test
       → part ≡ orEmpty outcome (cond test found empty) → part ≡ partOf p count i
   part-where outcome test part e f g =
       g ∙ sym (ap₂ (λ (o : Outcome) (t : Bool). orEmpty o (cond t found empty)) e f)
@@ -47,7 +49,10 @@ module _ (p : Parameters) (count i : ℕ) where
           let all = each-true (leb 1 i && ltb i (length (stepsBy p))) (eqb count (storeLength (p .k) (stepsBy p))) e in
           let both = each-true (leb 1 i) (ltb i (length (stepsBy p))) (all .0) in
           let whole = equal-of-test count (storeLength (p .k) (stepsBy p)) (all .1) in
-          omega (arith, whole, storeLength-is (p .k) (stepsBy p), layer-before (p .k) (stepsBy p) i (length (stepsBy p)) (leb-true 1 i (both .0)) (ltb-true i (length (stepsBy p)) (both .1)))
+          let least = leb-true 1 i (both .0) in
+          let inside = ltb-true i (length (stepsBy p)) (both .1) in
+          let ends = layer-before (p .k) (stepsBy p) i (length (stepsBy p)) least inside in
+          omega (arith, whole, storeLength-is (p .k) (stepsBy p), ends)
       by Done false e = omega arith
       by (Refused cause) test e = omega arith
 
@@ -57,7 +62,7 @@ pub part-taken : (p : Parameters) (store : List ℕ) (i : ℕ)
 part-taken p store i = by (parametersOutcome (p .k) (p .rate) (p .step)) (inStore (p .k) (stepsBy p) store i)
   where
     by : (outcome : Outcome) (test : Bool)
-        → take (orEmpty outcome (cond test (found p (length store) i) empty) .length) (drop (orEmpty outcome (cond test (found p (length store) i) empty) .start) store)
+        → partIn (orEmpty outcome (cond test (found p (length store) i) empty)) store
         ≡ partAfter outcome (cond test (storedLayer (p .k) (stepsBy p) store i) [])
     by Done true = storedLayer-is (p .k) (stepsBy p) store i
     by Done false = refl

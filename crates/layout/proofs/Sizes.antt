@@ -16,10 +16,11 @@ unfolding dimension
 dimension-falls k steps zero = omega arith
 dimension-falls k steps (suc i) = omega (arith, dimension-falls k steps i)
 
-pub layer-small : (k : ℕ) (steps : List ℕ) (i : ℕ) → k ≤ 20 → 2 ^ dimension k steps i ≤ 1048576
+-- k is at most 20, so a layer has at most 2^20 entries
+pub layer-small : (k : ℕ) (steps : List ℕ) (i : ℕ) → k ≤ 20 → 2 ^ dimension k steps i ≤ 2 ^ 20
 layer-small k steps i h = pow-mono {i = dimension k steps i} {j = 20} (le-trans (dimension-falls k steps i) h)
 
-pub start-small : (k : ℕ) (steps : List ℕ) (i : ℕ) → k ≤ 20 → layerStart k steps i ≤ i * 1048576
+pub start-small : (k : ℕ) (steps : List ℕ) (i : ℕ) → k ≤ 20 → layerStart k steps i ≤ i * 2 ^ 20
 unfolding layerStart
 start-small k steps zero h = omega arith
 start-small k steps (suc zero) h = omega arith
@@ -42,7 +43,8 @@ module _ (p : Parameters) (v : Valid p) where
   few-rounds =
       le-trans (le-of-eq (sym (mul-one (length (stepsBy p)))))
       (le-trans (mul-le-mul (le-of-eq (refl)) (v .step-least))
-      (le-trans (rounds-fit (p .k) (p .rate) (p .step) (length (stepsBy p)) (v .step-least) (omega arith)) (omega (arith, v .k-most, v .rate-least))))
+      (le-trans (rounds-fit (p .k) (p .rate) (p .step) (length (stepsBy p)) (v .step-least) (omega arith))
+      (omega (arith, v .k-most, v .rate-least))))
 
   pub one-round : 1 ≤ length (stepsBy p)
   one-round = some-round (p .k) (p .rate) (p .step) (v .step-least) (v .k-enough)
@@ -60,7 +62,8 @@ module _ (p : Parameters) (v : Valid p) where
   pub rate-fits : (i : ℕ) → i ≤ length (stepsBy p) → p .rate ≤ dimension (p .k) (stepsBy p) i
   rate-fits i h = omega (arith, dimension-is i h, rounds-taken i h, v .k-enough)
 
-  pub start-few : (i : ℕ) → i ≤ length (stepsBy p) → layerStart (p .k) (stepsBy p) i ≤ 19922944
+  -- there are at most 19 rounds
+  pub start-few : (i : ℕ) → i ≤ length (stepsBy p) → layerStart (p .k) (stepsBy p) i ≤ 19 * 2 ^ 20
   start-few i h = le-trans (start-small (p .k) (stepsBy p) i (v .k-most)) (omega (arith, few-rounds))
 
   -- a step is taken off each layer but the last

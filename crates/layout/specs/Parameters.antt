@@ -7,15 +7,15 @@ use Rattle.fri.specs.Demand.{ValidParameters}
 use Rattle.layout.specs.declared.Parameters.{Parameters}
 
 -- the steps of the rounds
-abbrev pub stepsBy : Parameters → List ℕ
+abbrev pub stepsBy : (p : Parameters) → List ℕ
 stepsBy p = stepsOf (p .k) (p .rate) (p .step)
 
 -- parameters in range
-abbrev pub Valid : Parameters → Type 0
+abbrev pub Valid : (p : Parameters) → Type 0
 Valid p = ValidParameters (p .k) (p .rate) (p .step)
 
 -- the run of a call: its parameters, offset, basis, challenges, word, store and last coefficients
-abbrev pub runOf : Parameters → ℕ → List ℕ → List ℕ → List ℕ → List ℕ → List ℕ → Run
+abbrev pub runOf : (p : Parameters) (offset : ℕ) (basis challenges word store last : List ℕ) → Run
 runOf p offset basis challenges word store last =
     record {
       k = p .k;

@@ -17,12 +17,13 @@ abbrev pub empty : Part
 empty = record { start = 0; length = 0 }
 
 -- the part if the checks pass, else the empty part
-abbrev pub orEmpty : Outcome → Part → Part
+abbrev pub orEmpty : (outcome : Outcome) (part : Part) → Part
 orEmpty Done part = part
 orEmpty (Refused cause) part = empty
 
--- where layer i, 1 ≤ i < r, lies in a store of `count` entries; the empty part for bad parameters, another i or a count that is not the one due
-abbrev pub partOf : Parameters → ℕ → ℕ → Part
+-- where layer i, 1 ≤ i < r, lies in a store of `count` entries; the empty part for bad parameters, another i or a count
+-- that is not the one due
+abbrev pub partOf : (p : Parameters) (count i : ℕ) → Part
 partOf p count i =
     orEmpty (parametersOutcome (p .k) (p .rate) (p .step))
     (cond (leb 1 i && ltb i (length (stepsBy p)) && eqb count (storeLength (p .k) (stepsBy p)))
@@ -30,5 +31,5 @@ partOf p count i =
     empty)
 
 -- a part of a list
-abbrev pub partIn : Part → List ℕ → List ℕ
+abbrev pub partIn : (part : Part) (list : List ℕ) → List ℕ
 partIn part list = take (part .length) (drop (part .start) list)

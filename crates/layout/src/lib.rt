@@ -25,7 +25,8 @@ pub struct Part {
 
 // Layer i of a store, 1 ≤ i < r, or the empty part for bad parameters, another i or a store of another length.
 pub fn layer(parameters: Parameters, store: &[u64], i: usize) -> &[u64]
-    ensures layer { λ r. ⌜ now r ≡ layerPart (parameters .k) (parameters .rate) (parameters .step) (now (store .entry)) i ⌝ }
+    ensures layer { λ r.
+        ⌜ now r ≡ layerPart (parameters .k) (parameters .rate) (parameters .step) (now (store .entry)) i ⌝ }
     ensures part { λ r. ⌜ now r ≡ partIn (partOf parameters (length (now (store .entry))) i) (now (store .entry)) ⌝ }
 {
     let part = parameters.part(store.len(), i);

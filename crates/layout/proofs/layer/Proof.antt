@@ -10,20 +10,28 @@ use native.Mathlib.Omega.{arith}
 use Rattle.layout.proofs.layer.Statement.{statement}
 use Rattle.layout.proofs.layer.Tie as tie
 
+-- the part lies within the store
+abbrev Within : tie.After-part → Type 0
+Within c = c .part .result .start + c .part .result .length ≤ length (c .before .before .args .store .now)
+
+within : (c : tie.After-part) → Within c
+within c =
+    let a = c .before .before .args in
+    subst (λ (r : Part). r .start + r .length ≤ length (a .store .now)) (sym (c .part .ensures))
+    (part-within (a .parameters) (length (a .store .now)) (a .i))
+
 part-requires : tie.Need-part-requires
 part-requires c κs = search needs
 
 add-end : tie.Need-add-end
 add-end c =
-    let a = c .before .before .before .args in
-    let within : c .before .part .result .start + c .before .part .result .length ≤ length (a .store .now) = subst (λ (r : Part). r .start + r .length ≤ length (a .store .now)) (sym (c .before .part .ensures)) (part-within (a .parameters) (length (a .store .now)) (a .i)) in
-    search (needs, within)
+    let fits = within (c .before) in
+    search (needs, fits)
 
 mul-result : tie.Need-mul-result
 mul-result c =
-    let a = c .before .before .before .args in
-    let within : c .before .part .result .start + c .before .part .result .length ≤ length (a .store .now) = subst (λ (r : Part). r .start + r .length ≤ length (a .store .now)) (sym (c .before .part .ensures)) (part-within (a .parameters) (length (a .store .now)) (a .i)) in
-    search (needs, within)
+    let fits = within (c .before) in
+    search (needs, fits)
 
 sub-result : tie.Need-sub-result
 sub-result c = search needs
@@ -33,9 +41,8 @@ part-result-start c = search needs
 
 part-result-end : tie.Need-part-result-end
 part-result-end c =
-    let a = c .before .before .before .args in
-    let within : c .before .part .result .start + c .before .part .result .length ≤ length (a .store .now) = subst (λ (r : Part). r .start + r .length ≤ length (a .store .now)) (sym (c .before .part .ensures)) (part-within (a .parameters) (length (a .store .now)) (a .i)) in
-    search (needs, within)
+    let fits = within (c .before) in
+    search (needs, fits)
 
 returns : tie.Need-returns
 returns c =
@@ -43,7 +50,9 @@ returns c =
     let r = c .before .before .part .result in
     let back : r .start + r .length - r .start ≡ r .length = omega arith in
     let part =
-    ap (λ (n : ℕ). take n (drop (r .start) (a .store .now))) back ∙ ap (λ (p : Part). partIn p (a .store .now)) (c .before .before .part .ensures) in
+    ap (λ (n : ℕ). take n (drop (r .start) (a .store .now))) back
+    ∙ ap (λ (p : Part). partIn p (a .store .now)) (c .before .before .part .ensures)
+    in
     (part ∙ part-taken (a .parameters) (a .store .now) (a .i), part)
 
 pub layer-spec : {M : Type 1} → statement M

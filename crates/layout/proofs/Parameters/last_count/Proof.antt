@@ -12,6 +12,17 @@ use native.Mathlib.Omega.{arith}
 use Rattle.layout.proofs.Parameters.last_count.Statement.{statement}
 use Rattle.layout.proofs.Parameters.last_count.Tie as tie
 
+-- the dimension is that of layer r
+abbrev DimensionIs : tie.After-dimension → Type 0
+DimensionIs c =
+    let p = c .before .before .args .self in
+    c .dimension .result ≡ dimension (p .k) (stepsBy p) (length (stepsBy p))
+
+dimension-is : (c : tie.After-dimension) → DimensionIs c
+dimension-is c =
+    let p = c .before .before .args .self in
+    c .dimension .ensures ∙ ap (dimension (p .k) (stepsBy p)) (c .before .rounds .ensures)
+
 rounds-requires : tie.Need-rounds-requires
 rounds-requires c κs = search needs
 
@@ -22,7 +33,7 @@ sub-result : tie.Need-sub-result
 sub-result c =
     let start = c .before .before .before in
     let p = start .args .self in
-    let dim : c .before .dimension .result ≡ dimension (p .k) (stepsBy p) (length (stepsBy p)) = c .before .dimension .ensures ∙ ap (dimension (p .k) (stepsBy p)) (c .before .before .rounds .ensures) in
+    let dim = dimension-is (c .before) in
     omega (arith, dim, rate-fits p (start .pre) (length (stepsBy p)) (omega arith))
 
 shl-result : tie.Need-shl-result
@@ -35,7 +46,7 @@ returns : tie.Need-returns
 returns c =
     let start = c .before .before .before in
     let p = start .args .self in
-    let dim : c .before .dimension .result ≡ dimension (p .k) (stepsBy p) (length (stepsBy p)) = c .before .dimension .ensures ∙ ap (dimension (p .k) (stepsBy p)) (c .before .before .rounds .ensures) in
+    let dim = dimension-is (c .before) in
     size-shifted (c .before .dimension .result - p .rate) (omega (arith, dim, dimension-most p (start .pre) (length (stepsBy p))))
     ∙ ap (λ (n : ℕ). 2 ^ (n - p .rate)) dim ∙ lastCount-is (p .k) (p .rate) (stepsBy p)
 

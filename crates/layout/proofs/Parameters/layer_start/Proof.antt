@@ -5,7 +5,7 @@ use Rattle.fri.proofs.Layouts.{start-next}
 use Rattle.fri.specs.Layout.{dimension, layerStart}
 use Rattle.coset.proofs.Sizes.{size-shifted}
 use native.Mathlib.Numerals.{add-one}
-use Prim.Native.Nat.{ℕ, _+_, _-_, _^_, _≤_}
+use Prim.Native.Nat.{ℕ, _+_, _*_, _-_, _%_, _^_, _≤_}
 use mathlib.Core.Path.{_≡_, sym, ap, ap₂, _∙_}
 use borrow.Author.Needs.{needs}
 use native.Mathlib.Omega.{arith}
@@ -13,10 +13,29 @@ use Rattle.layout.proofs.Parameters.layer_start.Statement.{statement}
 use Rattle.layout.proofs.Parameters.layer_start.Tie as tie
 
 abbrev Inv-loop : tie.InvT-loop
-Inv-loop self i start₀ before₀ start before = (1 ≤ before) × (before ≤ i) × (start ≡ layerStart (self .k) (stepsBy self) before)
+Inv-loop self i start₀ before₀ start before =
+    (1 ≤ before) × (before ≤ i) × (start ≡ layerStart (self .k) (stepsBy self) before)
 
 abbrev μ-loop : tie.MeasureT-loop
 μ-loop self i start₀ before₀ start before = i - before
+
+-- the size of layer `before`, whose dimension is small
+abbrev Small : tie.After-dimension Inv-loop μ-loop → Type 0
+Small c = c .dimension .result ≤ 20
+
+small : (c : tie.After-dimension Inv-loop μ-loop) → Small c
+small c =
+    let start = c .before .before .before in
+    omega (arith, c .dimension .ensures, dimension-most (start .args .self) (start .pre .0) (c .before .before .loop .before))
+
+abbrev SizeIs : tie.After-dimension Inv-loop μ-loop → Type 0
+SizeIs c =
+    let p = c .before .before .before .args .self in
+    1 * 2 ^ c .dimension .result % 2 ^ 64 ≡ 2 ^ dimension (p .k) (stepsBy p) (c .before .before .loop .before)
+
+size-is : (c : tie.After-dimension Inv-loop μ-loop) → SizeIs c
+size-is c =
+    size-shifted (c .dimension .result) (omega (arith, small c)) ∙ ap (λ (n : ℕ). 2 ^ n) (c .dimension .ensures)
 
 loop-holds : tie.Need-loop-holds Inv-loop μ-loop
 loop-holds c = (search needs, c .pre .1, start-of-first (c .args .self .k) (stepsBy (c .args .self)))
@@ -27,19 +46,16 @@ dimension-requires c κs =
     (start .pre .0, omega (arith, start .pre .2))
 
 shl-start : tie.Need-shl-start Inv-loop μ-loop
-shl-start c =
-    let start = c .before .before .before in
-    let p = start .args .self in
-    omega (arith, c .dimension .ensures, dimension-most p (start .pre .0) (c .before .before .loop .before))
+shl-start c = omega (arith, small c)
 
 add-start : tie.Need-add-start Inv-loop μ-loop
 add-start c =
     let start = c .before .before .before in
     let p = start .args .self in
     let l = c .before .before .loop in
-    let small : c .dimension .result ≤ 20 = omega (arith, c .dimension .ensures, dimension-most p (start .pre .0) (l .before)) in
-    let size = size-shifted (c .dimension .result) (omega (arith, small)) ∙ ap (λ (n : ℕ). 2 ^ n) (c .dimension .ensures) in
-    omega (arith, size, layer-small (p .k) (stepsBy p) (l .before) (start .pre .0 .k-most), l .inv .2, start-few p (start .pre .0) (l .before) (omega (arith, start .pre .2)))
+    let size = size-is c in
+    let few = start-few p (start .pre .0) (l .before) (omega (arith, start .pre .2)) in
+    omega (arith, size, layer-small (p .k) (stepsBy p) (l .before) (start .pre .0 .k-most), l .inv .2, few)
 
 add-before : tie.Need-add-before Inv-loop μ-loop
 add-before c = search needs
@@ -52,11 +68,11 @@ loop-again c =
     let start = c .before .before .before in
     let p = start .args .self in
     let l = c .before .before .loop in
-    let small : c .dimension .result ≤ 20 = omega (arith, c .dimension .ensures, dimension-most p (start .pre .0) (l .before)) in
-    let size = size-shifted (c .dimension .result) (omega (arith, small)) ∙ ap (λ (n : ℕ). 2 ^ n) (c .dimension .ensures) in (
+    let size = size-is c in (
       search needs,
       search needs,
-      ap₂ (λ (m n : ℕ). m + n) (l .inv .2) size ∙ sym (start-next (p .k) (stepsBy p) (l .before) (l .inv .0)) ∙ ap (layerStart (p .k) (stepsBy p)) (sym (add-one (l .before))),
+      ap₂ (λ (m n : ℕ). m + n) (l .inv .2) size ∙ sym (start-next (p .k) (stepsBy p) (l .before) (l .inv .0))
+          ∙ ap (layerStart (p .k) (stepsBy p)) (sym (add-one (l .before))),
     )
 
 returns : tie.Need-returns Inv-loop μ-loop
