@@ -24,11 +24,15 @@ offset-first steps offset basis = refl
 module _ (p : Parameters) (offset : ℕ) (basis : List ℕ) (i : ℕ) (h : i < length (stepsBy p)) where
   pub basis-next : nextBasis (p .step) (layerBasis (stepsBy p) basis i) ≡ layerBasis (stepsBy p) basis (suc i)
   unfolding layerBasis
-  basis-next = ap (λ (s : ℕ). nextBasis s (layerBasis (stepsBy p) basis i)) (sym (step-of-round (p .k) (p .rate) (p .step) i h))
+  basis-next =
+      ap (λ (s : ℕ). nextBasis s (layerBasis (stepsBy p) basis i)) (sym (step-of-round (p .k) (p .rate) (p .step) i h))
 
-  pub offset-next : nextOffset (p .step) (layerOffset (stepsBy p) offset basis i) (layerBasis (stepsBy p) basis i) ≡ layerOffset (stepsBy p) offset basis (suc i)
+  pub offset-next : nextOffset (p .step) (layerOffset (stepsBy p) offset basis i) (layerBasis (stepsBy p) basis i)
+      ≡ layerOffset (stepsBy p) offset basis (suc i)
   unfolding layerOffset
-  offset-next = ap (λ (s : ℕ). nextOffset s (layerOffset (stepsBy p) offset basis i) (layerBasis (stepsBy p) basis i)) (sym (step-of-round (p .k) (p .rate) (p .step) i h))
+  offset-next =
+      ap (λ (s : ℕ). nextOffset s (layerOffset (stepsBy p) offset basis i) (layerBasis (stepsBy p) basis i))
+      (sym (step-of-round (p .k) (p .rate) (p .step) i h))
 
 -- a coset by value that has layer i's basis is followed by one that has the next layer's
 pub coset-next : (p : Parameters) (basis : List ℕ) (i : ℕ) (coset next : LayerCoset) → i < length (stepsBy p)
@@ -36,12 +40,15 @@ pub coset-next : (p : Parameters) (basis : List ℕ) (i : ℕ) (coset next : Lay
     → next ≡ cosetOf (nextOffset (p .step) (coset .offset .0) (basisOf coset)) (nextBasis (p .step) (basisOf coset))
     → next ≡ cosetOf (next .offset .0) (layerBasis (stepsBy p) basis (suc i))
 coset-next p basis i coset next h e n =
-    whole ∙ ap (λ (o : ℕ). cosetOf o (layerBasis (stepsBy p) basis (suc i))) (sym (ap (λ (r : LayerCoset). r .offset .0) whole))
+    whole ∙ ap (λ (o : ℕ). cosetOf o (layerBasis (stepsBy p) basis (suc i)))
+    (sym (ap (λ (r : LayerCoset). r .offset .0) whole))
   where
     here : basisOf coset ≡ layerBasis (stepsBy p) basis i
     here = ap basisOf e ∙ basisOf-coset (coset .offset .0) (layerBasis (stepsBy p) basis i)
 
-    whole : next ≡ cosetOf (nextOffset (p .step) (coset .offset .0) (basisOf coset)) (layerBasis (stepsBy p) basis (suc i))
+    whole : next
+        ≡ cosetOf (nextOffset (p .step) (coset .offset .0) (basisOf coset)) (layerBasis (stepsBy p) basis (suc i))
     whole =
         n
-        ∙ ap (cosetOf (nextOffset (p .step) (coset .offset .0) (basisOf coset))) (ap (nextBasis (p .step)) here ∙ basis-next p 0 basis i h)
+        ∙ ap (cosetOf (nextOffset (p .step) (coset .offset .0) (basisOf coset)))
+        (ap (nextBasis (p .step)) here ∙ basis-next p 0 basis i h)

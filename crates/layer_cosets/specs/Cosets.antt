@@ -7,9 +7,14 @@ use Rattle.poly.specs.Polynomial.{padded}
 use Rattle.layer_cosets.specs.declared.LayerCoset.{LayerCoset}
 
 -- offset and basis by value, where the basis has at most 20 elements
-abbrev pub cosetOf : ℕ → List ℕ → LayerCoset
-cosetOf offset basis = record { offset = record { 0 = offset }; basis = padded gf64 20 basis; dimension = length basis }
+abbrev pub cosetOf : (offset : ℕ) (basis : List ℕ) → LayerCoset
+cosetOf offset basis =
+    record {
+      offset = record { 0 = offset };
+      basis = padded gf64 20 basis;
+      dimension = length basis;
+    }
 
 -- its basis, without the zeros after it
-abbrev pub basisOf : LayerCoset → List ℕ
+abbrev pub basisOf : (coset : LayerCoset) → List ℕ
 basisOf coset = take (coset .dimension) (coset .basis)

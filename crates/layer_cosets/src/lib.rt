@@ -36,7 +36,8 @@ impl LayerCoset {
     // That of the next layer.
     pub fn next(self, step: usize) -> LayerCoset
         requires { ⌜ (step ≤ 3) × (step ≤ self .dimension) × (self .dimension ≤ 20) ⌝ }
-        ensures { λ r. ⌜ r ≡ cosetOf (nextOffset step (self .offset .0) (basisOf self)) (nextBasis step (basisOf self)) ⌝ }
+        ensures { λ r.
+            ⌜ r ≡ cosetOf (nextOffset step (self .offset .0) (basisOf self)) (nextBasis step (basisOf self)) ⌝ }
     {
         let elements = self.step_elements(step);
         let basis = self.basis;

@@ -34,7 +34,8 @@ pub storeLength-is : (k : ℕ) (steps : List ℕ) → layerStart k steps (length
 unfolding storeLength
 storeLength-is k steps = refl
 
-pub lastCount-is : (k rate : ℕ) (steps : List ℕ) → 2 ^ (dimension k steps (length steps) - rate) ≡ lastCount k rate steps
+pub lastCount-is : (k rate : ℕ) (steps : List ℕ)
+    → 2 ^ (dimension k steps (length steps) - rate) ≡ lastCount k rate steps
 unfolding lastCount
 lastCount-is k rate steps = refl
 
@@ -68,4 +69,5 @@ module _ (p : Parameters) (v : Valid p) where
 
   -- a step is taken off each layer but the last
   pub step-within : (i : ℕ) → i < length (stepsBy p) → p .step ≤ dimension (p .k) (stepsBy p) i
-  step-within i h = omega (arith, dimension-is i (omega arith), rounds-taken (suc i) h, suc-mul i (p .step), v .k-enough)
+  step-within i h =
+      omega (arith, dimension-is i (omega arith), rounds-taken (suc i) h, suc-mul i (p .step), v .k-enough)

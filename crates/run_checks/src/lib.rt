@@ -10,7 +10,8 @@ ghost use lib.ListN.{length};
 ghost use Rattle.fri.specs.Checks.{lengthsOutcome, laterBasesOutcome, basesOutcome, runOutcome};
 ghost use Rattle.layout.specs.Parameters.{stepsBy, Valid, runOf};
 
-// The checks that prover and judge have in common, in the order of the papers: 4, 5, 6, 7, 13, 8, 16. Any offset passes; the contract's run has it.
+// The checks that prover and judge have in common, in the order of the papers: 4, 5, 6, 7, 13, 8, 16. Any offset passes;
+// the contract's run has it.
 pub fn checked(
     parameters: Parameters,
     offset: Element,
@@ -20,7 +21,10 @@ pub fn checked(
     store: &[u64],
     last: &[u64],
 ) -> Outcome
-    ensures { λ r. ⌜ r ≡ runOutcome (runOf parameters (offset .0) (now (basis .entry)) (now (challenges .entry)) (now (word .entry)) (now (store .entry)) (now (last .entry))) ⌝ }
+    ensures { λ r.
+        let run = runOf parameters (offset .0) (now (basis .entry)) (now (challenges .entry)) (now (word .entry))
+        (now (store .entry)) (now (last .entry)) in
+        ⌜ r ≡ runOutcome run ⌝ }
 {
     let ranges = parameters.checked();
     match ranges {
@@ -46,7 +50,10 @@ fn checked_lengths(
     last: &[u64],
 ) -> Outcome
     requires { ⌜ Valid parameters ⌝ }
-    ensures { λ r. ⌜ r ≡ lengthsOutcome (runOf parameters (offset .0) (now (basis .entry)) (now (challenges .entry)) (now (word .entry)) (now (store .entry)) (now (last .entry))) ⌝ }
+    ensures { λ r.
+        let run = runOf parameters (offset .0) (now (basis .entry)) (now (challenges .entry)) (now (word .entry))
+        (now (store .entry)) (now (last .entry)) in
+        ⌜ r ≡ lengthsOutcome run ⌝ }
 {
     let rounds = parameters.rounds();
     if basis.len() != parameters.k {
@@ -79,10 +86,11 @@ pub fn checked_bases(parameters: Parameters, basis: &[u64]) -> Outcome
     }
 }
 
-// Refuses a dependent basis of a later layer (16), with the round whose fold gives that layer. After an independent basis there is none.
+// Refuses a dependent basis of a later layer (16), with the round whose fold gives that layer. After an independent basis
+// there is none.
 fn checked_later_bases(parameters: Parameters, basis: &[u64]) -> Outcome
     requires { ⌜ Valid parameters × (length (now basis) ≡ parameters .k) ⌝ }
-    ensures { λ r. ⌜ r ≡ laterBasesOutcome (stepsBy parameters) (now (basis .entry)) 0 (length (stepsBy parameters)) ⌝ }
+    ensures { λ r. let steps = stepsBy parameters in ⌜ r ≡ laterBasesOutcome steps (now (basis .entry)) 0 (length steps) ⌝ }
 {
     let rounds = parameters.rounds();
     let mut coset = LayerCoset::first(Element::ZERO, basis);

@@ -16,7 +16,8 @@ copy-requires c κs = search needs
 returns : tie.Need-returns
 returns c =
     let a = c .before .before .before .before .args in
-    coset-equal (a .offset .0) (c .before .copy .last .1 .0) (length (a .basis .now)) (a .offset .0) (a .basis .now) refl
+    coset-equal (a .offset .0) (c .before .copy .last .1 .0) (length (a .basis .now)) (a .offset .0)
+    (a .basis .now) refl
     (c .before .copy .ensures ∙ padded-front 20 (a .basis .now)) refl
 
 pub first-spec : {M : Type 1} → statement M

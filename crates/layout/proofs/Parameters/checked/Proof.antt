@@ -13,10 +13,13 @@ abbrev DimensionFits : tie.Else2 → Type 0
 DimensionFits c = let k = c .before .before .before .before .args .self .k in (2 ≤ k) × (k ≤ 20)
 
 dimension-fits : (c : tie.Else2) → DimensionFits c
-dimension-fits c = (c .before .before .if1 .left, ltb-false 20 (c .before .before .before .before .args .self .k) (c .if2 .left))
+dimension-fits c =
+    (c .before .before .if1 .left, ltb-false 20 (c .before .before .before .before .args .self .k) (c .if2 .left))
 
 abbrev RateFits : tie.Else4 → Type 0
-RateFits c = let rate = c .before .before .before .before .before .before .before .before .args .self .rate in (1 ≤ rate) × (rate ≤ 6)
+RateFits c =
+    let rate = c .before .before .before .before .before .before .before .before .args .self .rate in
+    (1 ≤ rate) × (rate ≤ 6)
 
 rate-fits : (c : tie.Else4) → RateFits c
 rate-fits c =
@@ -60,7 +63,8 @@ returns-3 c =
     sym (step-refused (a .k) (a .rate) (a .step) (k .0) (k .1) (rate .0) (rate .1) outside)
 
 add-if7 : tie.Need-add-if7
-add-if7 c = let sixth = c .before in omega (arith, rate-fits (sixth .before .before .before .before) .1, step-fits sixth .1)
+add-if7 c =
+    let sixth = c .before in omega (arith, rate-fits (sixth .before .before .before .before) .1, step-fits sixth .1)
 
 returns-4 : tie.Need-returns-4
 returns-4 c =
@@ -71,7 +75,8 @@ returns-4 c =
     let k = dimension-fits second in
     let rate = rate-fits fourth in
     let step = step-fits sixth in
-    sym (too-small-refused (a .k) (a .rate) (a .step) (k .0) (k .1) (rate .0) (rate .1) (step .0) (step .1) (c .if7 .taken))
+    sym (too-small-refused (a .k) (a .rate) (a .step) (k .0) (k .1) (rate .0) (rate .1) (step .0) (step .1)
+    (c .if7 .taken))
 
 returns-5 : tie.Need-returns-5
 returns-5 c =

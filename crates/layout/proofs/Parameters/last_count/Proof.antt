@@ -47,7 +47,8 @@ returns c =
     let start = c .before .before .before in
     let p = start .args .self in
     let dim = dimension-is (c .before) in
-    size-shifted (c .before .dimension .result - p .rate) (omega (arith, dim, dimension-most p (start .pre) (length (stepsBy p))))
+    size-shifted (c .before .dimension .result - p .rate)
+    (omega (arith, dim, dimension-most p (start .pre) (length (stepsBy p))))
     ∙ ap (λ (n : ℕ). 2 ^ (n - p .rate)) dim ∙ lastCount-is (p .k) (p .rate) (stepsBy p)
 
 pub last-count-spec : {M : Type 1} → statement M

@@ -1,4 +1,5 @@
--- `Parameters::layer_start` meets its contract. The loop's invariant: the start is that of layer `before`. Assumes nothing.
+-- `Parameters::layer_start` meets its contract. The loop's invariant: the start is that of layer `before`. Assumes
+-- nothing.
 use Rattle.layout.proofs.Sizes.{dimension-most, layer-small, start-few, start-of-first}
 use Rattle.layout.specs.Parameters.{stepsBy}
 use Rattle.fri.proofs.Layouts.{start-next}
@@ -26,7 +27,11 @@ Small c = c .dimension .result ≤ 20
 small : (c : tie.After-dimension Inv-loop μ-loop) → Small c
 small c =
     let start = c .before .before .before in
-    omega (arith, c .dimension .ensures, dimension-most (start .args .self) (start .pre .0) (c .before .before .loop .before))
+    omega (
+      arith,
+      c .dimension .ensures,
+      dimension-most (start .args .self) (start .pre .0) (c .before .before .loop .before),
+    )
 
 abbrev SizeIs : tie.After-dimension Inv-loop μ-loop → Type 0
 SizeIs c =

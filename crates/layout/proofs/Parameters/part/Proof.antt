@@ -115,13 +115,17 @@ returns-2 c =
     let a = told .before .before .before .args in
     let p = a .self in
     part-where p (a .store-length) (a .i) Done false empty (passed told)
-    (second-false (leb 1 (a .i) && ltb (a .i) (length (stepsBy p))) (eqb (a .store-length) (storeLength (p .k) (stepsBy p)))
+    (second-false (leb 1 (a .i) && ltb (a .i) (length (stepsBy p)))
+    (eqb (a .store-length) (storeLength (p .k) (stepsBy p)))
     (ne-eqb (a .store-length) (storeLength (p .k) (stepsBy p)) (λ e. c .if3 .taken (e ∙ sym (due (c .before))))))
     refl
 
 layer-start-requires-2 : tie.Need-layer-start-requires-2
-layer-start-requires-2 c κs =
-    (valid (c .before .before .before .before .before), c .before .before .before .if1 .left, le-of-lt (inside (c .before .before)))
+layer-start-requires-2 c κs = (
+  valid (c .before .before .before .before .before),
+  c .before .before .before .if1 .left,
+  le-of-lt (inside (c .before .before)),
+)
 
 dimension-requires : tie.Need-dimension-requires
 dimension-requires c κs =
