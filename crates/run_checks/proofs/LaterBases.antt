@@ -20,12 +20,14 @@ module _ (steps basis : List ℕ) where
       → laterBasesOutcome steps basis (suc round) left ≡ laterBasesOutcome steps basis round (suc left)
   unfolding laterBasesOutcome
   later-passed round left e =
-      then-passed (outcomeOfLaterBasis round (firstDependent (layerBasis steps basis (suc round)))) (laterBasesOutcome steps basis (suc round) left)
+      then-passed (outcomeOfLaterBasis round (firstDependent (layerBasis steps basis (suc round))))
+      (laterBasesOutcome steps basis (suc round) left)
       (ap (outcomeOfLaterBasis round) e)
 
   pub later-refused : (round left place : ℕ) → firstDependent (layerBasis steps basis (suc round)) ≡ At place
       → Refused (LaterBasisDependent round) ≡ laterBasesOutcome steps basis round (suc left)
   unfolding laterBasesOutcome
   later-refused round left place e =
-      then-refused (outcomeOfLaterBasis round (firstDependent (layerBasis steps basis (suc round)))) (laterBasesOutcome steps basis (suc round) left)
+      then-refused (outcomeOfLaterBasis round (firstDependent (layerBasis steps basis (suc round))))
+      (laterBasesOutcome steps basis (suc round) left)
       (LaterBasisDependent round) (ap (outcomeOfLaterBasis round) e)

@@ -10,8 +10,8 @@ ghost use lib.ListN.{length};
 ghost use Rattle.fri.specs.Checks.{lengthsOutcome, laterBasesOutcome, basesOutcome, runOutcome};
 ghost use Rattle.layout.specs.Parameters.{stepsBy, Valid, runOf};
 
-// The checks that prover and judge have in common, in the order of the papers: 4, 5, 6, 7, 13, 8, 16. Any offset passes;
-// the contract's run has it.
+// The checks that prover and judge have in common, in the order of the papers: 4, 5, 6, 7, 13, 8, 16. Any offset
+// passes; the contract's run has it.
 pub fn checked(
     parameters: Parameters,
     offset: Element,
@@ -86,11 +86,13 @@ pub fn checked_bases(parameters: Parameters, basis: &[u64]) -> Outcome
     }
 }
 
-// Refuses a dependent basis of a later layer (16), with the round whose fold gives that layer. After an independent basis
-// there is none.
+// Refuses a dependent basis of a later layer (16), with the round whose fold gives that layer. After an independent
+// basis there is none.
 fn checked_later_bases(parameters: Parameters, basis: &[u64]) -> Outcome
     requires { ⌜ Valid parameters × (length (now basis) ≡ parameters .k) ⌝ }
-    ensures { λ r. let steps = stepsBy parameters in ⌜ r ≡ laterBasesOutcome steps (now (basis .entry)) 0 (length steps) ⌝ }
+    ensures { λ r.
+        let steps = stepsBy parameters in
+        ⌜ r ≡ laterBasesOutcome steps (now (basis .entry)) 0 (length steps) ⌝ }
 {
     let rounds = parameters.rounds();
     let mut coset = LayerCoset::first(Element::ZERO, basis);

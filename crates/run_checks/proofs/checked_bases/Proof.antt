@@ -29,13 +29,16 @@ returns c =
     let steps = stepsBy (a .parameters) in
     let done : c .before .before .before .checked-basis .result ≡ Done = search needs in
     c .checked-later-bases .ensures
-    ∙ then-passed (outcomeOfBasis (firstDependent (a .basis .now))) (laterBasesOutcome steps (a .basis .now) 0 (length steps)) (sym (c .before .before .before .checked-basis .ensures) ∙ done)
+    ∙ then-passed (outcomeOfBasis (firstDependent (a .basis .now)))
+    (laterBasesOutcome steps (a .basis .now) 0 (length steps))
+    (sym (c .before .before .before .checked-basis .ensures) ∙ done)
 
 returns-2 : tie.Need-returns-2
 returns-2 c =
     let a = c .before .before .before .before .before .args in
     let steps = stepsBy (a .parameters) in
-    then-refused (outcomeOfBasis (firstDependent (a .basis .now))) (laterBasesOutcome steps (a .basis .now) 0 (length steps)) (c .before .outcome .given .0 .0)
+    then-refused (outcomeOfBasis (firstDependent (a .basis .now)))
+    (laterBasesOutcome steps (a .basis .now) 0 (length steps)) (c .before .outcome .given .0 .0)
     (sym (c .before .before .before .checked-basis .ensures) ∙ c .before .outcome .given .1)
 
 pub checked-bases-spec : {M : Type 1} → statement M
