@@ -1,2 +1,3 @@
 pub mod Rounds
 mod Stored
+mod Folds

@@ -1,4 +1,5 @@
--- What the prover works on after the checks: the run without what the two lent lists held, since honest layers do not depend on that.
+-- What the prover works on after the checks: the run without what the two lent lists held, since honest layers do not
+-- depend on that.
 use mathlib.Core.Path.{_≡_}
 use mathlib.Core.List.{List, []}
 use Prim.Native.Nat.{ℕ, _^_}
@@ -14,7 +15,7 @@ use Rattle.layout.specs.Parameters.{runOf}
 use Rattle.layer_cosets.specs.Cosets.{cosetOf}
 
 -- the run of a prover, with empty lists in the place of the lent ones
-abbrev pub inputOf : Parameters → ℕ → List ℕ → List ℕ → List ℕ → Run
+abbrev pub inputOf : (p : Parameters) (offset : ℕ) (basis challenges word : List ℕ) → Run
 inputOf p offset basis challenges word = runOf p offset basis challenges word [] []
 
 -- what is known of it, and of the number of entries in the store, after the checks
@@ -27,9 +28,9 @@ pub record Passed (run : Run) (stored : ℕ) : Type 0 where
   pub independent : Independent (run .basis)
 
 -- the coset of layer i, by value
-abbrev pub cosetIn : Run → ℕ → LayerCoset
+abbrev pub cosetIn : (run : Run) (i : ℕ) → LayerCoset
 cosetIn run i = cosetOf (offsetIn run i) (basisIn run i)
 
 -- layer i, i < r, as word and store have it
-abbrev pub layerFrom : Parameters → List ℕ → List ℕ → ℕ → List ℕ
+abbrev pub layerFrom : (p : Parameters) (word store : List ℕ) (i : ℕ) → List ℕ
 layerFrom p word store i = layerIn (runOf p 0 [] [] word store []) i

@@ -4,15 +4,14 @@ use layer_cosets::LayerCoset;
 use layout::Parameters;
 ghost use mathlib.Core.Path.{_≡_};
 ghost use mathlib.Core.List.{_++_};
-ghost use Prim.Native.Nat.{suc, _+_, _-_, _^_, _≤_};
+ghost use Prim.Native.Nat.{suc, _-_, _^_};
 ghost use lib.ListN.{length, take};
-ghost use Rattle.coset.specs.Span.{Independent};
-ghost use Rattle.fold.specs.Fold.{folded};
-ghost use Rattle.fri.specs.Layout.{dimension, layerStart, storeLength};
+ghost use Rattle.fri.specs.Layout.{dimension, layerStart};
+ghost use Rattle.fri.specs.Run.{Run, stepsIn, roundsIn};
 ghost use Rattle.fri.specs.Layers.{honestLayer, honestStore};
-ghost use Rattle.layout.specs.Parameters.{stepsBy, Valid};
-ghost use Rattle.layer_cosets.specs.Cosets.{basisOf};
+ghost use Rattle.layout.specs.Parameters.{stepsBy};
 ghost use Rattle.honest_layers.specs.Input.{inputOf, Passed, cosetIn, layerFrom};
+ghost use Rattle.honest_layers.specs.Folds.{foldOver, FoldInto, FoldBehind, RoundFold, LastFold};
 
 // All layers: 1 to r - 1 into the store, layer r into a list of its own. The answer is the coset of layer r.
 pub fn fold_layers(
@@ -24,11 +23,13 @@ pub fn fold_layers(
     store: &mut [u64],
     next: &mut [u64],
 ) -> LayerCoset
-    requires { ⌜ Passed (inputOf parameters (offset .0) (now basis) (now challenges) (now word)) (length (now store))
-        × (length (now next) ≡ 2 ^ dimension (parameters .k) (stepsBy parameters) (length (stepsBy parameters))) ⌝ }
-    ensures answer { λ r. ⌜ r ≡ cosetIn (inputOf parameters (offset .0) (now (basis .entry)) (now (challenges .entry)) (now (word .entry))) (length (stepsBy parameters)) ⌝ }
-    ensures store { λ _. ⌜ now (store .exit) ≡ honestStore (inputOf parameters (offset .0) (now (basis .entry)) (now (challenges .entry)) (now (word .entry))) ⌝ }
-    ensures next { λ _. ⌜ now (next .exit) ≡ honestLayer (inputOf parameters (offset .0) (now (basis .entry)) (now (challenges .entry)) (now (word .entry))) (length (stepsBy parameters)) ⌝ }
+    ghost { Run }
+    requires { λ run. ⌜ inputOf parameters (offset .0) (now basis) (now challenges) (now word) ≡ run ⌝ }
+    requires { λ run. ⌜ Passed run (length (now store)) ⌝ }
+    requires { λ run. ⌜ length (now next) ≡ 2 ^ dimension (run .k) (stepsIn run) (roundsIn run) ⌝ }
+    ensures answer { λ run r. ⌜ r ≡ cosetIn run (roundsIn run) ⌝ }
+    ensures store { λ run _. ⌜ now (store .exit) ≡ honestStore run ⌝ }
+    ensures next { λ run _. ⌜ now (next .exit) ≡ honestLayer run (roundsIn run) ⌝ }
 {
     let coset = fill_store(parameters, offset, basis, challenges, word, store);
     let challenge = Element(challenges[challenges.len() - 1]);
@@ -45,11 +46,10 @@ fn fold_last(
     store: &[u64],
     next: &mut [u64],
 )
-    requires { ⌜ Valid parameters × (coset .dimension ≡ dimension (parameters .k) (stepsBy parameters) (length (stepsBy parameters) - 1))
-        × Independent (basisOf coset) × (length (now word) ≡ 2 ^ (parameters .k))
-        × (length (now store) ≡ storeLength (parameters .k) (stepsBy parameters))
-        × (length (now next) ≡ 2 ^ dimension (parameters .k) (stepsBy parameters) (length (stepsBy parameters))) ⌝ }
-    ensures { λ _. ⌜ now (next .exit) ≡ folded (parameters .step) (coset .offset .0) (basisOf coset) (layerFrom parameters (now (word .entry)) (now (store .entry)) (length (stepsBy parameters) - 1)) (challenge .0) ⌝ }
+    requires { ⌜ LastFold parameters coset (now word) (now store) (now next) ⌝ }
+    ensures { λ _.
+        let before = layerFrom parameters (now (word .entry)) (now (store .entry)) (length (stepsBy parameters) - 1) in
+        ⌜ now (next .exit) ≡ foldOver (parameters .step) coset before (challenge .0) ⌝ }
 {
     let before = parameters.rounds() - 1;
     if before == 0 {
@@ -69,9 +69,11 @@ fn fill_store(
     word: &[u64],
     store: &mut [u64],
 ) -> LayerCoset
-    requires { ⌜ Passed (inputOf parameters (offset .0) (now basis) (now challenges) (now word)) (length (now store)) ⌝ }
-    ensures answer { λ r. ⌜ r ≡ cosetIn (inputOf parameters (offset .0) (now (basis .entry)) (now (challenges .entry)) (now (word .entry))) (length (stepsBy parameters) - 1) ⌝ }
-    ensures store { λ _. ⌜ now (store .exit) ≡ honestStore (inputOf parameters (offset .0) (now (basis .entry)) (now (challenges .entry)) (now (word .entry))) ⌝ }
+    ghost { Run }
+    requires { λ run. ⌜ inputOf parameters (offset .0) (now basis) (now challenges) (now word) ≡ run ⌝ }
+    requires { λ run. ⌜ Passed run (length (now store)) ⌝ }
+    ensures answer { λ run r. ⌜ r ≡ cosetIn run (roundsIn run - 1) ⌝ }
+    ensures store { λ run _. ⌜ now (store .exit) ≡ honestStore run ⌝ }
 {
     let rounds = parameters.rounds();
     let mut coset = LayerCoset::first(offset, basis);
@@ -94,10 +96,12 @@ fn fold_round(
     word: &[u64],
     store: &mut [u64],
 )
-    requires { ⌜ Valid parameters × (i + 2 ≤ length (stepsBy parameters)) × (coset .dimension ≡ dimension (parameters .k) (stepsBy parameters) i)
-        × Independent (basisOf coset) × (length (now word) ≡ 2 ^ (parameters .k))
-        × (length (now store) ≡ storeLength (parameters .k) (stepsBy parameters)) ⌝ }
-    ensures { λ _. ⌜ take (layerStart (parameters .k) (stepsBy parameters) (suc (suc i))) (now (store .exit)) ≡ take (layerStart (parameters .k) (stepsBy parameters) (suc i)) (now (store .entry)) ++ folded (parameters .step) (coset .offset .0) (basisOf coset) (layerFrom parameters (now (word .entry)) (now (store .entry)) i) (challenge .0) ⌝ }
+    requires { ⌜ RoundFold parameters coset i (now word) (now store) ⌝ }
+    ensures { λ _.
+        let start = layerStart (parameters .k) (stepsBy parameters) in
+        let layer = layerFrom parameters (now (word .entry)) (now (store .entry)) i in
+        ⌜ take (start (suc (suc i))) (now (store .exit))
+        ≡ take (start (suc i)) (now (store .entry)) ++ foldOver (parameters .step) coset layer (challenge .0) ⌝ }
 {
     let end = parameters.layer_start(i + 2);
     if i == 0 {
@@ -110,9 +114,8 @@ fn fold_round(
 
 // Folds a layer into the next one.
 fn fold_layer(coset: LayerCoset, step: usize, challenge: Element, layer: &[u64], next: &mut [u64])
-    requires { ⌜ (1 ≤ step) × (step ≤ 3) × (step ≤ coset .dimension) × (coset .dimension ≤ 20) × Independent (basisOf coset)
-        × (length (now layer) ≡ 2 ^ (coset .dimension)) × (length (now next) ≡ 2 ^ (coset .dimension - step)) ⌝ }
-    ensures { λ _. ⌜ now (next .exit) ≡ folded step (coset .offset .0) (basisOf coset) (now (layer .entry)) (challenge .0) ⌝ }
+    requires { ⌜ FoldInto step coset (now layer) (now next) ⌝ }
+    ensures { λ _. ⌜ now (next .exit) ≡ foldOver step coset (now (layer .entry)) (challenge .0) ⌝ }
 {
     let elements = coset.step_elements(step);
     let basis = coset.basis;
@@ -129,9 +132,10 @@ fn fold_layer(coset: LayerCoset, step: usize, challenge: Element, layer: &[u64],
 
 // Folds the layer in the front of a list into the next one, which is behind it.
 fn fold_behind(coset: LayerCoset, step: usize, challenge: Element, joined: &mut [u64])
-    requires { ⌜ (1 ≤ step) × (step ≤ 3) × (step ≤ coset .dimension) × (coset .dimension ≤ 20) × Independent (basisOf coset)
-        × (length (now joined) ≡ 2 ^ (coset .dimension) + 2 ^ (coset .dimension - step)) ⌝ }
-    ensures { λ _. ⌜ now (joined .exit) ≡ take (2 ^ (coset .dimension)) (now (joined .entry)) ++ folded step (coset .offset .0) (basisOf coset) (take (2 ^ (coset .dimension)) (now (joined .entry))) (challenge .0) ⌝ }
+    requires { ⌜ FoldBehind step coset (now joined) ⌝ }
+    ensures { λ _.
+        let layer = take (2 ^ (coset .dimension)) (now (joined .entry)) in
+        ⌜ now (joined .exit) ≡ layer ++ foldOver step coset layer (challenge .0) ⌝ }
 {
     let elements = coset.step_elements(step);
     let basis = coset.basis;

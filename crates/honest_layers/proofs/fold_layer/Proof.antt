@@ -1,59 +1,93 @@
 -- `honest_layers::fold_layer` meets its contract. Assumes nothing.
 use mathlib.Core.Path.{_≡_, sym, ap, ap₂, _∙_}
-use Prim.Native.Nat.{ℕ, _-_, _^_}
-use lib.ListN.{length}
+use Prim.Native.Nat.{ℕ, _-_, _^_, _≤_}
+use lib.ListN.{length, take}
 use lib.Seq.{length-take-le}
 use Rattle.coset.proofs.Subspace.{elements-taken}
 use Rattle.coset.specs.Steps.{stepElements}
-use Rattle.fold.specs.Fold.{folded}
 use Rattle.layer_cosets.specs.Cosets.{basisOf}
+use Rattle.honest_layers.specs.Folds.{foldOver}
 use borrow.Author.Needs.{needs}
 use native.Mathlib.Omega.{arith}
 use Rattle.honest_layers.proofs.fold_layer.Statement.{statement}
 use Rattle.honest_layers.proofs.fold_layer.Tie as tie
 
+-- the array has room for the basis, which has as many elements as the dimension says
+abbrev Fits : tie.Start → Type 0
+Fits c = c .args .coset .dimension ≤ length (c .args .coset .basis)
+
+fits : (c : tie.Start) → Fits c
+fits c =
+    let twenty : length (c .args .coset .basis) ≡ 20 = search needs in
+    omega (arith, twenty, c .pre .foldable .dimension-most)
+
+abbrev Whole : tie.Start → Type 0
+Whole c = length (basisOf (c .args .coset)) ≡ c .args .coset .dimension
+
+whole : (c : tie.Start) → Whole c
+whole c = length-take-le (c .args .coset .dimension) (c .args .coset .basis) (fits c)
+
+-- where the lists are known
+abbrev start-of : tie.After-step-elements → tie.Start
+start-of c = c .before .before .before
+
+-- the elements of the step's maps, without the zeros after them
+abbrev Counted : tie.After-step-elements → Type 0
+Counted c = let step = start-of c .args .step in length (take step (c .step-elements .result)) ≡ step
+
+counted : (c : tie.After-step-elements) → Counted c
+counted c =
+    let start = start-of c in
+    let three : length (c .step-elements .result) ≡ 3 = search needs in
+    length-take-le (start .args .step) (c .step-elements .result)
+    (omega (arith, three, start .pre .foldable .step-most))
+
+abbrev Taken : tie.After-step-elements → Type 0
+Taken c =
+    let a = start-of c .args in
+    let elements = take (a .step) (c .step-elements .result) in
+    elements ≡ stepElements (length elements) (basisOf (a .coset))
+
+taken : (c : tie.After-step-elements) → Taken c
+taken c =
+    let start = start-of c in
+    let basis = basisOf (start .args .coset) in
+    let fit : start .args .step ≤ length basis = omega (arith, whole start, start .pre .foldable .step-fits) in
+    elements-taken (start .args .step) basis (c .step-elements .result) fit (c .step-elements .ensures)
+    ∙ ap (λ (n : ℕ). stepElements n basis) (sym (counted c))
+
 step-elements-requires : tie.Need-step-elements-requires
-step-elements-requires c κs = let start = c .before .before in (start .pre .1, start .pre .2, start .pre .3)
+step-elements-requires c κs =
+    let f = c .before .before .pre .foldable in
+    (f .step-most, f .step-fits, f .dimension-most)
 
 array-share-prefix-elements : tie.Need-array-share-prefix-elements
 array-share-prefix-elements c = search needs
 
 slice-aggregate-fill-values : tie.Need-slice-aggregate-fill-values
-slice-aggregate-fill-values c =
-    let start = c .before .before .before .before .before in
-    let three : length (c .before .before .step-elements .result) ≡ 3 = search needs in
-    sym (length-take-le (start .args .step) (c .before .before .step-elements .result) (omega (arith, three, start .pre .1)))
+slice-aggregate-fill-values c = sym (counted (c .before .before))
 
 array-share-prefix-basis : tie.Need-array-share-prefix-basis
-array-share-prefix-basis c =
-    let start = c .before .before .before .before .before in
-    let twenty : length (start .args .coset .basis) ≡ 20 = search needs in
-    omega (arith, twenty, start .pre .3)
+array-share-prefix-basis c = fits (start-of (c .before .before))
 
 slice-aggregate-fill-values-2 : tie.Need-slice-aggregate-fill-values-2
-slice-aggregate-fill-values-2 c =
-    let start = c .before .before .before .before .before .before in
-    let twenty : length (start .args .coset .basis) ≡ 20 = search needs in
-    sym (length-take-le (start .args .coset .dimension) (start .args .coset .basis) (omega (arith, twenty, start .pre .3)))
+slice-aggregate-fill-values-2 c = sym (whole (start-of (c .before .before .before)))
 
 fill-values-requires : tie.Need-fill-values-requires
 fill-values-requires c κs =
-    let start = c .before .before .before .before .before .before .before in
-    let a = start .args in
-    let elements = c .before .before .before .before .step-elements .result in
-    let three : length elements ≡ 3 = search needs in
-    let count = length-take-le (a .step) elements (omega (arith, three, start .pre .1)) in
-    let twenty : length (a .coset .basis) ≡ 20 = search needs in
-    let basis = basisOf (a .coset) in
-    let whole = length-take-le (a .coset .dimension) (a .coset .basis) (omega (arith, twenty, start .pre .3)) in (
-      omega (arith, count, start .pre .0),
-      omega (arith, count, start .pre .1),
-      omega (arith, count, whole, start .pre .2),
-      omega (arith, whole, start .pre .3),
-      elements-taken (a .step) basis elements (omega (arith, whole, start .pre .2)) (c .before .before .before .before .step-elements .ensures) ∙ ap (λ (n : ℕ). stepElements n basis) (sym count),
-      start .pre .4,
-      start .pre .5 ∙ ap (λ (n : ℕ). 2 ^ n) (sym whole),
-      start .pre .6 ∙ ap₂ (λ (m n : ℕ). 2 ^ (m - n)) (sym whole) (sym count),
+    let elements = c .before .before .before .before in
+    let start = start-of elements in
+    let f = start .pre .foldable in
+    let count = counted elements in
+    let all = whole start in (
+      omega (arith, count, f .step-least),
+      omega (arith, count, f .step-most),
+      omega (arith, count, all, f .step-fits),
+      omega (arith, all, f .dimension-most),
+      taken elements,
+      f .independent,
+      start .pre .layer-fits ∙ ap (λ (n : ℕ). 2 ^ n) (sym all),
+      start .pre .next-fits ∙ ap₂ (λ (m n : ℕ). 2 ^ (m - n)) (sym all) (sym count),
     )
 
 same-length : tie.Need-same-length
@@ -61,12 +95,10 @@ same-length c = search needs
 
 returns : tie.Need-returns
 returns c =
-    let start = c .before .before .before .before .before .before .before .before .before .before in
-    let a = start .args in
-    let elements = c .before .before .before .before .before .before .before .step-elements .result in
-    let three : length elements ≡ 3 = search needs in
-    let count = length-take-le (a .step) elements (omega (arith, three, start .pre .1)) in
-    c .before .before .fill-values .ensures ∙ ap (λ (n : ℕ). folded n (a .coset .offset .0) (basisOf (a .coset)) (a .layer .now) (a .challenge .0)) count
+    let elements = c .before .before .before .before .before .before .before in
+    let a = start-of elements .args in
+    c .before .before .fill-values .ensures
+    ∙ ap (λ (n : ℕ). foldOver n (a .coset) (a .layer .now) (a .challenge .0)) (counted elements)
 
 pub fold-layer-spec : {M : Type 1} → statement M
 fold-layer-spec =
