@@ -10,9 +10,13 @@ use Rattle.refusal.specs.Checks.{refusedUnless, afterwards}
 use Rattle.poly.specs.Degree.{degreeBound}
 
 -- a degree of `count` or more is told (12)
-abbrev pub lastOutcome : List ℕ → ℕ → Outcome
-lastOutcome interpolant count = refusedUnless (leb (degreeBound interpolant) count) (DegreeTooLarge (degreeBound interpolant - 1)) Done
+abbrev pub lastOutcome : (interpolant : List ℕ) (count : ℕ) → Outcome
+lastOutcome interpolant count =
+    let bound = degreeBound interpolant in
+    refusedUnless (leb bound count) (DegreeTooLarge (bound - 1)) Done
 
 -- the first coefficients of the interpolant, as many as the list has, or what the list held
-abbrev pub lastCoefficients : List ℕ → List ℕ → List ℕ
-lastCoefficients interpolant held = afterwards (lastOutcome interpolant (length held)) (take (length held) interpolant) held
+abbrev pub lastCoefficients : (interpolant held : List ℕ) → List ℕ
+lastCoefficients interpolant held =
+    let count = length held in
+    afterwards (lastOutcome interpolant count) (take count interpolant) held

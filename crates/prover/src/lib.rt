@@ -1,4 +1,5 @@
-// The prover: it folds a word at the challenges and leaves layers 1 to r - 1 in the store and, in a list of their own, the first d
+// The prover: it folds a word at the challenges and leaves layers 1 to r - 1 in the store and, in a list of their own,
+// the first d
 // coefficients of layer r's interpolant.
 use field::Element;
 use layout::Parameters;
@@ -12,15 +13,21 @@ ghost use Rattle.refusal.specs.declared.Outcome.the-variants as outcomes;
 ghost use Rattle.refusal.specs.Checks.{afterwards};
 ghost use Rattle.fri.specs.Layers.{honestStore, honestLast};
 ghost use Rattle.fri.specs.Checks.{runOutcome};
-ghost use Rattle.fri.specs.Prover.{degreeOutcome, proveOutcome, storeAfter, lastAfter};
-ghost use Rattle.layout.specs.Parameters.{stepsBy, runOf};
+ghost use Rattle.fri.specs.Run.{Run, stepsIn, roundsIn};
+ghost use Rattle.fri.specs.Prover.{degreeOutcome};
+ghost use Rattle.layout.specs.Parameters.{runOf};
 ghost use Rattle.prover.specs.Last.{lastOutcome, lastCoefficients};
+ghost use Rattle.prover.specs.Proved.{Proved};
 
-// The honest proof of a word at its challenges: layers 1 to r - 1, joined, into the store, and the first d coefficients of layer r's
+// The honest proof of a word at its challenges: layers 1 to r - 1, joined, into the store, and the first d coefficients
+// of layer r's
 // interpolant into `last`.
-// Refused, in this order: k, R or η out of range, or k too small for them (4, 5, 6, 7); a list whose length is not the one due, the lowest
-// of 1 to 5 (13); a dependent basis (8); a dependent basis of a later layer (16), which no independent basis has. These refusals
-// leave both lists as they were. Then a layer r whose degree is not below the number of last coefficients (12), with that degree: the
+// Refused, in this order: k, R or η out of range, or k too small for them (4, 5, 6, 7); a list whose length is not the
+// one due, the lowest
+// of 1 to 5 (13); a dependent basis (8); a dependent basis of a later layer (16), which no independent basis has. These
+// refusals
+// leave both lists as they were. Then a layer r whose degree is not below the number of last coefficients (12), with
+// that degree: the
 // store holds the layers, and `last` what it held.
 pub fn prove(
     parameters: Parameters,
@@ -31,9 +38,10 @@ pub fn prove(
     store: &mut [u64],
     last: &mut [u64],
 ) -> Outcome
-    ensures answer { λ r. ⌜ r ≡ proveOutcome (runOf parameters (offset .0) (now (basis .entry)) (now (challenges .entry)) (now (word .entry)) (now (store .entry)) (now (last .entry))) ⌝ }
-    ensures store { λ _. ⌜ now (store .exit) ≡ storeAfter (runOf parameters (offset .0) (now (basis .entry)) (now (challenges .entry)) (now (word .entry)) (now (store .entry)) (now (last .entry))) ⌝ }
-    ensures last { λ _. ⌜ now (last .exit) ≡ lastAfter (runOf parameters (offset .0) (now (basis .entry)) (now (challenges .entry)) (now (word .entry)) (now (store .entry)) (now (last .entry))) ⌝ }
+    ensures { λ r.
+        let run = runOf parameters (offset .0) (now (basis .entry)) (now (challenges .entry)) (now (word .entry))
+        (now (store .entry)) (now (last .entry)) in
+        ⌜ Proved run r (now (store .exit)) (now (last .exit)) ⌝ }
 {
     let outcome = run_checks::checked(
         parameters,
@@ -60,10 +68,13 @@ fn prove_checked(
     store: &mut [u64],
     last: &mut [u64],
 ) -> Outcome
-    requires { ⌜ runOutcome (runOf parameters (offset .0) (now basis) (now challenges) (now word) (now store) (now last)) ≡ outcomes.Done ⌝ }
-    ensures answer { λ r. ⌜ r ≡ degreeOutcome (runOf parameters (offset .0) (now (basis .entry)) (now (challenges .entry)) (now (word .entry)) (now (store .entry)) (now (last .entry))) ⌝ }
-    ensures store { λ _. ⌜ now (store .exit) ≡ honestStore (runOf parameters (offset .0) (now (basis .entry)) (now (challenges .entry)) (now (word .entry)) (now (store .entry)) (now (last .entry))) ⌝ }
-    ensures last { λ _. ⌜ now (last .exit) ≡ afterwards (degreeOutcome (runOf parameters (offset .0) (now (basis .entry)) (now (challenges .entry)) (now (word .entry)) (now (store .entry)) (now (last .entry)))) (honestLast (runOf parameters (offset .0) (now (basis .entry)) (now (challenges .entry)) (now (word .entry)) (now (store .entry)) (now (last .entry)))) (now (last .entry)) ⌝ }
+    ghost { Run }
+    requires { λ run.
+        ⌜ runOf parameters (offset .0) (now basis) (now challenges) (now word) (now store) (now last) ≡ run ⌝ }
+    requires { λ run. ⌜ runOutcome run ≡ outcomes.Done ⌝ }
+    ensures answer { λ run r. ⌜ r ≡ degreeOutcome run ⌝ }
+    ensures store { λ run _. ⌜ now (store .exit) ≡ honestStore run ⌝ }
+    ensures last { λ run _. ⌜ now (last .exit) ≡ afterwards (degreeOutcome run) (honestLast run) (run .last) ⌝ }
 {
     let mut room = [0u64; 256];
     let size: usize = 1 << parameters.dimension(parameters.rounds());
@@ -90,11 +101,14 @@ fn prove_in(
     last: &mut [u64],
     room: &mut [u64],
 ) -> Outcome
-    requires { ⌜ (runOutcome (runOf parameters (offset .0) (now basis) (now challenges) (now word) (now store) (now last)) ≡ outcomes.Done)
-        × (length (now room) ≡ 2 ^ dimension (parameters .k) (stepsBy parameters) (length (stepsBy parameters))) ⌝ }
-    ensures answer { λ r. ⌜ r ≡ degreeOutcome (runOf parameters (offset .0) (now (basis .entry)) (now (challenges .entry)) (now (word .entry)) (now (store .entry)) (now (last .entry))) ⌝ }
-    ensures store { λ _. ⌜ now (store .exit) ≡ honestStore (runOf parameters (offset .0) (now (basis .entry)) (now (challenges .entry)) (now (word .entry)) (now (store .entry)) (now (last .entry))) ⌝ }
-    ensures last { λ _. ⌜ now (last .exit) ≡ afterwards (degreeOutcome (runOf parameters (offset .0) (now (basis .entry)) (now (challenges .entry)) (now (word .entry)) (now (store .entry)) (now (last .entry)))) (honestLast (runOf parameters (offset .0) (now (basis .entry)) (now (challenges .entry)) (now (word .entry)) (now (store .entry)) (now (last .entry)))) (now (last .entry)) ⌝ }
+    ghost { Run }
+    requires { λ run.
+        ⌜ runOf parameters (offset .0) (now basis) (now challenges) (now word) (now store) (now last) ≡ run ⌝ }
+    requires { λ run. ⌜ runOutcome run ≡ outcomes.Done ⌝ }
+    requires { λ run. ⌜ length (now room) ≡ 2 ^ dimension (run .k) (stepsIn run) (roundsIn run) ⌝ }
+    ensures answer { λ run r. ⌜ r ≡ degreeOutcome run ⌝ }
+    ensures store { λ run _. ⌜ now (store .exit) ≡ honestStore run ⌝ }
+    ensures last { λ run _. ⌜ now (last .exit) ≡ afterwards (degreeOutcome run) (honestLast run) (run .last) ⌝ }
 {
     let coset = honest_layers::fold_layers(
         parameters,

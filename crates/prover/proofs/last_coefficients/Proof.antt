@@ -18,8 +18,9 @@ sub-degree c = search needs
 returns : tie.Need-returns
 returns c =
     let a = c .before .before .before .before .args in
-    let over : length (a .last .now) < c .before .degree-bound .result = omega (arith, c .if1 .taken) in
-    degree-told (a .interpolant .now) (a .last .now) (c .before .degree-bound .result) (c .before .degree-bound .ensures) over
+    let bound = c .before .degree-bound in
+    let over : length (a .last .now) < bound .result = omega (arith, c .if1 .taken) in
+    degree-told (a .interpolant .now) (a .last .now) (bound .result) (bound .ensures) over
 
 slice-aggregate-copy : tie.Need-slice-aggregate-copy
 slice-aggregate-copy c =
@@ -34,10 +35,14 @@ same-length c = search needs
 
 returns-2 : tie.Need-returns-2
 returns-2 c =
-    let start = c .before .before .before .before .before .before .before .before .before in
+    let else1 = c .before .before .before .before .before in
+    let start = else1 .before .before .before .before in
     let a = start .args in
-    let within : c .before .before .before .before .before .before .degree-bound .result ≤ length (a .last .now) = omega (arith, c .before .before .before .before .before .if1 .left) in
-    coefficients-written (a .interpolant .now) (a .last .now) (c .before .before .before .before .before .before .degree-bound .result) (c .before .before .before .before .before .before .degree-bound .ensures) within (start .pre) (c .before .before .copy .last .1 .0) (c .before .before .copy .ensures)
+    let bound = else1 .before .degree-bound in
+    let copy = c .before .before .copy in
+    let within : bound .result ≤ length (a .last .now) = omega (arith, else1 .if1 .left) in
+    coefficients-written (a .interpolant .now) (a .last .now) (bound .result) (bound .ensures) within (start .pre)
+    (copy .last .1 .0) (copy .ensures)
 
 pub last-coefficients-spec : {M : Type 1} → statement M
 last-coefficients-spec =

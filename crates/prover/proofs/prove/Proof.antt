@@ -4,6 +4,7 @@ use Rattle.refusal.specs.declared.Outcome.the-variants.{Done}
 use Rattle.refusal.specs.declared.Outcome.{Outcome}
 use Rattle.refusal.specs.Checks.{afterwards}
 use Rattle.refusal.proofs.Checks.{then-passed, done-holds}
+use Rattle.fri.specs.Run.{Run}
 use Rattle.fri.specs.Prover.{degreeOutcome}
 use Rattle.fri.specs.Layers.{honestStore, honestLast}
 use Rattle.fri.specs.Checks.{runOutcome}
@@ -13,6 +14,27 @@ use borrow.Author.Needs.{needs}
 use Rattle.prover.proofs.prove.Statement.{statement}
 use Rattle.prover.proofs.prove.Tie as tie
 
+-- where the lists are known
+abbrev start-of : tie.After-checked → tie.Start
+start-of c = c .before .before .before .before .before .before .before .before
+
+-- the run of the call
+abbrev run-at : tie.After-checked → Run
+run-at c =
+    let a = start-of c .args in
+    runOf (a .parameters) (a .offset .0) (a .basis .now) (a .challenges .now) (a .word .now) (a .store .now)
+    (a .last .now)
+
+-- the checks passed
+abbrev Passed : tie.After-enum-told → Type 0
+Passed c = runOutcome (run-at (c .before .before)) ≡ Done
+
+passed : (c : tie.After-enum-told) → Passed c
+passed c =
+    let checked = c .before .before .checked in
+    let done : checked .result ≡ Done = search needs in
+    sym (checked .ensures) ∙ done
+
 checked-requires : tie.Need-checked-requires
 checked-requires c κs = search needs
 
@@ -20,9 +42,7 @@ enum-told : tie.Need-enum-told
 enum-told c = search needs
 
 prove-checked-requires : tie.Need-prove-checked-requires
-prove-checked-requires c κs =
-    let done : c .before .before .before .before .checked .result ≡ Done = search needs in
-    sym (c .before .before .before .before .checked .ensures) ∙ done
+prove-checked-requires c κs = passed (c .before .before)
 
 enum-known-outcome : tie.Need-enum-known-outcome
 enum-known-outcome c = search needs
@@ -35,18 +55,18 @@ same-length-2 c = search needs
 
 returns : tie.Need-returns
 returns c =
-    let a = c .before .before .before .before .before .before .before .before .before .before .before .before .before .before .before .before .before .args in
-    let run = runOf (a .parameters) (a .offset .0) (a .basis .now) (a .challenges .now) (a .word .now) (a .store .now) (a .last .now) in
-    let told : c .before .before .before .before .before .before .before .before .before .checked .result ≡ Done = search needs in
-    let done : runOutcome run ≡ Done = sym (c .before .before .before .before .before .before .before .before .before .checked .ensures) ∙ told in
+    let told = c .before .before .before .before .before .before .before in
+    let run = run-at (told .before .before) in
     let f = c .before .before .before .before .prove-checked in
-    let passed = then-passed (runOutcome run) (degreeOutcome run) done in (
-      f .ensures .0 ∙ passed,
-      (
-        done-holds (runOutcome run) (honestStore run) (a .store .now) (f .last .1 .1 .1 .1 .1 .0) done (f .ensures .1 .0),
-        f .ensures .1 .1 ∙ ap (λ (o : Outcome). afterwards o (honestLast run) (a .last .now)) passed,
-      ),
-    )
+    let done = passed told in
+    let then = then-passed (runOutcome run) (degreeOutcome run) done in
+    record {
+      answer = f .ensures .0 ∙ then;
+      store =
+          done-holds (runOutcome run) (honestStore run) (run .store) (f .last .1 .1 .1 .1 .1 .0) done
+          (f .ensures .1 .0);
+      last = f .ensures .1 .1 ∙ ap (λ (o : Outcome). afterwards o (honestLast run) (run .last)) then;
+    }
 
 same-length-3 : tie.Need-same-length-3
 same-length-3 c = search needs
@@ -56,11 +76,16 @@ same-length-4 c = search needs
 
 returns-2 : tie.Need-returns-2
 returns-2 c =
-    let a = c .before .before .before .before .before .before .before .before .before .before .before .args in
-    let run = runOf (a .parameters) (a .offset .0) (a .basis .now) (a .challenges .now) (a .word .now) (a .store .now) (a .last .now) in
-    let refused = sym (c .before .before .before .checked .ensures) ∙ c .before .outcome .given .1 in
-    let holds = refused-holds-both run (c .before .outcome .given .0 .0) refused in
-    (sym (refused-prove run (c .before .outcome .given .0 .0) refused), (sym (holds .0), sym (holds .1)))
+    let checked = c .before .before .before in
+    let told = c .before .outcome .given in
+    let run = run-at checked in
+    let refused = sym (checked .checked .ensures) ∙ told .1 in
+    let holds = refused-holds-both run (told .0 .0) refused in
+    record {
+      answer = sym (refused-prove run (told .0 .0) refused);
+      store = sym (holds .0);
+      last = sym (holds .1);
+    }
 
 pub prove-spec : {M : Type 1} → statement M
 prove-spec =
