@@ -11,18 +11,16 @@ use Rattle.fri.specs.Judge.{verdictOf}
 use Rattle.fri.specs.Demand.{Any, Accepted, Visits}
 use Rattle.fri.proofs.Soundness.{soundness}
 use Rattle.fri.proofs.Completeness.{completeness, honest-proofs}
-use Rattle.layout.specs.Parameters.{runOf}
-use Rattle.end_to_end.specs.Theorems.{Judging, Judged, ProvedIsAccepted, JudgedSoundness}
+use Rattle.end_to_end.specs.Theorems.{leaving, Judging, Judged, ProvedIsAccepted, JudgedSoundness}
 
 pub proved-is-accepted : ProvedIsAccepted
-proved-is-accepted p offset basis challenges queries word store last outcome store′ last′ verdict h proved v =
-    let run = runOf p offset basis challenges word store last in
-    let honest = honest-proofs .proves run (h .coset) (h .input) (h .low) (h .store-fits) (h .last-fits) in (
-      proved .outcome-is ∙ honest .0,
-      v
-          ∙ ap₂ (λ (x y : List ℕ). verdictOf (runOf p offset basis challenges word x y) queries)
-          (proved .store-is ∙ honest .1) (proved .last-is ∙ honest .2)
-          ∙ completeness run queries (h .coset) (h .input) (h .low) (h .queries-valid),
+proved-is-accepted run queries outcome store last verdict h proved v =
+    let honest = honest-proofs .proves run (h .coset) (h .input) (h .low) (h .store-fits) (h .last-fits) in
+    let left =
+    ap₂ (λ (x y : List ℕ). verdictOf (leaving run x y) queries) (proved .store ∙ honest .1) (proved .last ∙ honest .2)
+    in (
+      proved .answer ∙ honest .0,
+      v ∙ left ∙ completeness run queries (h .coset) (h .input) (h .low) (h .queries-valid),
     )
 
 lists : List Judging → List (List ℕ)

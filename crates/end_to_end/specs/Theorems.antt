@@ -1,5 +1,5 @@
--- Demand 3, stated of what the functions return: an outcome, lists and verdicts that are what the contracts of
--- `prove` and `judge` say they are. The numbers of a call are 64-bit numbers, so that `Elements` holds of its run.
+-- Demand 3, stated of what the functions return: an outcome, lists and verdicts that are what the contracts of `prove`
+-- and `judge` say they are. The numbers of a call are 64-bit numbers, so that `Elements` holds of its run.
 -- proofs/Theorems.antt has the values; `prove_and_judge` calls both functions.
 use mathlib.Core.Path.{_≡_}
 use mathlib.Core.List.{List}
@@ -13,9 +13,7 @@ use Rattle.fri.specs.declared.Verdict.{Verdict}
 use Rattle.fri.specs.Layout.{lastCount, storeLength}
 use Rattle.fri.specs.Run.{Run, stepsIn, roundsIn, stepIn}
 use Rattle.fri.specs.Judge.{verdictOf}
-use Rattle.fri.specs.Prover.{proveOutcome, storeAfter, lastAfter}
-use Rattle.layout.specs.declared.Parameters.{Parameters}
-use Rattle.layout.specs.Parameters.{runOf}
+use Rattle.prover.specs.Proved.{Proved}
 use Rattle.fri.specs.Demand.{ValidCoset, ProverInput, LowDegree, ValidQueries, Any, Visits, Elements, Sound}
 
 -- a word of low degree over a valid coset, any challenges, two lent lists of the lengths due, and a valid query list
@@ -31,21 +29,27 @@ pub record Honest (run : Run) (queries : List ℕ) : Type 0 where
 abbrev pub accepted : (run : Run) (queries : List ℕ) → Verdict
 accepted run queries = record { answer = answers.Accepted; reads = length queries * roundsIn run * 2 ^ run .step }
 
--- the contract of `prove`: what it returns, and what it leaves in the two lent lists
-pub record Proved (run : Run) (outcome : Outcome) (store last : List ℕ) : Type 0 where
-  pub outcome-is : outcome ≡ proveOutcome run
-  pub store-is : store ≡ storeAfter run
-  pub last-is : last ≡ lastAfter run
+-- the run with these lists in the place of its store and its last coefficients
+abbrev pub leaving : (run : Run) (store last : List ℕ) → Run
+leaving run store last =
+    record {
+      k = run .k;
+      rate = run .rate;
+      step = run .step;
+      offset = run .offset;
+      basis = run .basis;
+      challenges = run .challenges;
+      word = run .word;
+      store = store;
+      last = last;
+    }
 
 -- demand 3, first half: what `prove` leaves of a word of low degree is accepted by `judge`
 abbrev pub ProvedIsAccepted : Type 0
 ProvedIsAccepted =
-    (p : Parameters) (offset : ℕ) (basis challenges queries word store last : List ℕ) (outcome : Outcome)
-    (store′ last′ : List ℕ) (verdict : Verdict)
-    → Honest (runOf p offset basis challenges word store last) queries
-    → Proved (runOf p offset basis challenges word store last) outcome store′ last′
-    → verdict ≡ verdictOf (runOf p offset basis challenges word store′ last′) queries
-    → (outcome ≡ Done) × (verdict ≡ accepted (runOf p offset basis challenges word store last) queries)
+    (run : Run) (queries : List ℕ) (outcome : Outcome) (store last : List ℕ) (verdict : Verdict)
+    → Honest run queries → Proved run outcome store last → verdict ≡ verdictOf (leaving run store last) queries
+    → (outcome ≡ Done) × (verdict ≡ accepted run queries)
 
 -- a query list and the verdict on it
 pub record Judging : Type 0 where
@@ -65,5 +69,5 @@ VisitedByAccepted run judgings =
 -- demand 3, second half: one claim over any list of judgings of the same layers from anybody
 abbrev pub JudgedSoundness : Type 0
 JudgedSoundness =
-    (run : Run) (judgings : List Judging) → Elements run → All (Judged run) judgings → VisitedByAccepted run judgings
-    → Sound run
+    (run : Run) (judgings : List Judging)
+    → Elements run → All (Judged run) judgings → VisitedByAccepted run judgings → Sound run

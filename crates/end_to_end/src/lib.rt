@@ -3,12 +3,8 @@ use field::Element;
 use fri::Verdict;
 use layout::Parameters;
 use refusal::Outcome;
-ghost use mathlib.Core.Path.{_≡_};
-ghost use Rattle.fri.specs.Judge.{verdictOf};
-ghost use Rattle.fri.specs.Prover.{proveOutcome, storeAfter, lastAfter};
-ghost use Rattle.refusal.specs.declared.Outcome.the-variants as outcomes;
 ghost use Rattle.layout.specs.Parameters.{runOf};
-ghost use Rattle.end_to_end.specs.Theorems.{Honest, accepted};
+ghost use Rattle.end_to_end.specs.Judged.{ProvedThenJudged};
 
 // What the prover answered, and the verdict on what it left.
 pub struct ProvedAndJudged {
@@ -16,8 +12,8 @@ pub struct ProvedAndJudged {
     pub verdict: Verdict,
 }
 
-// Proves, and judges what the two lent lists hold then, whatever the prover answered. Where the word has low degree and the other input is
-// valid, it is proved and accepted.
+// Proves, and judges what the two lent lists hold then, whatever the prover answered. Where the word has low degree and
+// the other input is valid, it is proved and accepted.
 pub fn prove_and_judge(
     parameters: Parameters,
     offset: Element,
@@ -28,11 +24,10 @@ pub fn prove_and_judge(
     store: &mut [u64],
     last: &mut [u64],
 ) -> ProvedAndJudged
-    ensures answer { λ r. ⌜ r .outcome ≡ proveOutcome (runOf parameters (offset .0) (now (basis .entry)) (now (challenges .entry)) (now (word .entry)) (now (store .entry)) (now (last .entry))) ⌝ }
-    ensures verdict { λ r. ⌜ r .verdict ≡ verdictOf (runOf parameters (offset .0) (now (basis .entry)) (now (challenges .entry)) (now (word .entry)) (now (store .exit)) (now (last .exit))) (now (queries .entry)) ⌝ }
-    ensures store { λ _. ⌜ now (store .exit) ≡ storeAfter (runOf parameters (offset .0) (now (basis .entry)) (now (challenges .entry)) (now (word .entry)) (now (store .entry)) (now (last .entry))) ⌝ }
-    ensures last { λ _. ⌜ now (last .exit) ≡ lastAfter (runOf parameters (offset .0) (now (basis .entry)) (now (challenges .entry)) (now (word .entry)) (now (store .entry)) (now (last .entry))) ⌝ }
-    ensures accepts { λ r. ⌜ (Honest (runOf parameters (offset .0) (now (basis .entry)) (now (challenges .entry)) (now (word .entry)) (now (store .entry)) (now (last .entry))) (now (queries .entry)) → (r .outcome ≡ outcomes.Done) × (r .verdict ≡ accepted (runOf parameters (offset .0) (now (basis .entry)) (now (challenges .entry)) (now (word .entry)) (now (store .entry)) (now (last .entry))) (now (queries .entry)))) ⌝ }
+    ensures { λ r.
+        let run = runOf parameters (offset .0) (now (basis .entry)) (now (challenges .entry)) (now (word .entry))
+        (now (store .entry)) (now (last .entry)) in
+        ⌜ ProvedThenJudged run (now (queries .entry)) r (now (store .exit)) (now (last .exit)) ⌝ }
 {
     let outcome = prover::prove(parameters, offset, basis, challenges, word, store, last);
     let verdict = list_judge::judge(
