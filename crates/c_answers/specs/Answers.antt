@@ -103,6 +103,7 @@ numbersOf a = a .number ∷ a .place ∷ a .round ∷ a .reads ∷ a .value ∷ 
 abbrev pub answered : Answer → List ℕ → List ℕ
 answered a lent = cond (eqb (length lent) 5) (numbersOf a) lent
 
--- what another lent list holds afterwards: what the operation leaves there, or what it held where the answer's list has not length 5
+-- what another lent list holds afterwards: what the operation leaves there, or what it held where the answer's list
+-- has not length 5
 abbrev pub whereAnswered : List ℕ → List ℕ → List ℕ → List ℕ
 whereAnswered lent left held = cond (eqb (length lent) 5) left held

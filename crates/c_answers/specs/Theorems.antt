@@ -1,4 +1,5 @@
--- The five numbers of answers, by example, and the part that a lookup's answer names: proofs/Theorems.antt has the values.
+-- The five numbers of answers, by example, and the part that a lookup's answer names: proofs/Theorems.antt has the
+-- values.
 use mathlib.Core.Path.{_≡_}
 use mathlib.Core.List.{List, [], _∷_}
 use Prim.Native.Nat.{ℕ}

@@ -5,18 +5,19 @@ use refusal::Cause;
 use refusal::Outcome;
 use refusal::Position;
 ghost use mathlib.Core.Path.{_≡_};
-ghost use Prim.Native.Nat.{_-_, _^_, _≤_};
+ghost use Prim.Native.Nat.{_≤_};
 ghost use lib.ListN.{length};
 ghost use Rattle.refusal.specs.Checks.{andThen};
-ghost use Rattle.coset.specs.Span.{firstDependent, Independent};
+ghost use Rattle.coset.specs.Span.{firstDependent};
 ghost use Rattle.coset.specs.Subspace.{nextOffset, nextBasis};
 ghost use Rattle.fold.specs.Fold.{folded};
-ghost use Rattle.fold.specs.Answers.{foldRangesOutcome, foldLengthsOutcome, outcomeOfNextBasis, foldBasesOutcome, foldAnswer, foldValuesAfter, nextBasisAfter};
+ghost use Rattle.fold.specs.Answers.{foldRangesOutcome, foldLengthsOutcome, outcomeOfNextBasis, foldBasesOutcome};
+ghost use Rattle.lone_fold.specs.Calls.{FoldCall, FoldedBy, FoldFits};
 
-// The fold of a word at the challenge, with the step, into `values`; the basis of the next coset into `next_basis`; its offset as the
-// answer. Refused, in this order: k outside 2..20 (4); a step outside 1..3 (6); k below the step (7); a list whose length is not the one
-// due, the lowest of 1, 3, 6 and 7 (13); a dependent basis (8); a dependent next basis (16), which no independent basis has. A
-// refusal leaves both lists as they were.
+// The fold of a word at the challenge, with the step, into `values`; the basis of the next coset into `next_basis`;
+// its offset as the answer. Refused, in this order: k outside 2..20 (4); a step outside 1..3 (6); k below the step
+// (7); a list whose length is not the one due, the lowest of 1, 3, 6 and 7 (13); a dependent basis (8); a dependent
+// next basis (16), which no independent basis has. A refusal leaves both lists as they were.
 pub fn fold(
     k: usize,
     step: usize,
@@ -27,9 +28,18 @@ pub fn fold(
     values: &mut [u64],
     next_basis: &mut [u64],
 ) -> Folded
-    ensures answer { λ r. ⌜ r ≡ foldAnswer k step (offset .0) (now (basis .entry)) (now (word .entry)) (now (values .entry)) (now («next_basis» .entry)) ⌝ }
-    ensures output { λ _. ⌜ now (values .exit) ≡ foldValuesAfter k step (offset .0) (now (basis .entry)) (now (word .entry)) (challenge .0) (now (values .entry)) (now («next_basis» .entry)) ⌝ }
-    ensures next { λ _. ⌜ now («next_basis» .exit) ≡ nextBasisAfter k step (now (basis .entry)) (now (word .entry)) (now (values .entry)) (now («next_basis» .entry)) ⌝ }
+    ensures { λ r.
+        let call : FoldCall = record {
+          k = k;
+          step = step;
+          offset = offset .0;
+          basis = now (basis .entry);
+          word = now (word .entry);
+          challenge = challenge .0;
+          values = now (values .entry);
+          next = now («next_basis» .entry);
+        } in
+        ⌜ FoldedBy call r (now (values .exit)) (now («next_basis» .exit)) ⌝ }
 {
     let outcome = checked(k, step, basis, word.len(), values.len(), next_basis.len());
     match outcome {
@@ -56,11 +66,10 @@ fn fold_checked(
     values: &mut [u64],
     next: &mut [u64],
 ) -> Element
-    requires { ⌜ (1 ≤ step) × (step ≤ 3) × (step ≤ length (now basis)) × (length (now basis) ≤ 20) × Independent (now basis)
-        × (length (now word) ≡ 2 ^ length (now basis)) × (length (now values) ≡ 2 ^ (length (now basis) - step))
-        × (length (now next) ≡ length (now basis) - step) ⌝ }
+    requires { ⌜ FoldFits step (now basis) (now word) (now values) (now next) ⌝ }
     ensures answer { λ r. ⌜ r .0 ≡ nextOffset step (offset .0) (now (basis .entry)) ⌝ }
-    ensures output { λ _. ⌜ now (values .exit) ≡ folded step (offset .0) (now (basis .entry)) (now (word .entry)) (challenge .0) ⌝ }
+    ensures output { λ _.
+        ⌜ now (values .exit) ≡ folded step (offset .0) (now (basis .entry)) (now (word .entry)) (challenge .0) ⌝ }
     ensures next { λ _. ⌜ now (next .exit) ≡ nextBasis step (now (basis .entry)) ⌝ }
 {
     let elements = next_coset::step_elements(basis, step);
@@ -77,7 +86,9 @@ fn checked(
     length6: usize,
     length7: usize,
 ) -> Outcome
-    ensures { λ r. ⌜ r ≡ andThen (foldRangesOutcome k step) (andThen (foldLengthsOutcome k step (length (now (basis .entry))) length3 length6 length7) (foldBasesOutcome step (now (basis .entry)))) ⌝ }
+    ensures { λ r.
+        let lengths = foldLengthsOutcome k step (length (now (basis .entry))) length3 length6 length7 in
+        ⌜ r ≡ andThen (foldRangesOutcome k step) (andThen lengths (foldBasesOutcome step (now (basis .entry)))) ⌝ }
 {
     let ranges = checked_ranges(k, step);
     match ranges {

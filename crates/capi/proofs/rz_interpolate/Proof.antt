@@ -1,4 +1,5 @@
--- `capi::rz_interpolate` meets its contract: where the answer's list has another length nothing is done. Assumes nothing.
+-- `capi::rz_interpolate` meets its contract: where the answer's list has another length nothing is done. Assumes
+-- nothing.
 use mathlib.Core.Path.{ap, _∙_}
 use native.Mathlib.Omega.{arith}
 use borrow.Author.Needs.{needs}

@@ -1,6 +1,5 @@
 -- `honest_layers::fill_store` meets its contract. The loop's invariant: layers 1 to i are in the store, and the coset
--- is
--- that of layer i. Assumes nothing.
+-- is that of layer i. Assumes nothing.
 use Rattle.fri.specs.Run.{Run}
 use Rattle.layer_cosets.specs.Cosets.{cosetOf}
 use native.Mathlib.Numerals.{add-one}

@@ -32,9 +32,17 @@ checked-bases-requires c κs =
     let a = c .before .before .before .before .before .before .before .args in
     let done : c .before .before .before .before .before .checked-ranges .result ≡ Done = search needs in
     let fit : c .before .before .checked-lengths .result ≡ Done = search needs in
-    let ranges = in-range (a .k) (a .step) (sym (c .before .before .before .before .before .checked-ranges .ensures) ∙ done) in
-    let lengths = fitting (a .k) (a .step) (length (a .basis .now)) (a .length3) (a .length6) (a .length7) (sym (c .before .before .checked-lengths .ensures) ∙ fit) in
-    (ranges .step-at-most-3, omega (arith, ranges .step-fits, lengths .list1-fits), omega (arith, ranges .at-most-20, lengths .list1-fits))
+    let ranges =
+    in-range (a .k) (a .step) (sym (c .before .before .before .before .before .checked-ranges .ensures) ∙ done)
+    in
+    let lengths =
+    fitting (a .k) (a .step) (length (a .basis .now)) (a .length3) (a .length6) (a .length7)
+    (sym (c .before .before .checked-lengths .ensures) ∙ fit)
+    in (
+      ranges .step-at-most-3,
+      omega (arith, ranges .step-fits, lengths .list1-fits),
+      omega (arith, ranges .at-most-20, lengths .list1-fits),
+    )
 
 enum-known-lengths : tie.Need-enum-known-lengths
 enum-known-lengths c = search needs
@@ -51,7 +59,8 @@ returns c =
     let bases = foldBasesOutcome (a .step) (a .basis .now) in
     c .checked-bases .ensures
     ∙ then-passed lengths bases (sym (c .before .before .before .checked-lengths .ensures) ∙ fit)
-    ∙ then-passed (foldRangesOutcome (a .k) (a .step)) (andThen lengths bases) (sym (c .before .before .before .before .before .before .checked-ranges .ensures) ∙ done)
+    ∙ then-passed (foldRangesOutcome (a .k) (a .step)) (andThen lengths bases)
+    (sym (c .before .before .before .before .before .before .checked-ranges .ensures) ∙ done)
 
 returns-2 : tie.Need-returns-2
 returns-2 c =
@@ -59,15 +68,19 @@ returns-2 c =
     let done : c .before .before .before .before .before .before .checked-ranges .result ≡ Done = search needs in
     let lengths = foldLengthsOutcome (a .k) (a .step) (length (a .basis .now)) (a .length3) (a .length6) (a .length7) in
     let bases = foldBasesOutcome (a .step) (a .basis .now) in
-    then-refused lengths bases (c .before .lengths .given .0 .0) (sym (c .before .before .before .checked-lengths .ensures) ∙ c .before .lengths .given .1)
-    ∙ then-passed (foldRangesOutcome (a .k) (a .step)) (andThen lengths bases) (sym (c .before .before .before .before .before .before .checked-ranges .ensures) ∙ done)
+    then-refused lengths bases (c .before .lengths .given .0 .0)
+    (sym (c .before .before .before .checked-lengths .ensures) ∙ c .before .lengths .given .1)
+    ∙ then-passed (foldRangesOutcome (a .k) (a .step)) (andThen lengths bases)
+    (sym (c .before .before .before .before .before .before .checked-ranges .ensures) ∙ done)
 
 returns-3 : tie.Need-returns-3
 returns-3 c =
     let a = c .before .before .before .before .before .args in
     then-refused (foldRangesOutcome (a .k) (a .step))
-    (andThen (foldLengthsOutcome (a .k) (a .step) (length (a .basis .now)) (a .length3) (a .length6) (a .length7)) (foldBasesOutcome (a .step) (a .basis .now)))
-    (c .before .ranges .given .0 .0) (sym (c .before .before .before .checked-ranges .ensures) ∙ c .before .ranges .given .1)
+    (andThen (foldLengthsOutcome (a .k) (a .step) (length (a .basis .now)) (a .length3) (a .length6) (a .length7))
+    (foldBasesOutcome (a .step) (a .basis .now)))
+    (c .before .ranges .given .0 .0)
+    (sym (c .before .before .before .checked-ranges .ensures) ∙ c .before .ranges .given .1)
 
 pub checked-spec : {M : Type 1} → statement M
 checked-spec =

@@ -27,12 +27,15 @@ returns c =
     let a = c .before .before .before .before .before .args in
     let done : c .before .before .before .checked-basis .result ≡ Done = search needs in
     c .checked-next-basis .ensures
-    ∙ then-passed (outcomeOfBasis (firstDependent (a .basis .now))) (outcomeOfNextBasis (firstDependent (nextBasis (a .step) (a .basis .now)))) (sym (c .before .before .before .checked-basis .ensures) ∙ done)
+    ∙ then-passed (outcomeOfBasis (firstDependent (a .basis .now)))
+    (outcomeOfNextBasis (firstDependent (nextBasis (a .step) (a .basis .now))))
+    (sym (c .before .before .before .checked-basis .ensures) ∙ done)
 
 returns-2 : tie.Need-returns-2
 returns-2 c =
     let a = c .before .before .before .before .before .args in
-    then-refused (outcomeOfBasis (firstDependent (a .basis .now))) (outcomeOfNextBasis (firstDependent (nextBasis (a .step) (a .basis .now)))) (c .before .outcome .given .0 .0)
+    then-refused (outcomeOfBasis (firstDependent (a .basis .now)))
+    (outcomeOfNextBasis (firstDependent (nextBasis (a .step) (a .basis .now)))) (c .before .outcome .given .0 .0)
     (sym (c .before .before .before .checked-basis .ensures) ∙ c .before .outcome .given .1)
 
 pub checked-bases-spec : {M : Type 1} → statement M

@@ -27,7 +27,8 @@ slice-aggregate-first-dependent : tie.Need-slice-aggregate-first-dependent
 slice-aggregate-first-dependent c =
     let start = c .before .before .before in
     let twenty : length (c .before .next-basis .result) ≡ 20 = search needs in
-    sym (length-take-le (length (start .args .basis .now) - start .args .step) (c .before .next-basis .result) (omega (arith, twenty, start .pre .2)))
+    sym (length-take-le (length (start .args .basis .now) - start .args .step) (c .before .next-basis .result)
+    (omega (arith, twenty, start .pre .2)))
 
 first-dependent-requires : tie.Need-first-dependent-requires
 first-dependent-requires c κs = search needs
@@ -41,13 +42,22 @@ enum-told-2 c = search needs
 returns : tie.Need-returns
 returns c =
     let a = c .before .before .before .before .before .before .args in
-    let next = padded-taken 20 (length (a .basis .now) - a .step) (nextBasis (a .step) (a .basis .now)) (c .before .before .before .before .next-basis .result) (c .before .before .before .before .next-basis .ensures) (length-nextBasis (a .step) (a .basis .now)) in
-    ap outcomeOfNextBasis (sym (c .enum-told .given .1) ∙ c .before .before .first-dependent .ensures ∙ ap firstDependent next)
+    let next =
+    padded-taken 20 (length (a .basis .now) - a .step) (nextBasis (a .step) (a .basis .now))
+    (c .before .before .before .before .next-basis .result) (c .before .before .before .before .next-basis .ensures)
+    (length-nextBasis (a .step) (a .basis .now))
+    in
+    ap outcomeOfNextBasis
+    (sym (c .enum-told .given .1) ∙ c .before .before .first-dependent .ensures ∙ ap firstDependent next)
 
 returns-2 : tie.Need-returns-2
 returns-2 c =
     let a = c .before .before .before .before .before .before .args in
-    let next = padded-taken 20 (length (a .basis .now) - a .step) (nextBasis (a .step) (a .basis .now)) (c .before .before .before .before .next-basis .result) (c .before .before .before .before .next-basis .ensures) (length-nextBasis (a .step) (a .basis .now)) in
+    let next =
+    padded-taken 20 (length (a .basis .now) - a .step) (nextBasis (a .step) (a .basis .now))
+    (c .before .before .before .before .next-basis .result) (c .before .before .before .before .next-basis .ensures)
+    (length-nextBasis (a .step) (a .basis .now))
+    in
     let absent : c .before .before .first-dependent .result ≡ Absent = search needs in
     ap outcomeOfNextBasis (sym absent ∙ c .before .before .first-dependent .ensures ∙ ap firstDependent next)
 

@@ -15,20 +15,26 @@ returns c =
 returns-2 : tie.Need-returns-2
 returns-2 c =
     let a = c .before .before .before .args in
-    step-refused (a .k) (a .step) (within 2 20 (a .k) (c .before .before .if1 .left) (ltb-false 20 (a .k) (c .before .if2 .left)))
-    (outside 1 3 (a .step) (⊎-elim (λ t. inl (t .taken)) (λ t. inr (ltb-true 3 (a .step) (t .1 .taken))) (c .if3 .came)))
+    step-refused (a .k) (a .step)
+    (within 2 20 (a .k) (c .before .before .if1 .left) (ltb-false 20 (a .k) (c .before .if2 .left)))
+    (outside 1 3 (a .step)
+    (⊎-elim (λ t. inl (t .taken)) (λ t. inr (ltb-true 3 (a .step) (t .1 .taken))) (c .if3 .came)))
 
 returns-3 : tie.Need-returns-3
 returns-3 c =
     let a = c .before .before .before .before .before .args in
-    too-small-refused (a .k) (a .step) (within 2 20 (a .k) (c .before .before .before .before .if1 .left) (ltb-false 20 (a .k) (c .before .before .before .if2 .left)))
+    too-small-refused (a .k) (a .step)
+    (within 2 20 (a .k) (c .before .before .before .before .if1 .left)
+    (ltb-false 20 (a .k) (c .before .before .before .if2 .left)))
     (within 1 3 (a .step) (c .before .before .if3 .left) (ltb-false 3 (a .step) (c .before .if4 .left)))
     (lt-leb (a .step) (a .k) (c .if5 .taken))
 
 returns-4 : tie.Need-returns-4
 returns-4 c =
     let a = c .before .before .before .before .before .args in
-    ranges-pass (a .k) (a .step) (within 2 20 (a .k) (c .before .before .before .before .if1 .left) (ltb-false 20 (a .k) (c .before .before .before .if2 .left)))
+    ranges-pass (a .k) (a .step)
+    (within 2 20 (a .k) (c .before .before .before .before .if1 .left)
+    (ltb-false 20 (a .k) (c .before .before .before .if2 .left)))
     (within 1 3 (a .step) (c .before .before .if3 .left) (ltb-false 3 (a .step) (c .before .if4 .left)))
     (le-leb (a .step) (a .k) (c .if5 .left))
 

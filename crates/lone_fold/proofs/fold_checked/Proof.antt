@@ -3,7 +3,7 @@ use mathlib.Core.Path.{_≡_, sym, ap, _∙_}
 use mathlib.Core.List.{List}
 use Prim.Native.Nat.{ℕ, _-_, _^_}
 use native.Mathlib.Nat.{le-of-eq}
-use lib.ListN.{length, length-drop}
+use lib.ListN.{length, take, length-drop}
 use lib.Seq.{length-take-le}
 use Rattle.gf64.specs.Field.{IsElement}
 use Rattle.poly.proofs.Parts.{mid-suffix}
@@ -16,6 +16,31 @@ use native.Mathlib.Omega.{arith}
 use Rattle.lone_fold.proofs.fold_checked.Statement.{statement}
 use Rattle.lone_fold.proofs.fold_checked.Tie as tie
 
+-- where the lists are known
+abbrev start-of : tie.After-step-elements → tie.Start
+start-of c = c .before .before .before .before .before
+
+-- the elements of the step's maps, without the zeros after them
+abbrev Counted : tie.After-step-elements → Type 0
+Counted c = let step = start-of c .args .step in length (take step (c .step-elements .result)) ≡ step
+
+counted : (c : tie.After-step-elements) → Counted c
+counted c =
+    let start = start-of c in
+    let three : length (c .step-elements .result) ≡ 3 = search needs in
+    length-take-le (start .args .step) (c .step-elements .result) (omega (arith, three, start .pre .step-most))
+
+abbrev Taken : tie.After-step-elements → Type 0
+Taken c =
+    let a = start-of c .args in
+    take (a .step) (c .step-elements .result) ≡ stepElements (a .step) (a .basis .now)
+
+taken : (c : tie.After-step-elements) → Taken c
+taken c =
+    let start = start-of c in
+    elements-taken (start .args .step) (start .args .basis .now) (c .step-elements .result) (start .pre .step-fits)
+    (c .step-elements .ensures)
+
 step-elements-requires : tie.Need-step-elements-requires
 step-elements-requires c κs = search needs
 
@@ -23,40 +48,30 @@ array-share-prefix-elements : tie.Need-array-share-prefix-elements
 array-share-prefix-elements c = search needs
 
 slice-aggregate-fill-values : tie.Need-slice-aggregate-fill-values
-slice-aggregate-fill-values c =
-    let start = c .before .before .before .before .before .before in
-    let elements = c .before .step-elements .result in
-    let three : length elements ≡ 3 = search needs in
-    let count = length-take-le (start .args .step) elements (omega (arith, three, start .pre .1)) in
-    sym count
+slice-aggregate-fill-values c = sym (counted (c .before))
 
 fill-values-requires : tie.Need-fill-values-requires
 fill-values-requires c κs =
-    let start = c .before .before .before .before .before .before .before in
-    let elements = c .before .before .step-elements .result in
-    let three : length elements ≡ 3 = search needs in
-    let count = length-take-le (start .args .step) elements (omega (arith, three, start .pre .1)) in
-    let basis = start .args .basis .now in (
-      omega (arith, count, start .pre .0),
-      omega (arith, count, start .pre .1),
-      omega (arith, count, start .pre .2),
-      start .pre .3,
-      elements-taken (start .args .step) basis elements (start .pre .2) (c .before .before .step-elements .ensures) ∙ ap (λ (n : ℕ). stepElements n basis) (sym count),
-      start .pre .4,
-      start .pre .5,
-      start .pre .6 ∙ ap (λ (n : ℕ). 2 ^ (length basis - n)) (sym count),
+    let elements = c .before .before in
+    let start = start-of elements in
+    let basis = start .args .basis .now in
+    let count = counted elements in
+    let f = start .pre in (
+      omega (arith, count, f .step-least),
+      omega (arith, count, f .step-most),
+      omega (arith, count, f .step-fits),
+      f .basis-most,
+      taken elements ∙ ap (λ (n : ℕ). stepElements n basis) (sym count),
+      f .independent,
+      f .word-fits,
+      f .values-fit ∙ ap (λ (n : ℕ). 2 ^ (length basis - n)) (sym count),
     )
 
 array-share-prefix-elements-2 : tie.Need-array-share-prefix-elements-2
 array-share-prefix-elements-2 c = search needs
 
 slice-aggregate-fill-images : tie.Need-slice-aggregate-fill-images
-slice-aggregate-fill-images c =
-    let start = c .before .before .before .before .before .before .before .before .before .before .before in
-    let elements = c .before .before .before .before .before .before .step-elements .result in
-    let three : length elements ≡ 3 = search needs in
-    let count = length-take-le (start .args .step) elements (omega (arith, three, start .pre .1)) in
-    sym count
+slice-aggregate-fill-images c = sym (counted (c .before .before .before .before .before .before))
 
 mul-fill-images : tie.Need-mul-fill-images
 mul-fill-images c = search needs
@@ -72,20 +87,17 @@ part-fill-images-end c = search needs
 
 fill-images-requires : tie.Need-fill-images-requires
 fill-images-requires c κs =
-    let start = c .before .before .before .before .before .before .before .before .before .before .before .before .before in
+    let start = start-of (c .before .before .before .before .before .before .before .before) in
     let basis = start .args .basis .now in
-    le-of-eq (ap length (mid-suffix (start .args .step) basis) ∙ length-drop (start .args .step) basis ∙ sym (start .pre .7))
+    let step = start .args .step in
+    le-of-eq (ap length (mid-suffix step basis) ∙ length-drop step basis ∙ sym (start .pre .next-fits))
 
 array-share-prefix-elements-3 : tie.Need-array-share-prefix-elements-3
 array-share-prefix-elements-3 c = search needs
 
 slice-aggregate-composed-maps : tie.Need-slice-aggregate-composed-maps
 slice-aggregate-composed-maps c =
-    let start = c .before .before .before .before .before .before .before .before .before .before .before .before .before .before .before .before .before in
-    let elements = c .before .before .before .before .before .before .before .before .before .before .before .before .step-elements .result in
-    let three : length elements ≡ 3 = search needs in
-    let count = length-take-le (start .args .step) elements (omega (arith, three, start .pre .1)) in
-    sym count
+    sym (counted (c .before .before .before .before .before .before .before .before .before .before .before .before))
 
 composed-maps-requires : tie.Need-composed-maps-requires
 composed-maps-requires c κs = search needs
@@ -98,19 +110,23 @@ same-length-2 c = search needs
 
 returns : tie.Need-returns
 returns c =
-    let start = c .before .before .before .before .before .before .before .before .before .before .before .before .before .before .before .before .before .before in
-    let elements = c .before .before .before .before .before .before .before .before .before .before .before .before .before .step-elements .result in
-    let three : length elements ≡ 3 = search needs in
-    let count = length-take-le (start .args .step) elements (omega (arith, three, start .pre .1)) in
+    let images = c .before .before .before .before .fill-images in
+    let values = c .before .before .before .before .before .before .before .before .before .before in
+    let elements = values .before .before .before in
+    let start = start-of elements in
     let a = start .args in
     let basis = a .basis .now in
-    let basis-elements = all-elements basis (λ i. omega (arith, c .before .before .before .before .before .before .before .before .before .before .before .before .before .before .before .before .before .shared-slice-known .given i)) in
-    let offset-element : IsElement (a .offset .0) = search needs in
-    let taken = elements-taken (a .step) basis elements (start .pre .2) (c .before .before .before .before .before .before .before .before .before .before .before .before .before .step-elements .ensures) in (
-      c .composed-maps .ensures ∙ ap (λ (es : List ℕ). composedMaps es (a .offset .0)) taken ∙ sym (nextOffset-through (a .step) (a .offset .0) basis offset-element),
+    let known = elements .before .before .before .before .shared-slice-known in
+    let basis-elements = all-elements basis (λ i. omega (arith, known .given i)) in
+    let offset-element : IsElement (a .offset .0) = search needs in (
+      c .composed-maps .ensures ∙ ap (λ (es : List ℕ). composedMaps es (a .offset .0)) (taken elements)
+          ∙ sym (nextOffset-through (a .step) (a .offset .0) basis offset-element),
       (
-        c .before .before .before .before .before .before .before .before .before .before .fill-values .ensures ∙ ap (λ (n : ℕ). folded n (a .offset .0) basis (a .word .now) (a .challenge .0)) count,
-        next-whole (a .step) basis elements (a .next .now) (c .before .before .before .before .fill-images .last .1 .1 .0) basis-elements (start .pre .2) (c .before .before .before .before .before .before .before .before .before .before .before .before .before .step-elements .ensures) (start .pre .7) (c .before .before .before .before .fill-images .ensures),
+        values .fill-values .ensures
+            ∙ ap (λ (n : ℕ). folded n (a .offset .0) basis (a .word .now) (a .challenge .0)) (counted elements),
+        next-whole (a .step) basis (elements .step-elements .result) (a .next .now) (images .last .1 .1 .0)
+            basis-elements (start .pre .step-fits) (elements .step-elements .ensures) (start .pre .next-fits)
+            (images .ensures),
       ),
     )
 

@@ -1,4 +1,5 @@
--- `Answer::of_folded` meets its contract: each arm is given that the argument is the constructor at its field. Assumes nothing.
+-- `Answer::of_folded` meets its contract: each arm is given that the argument is the constructor at its field.
+-- Assumes nothing.
 use mathlib.Core.Path.{sym, ap, _∙_}
 use Rattle.c_answers.specs.Answers.{answerOfFolded}
 use borrow.Author.Needs.{needs}
