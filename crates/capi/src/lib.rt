@@ -7,13 +7,14 @@ ghost use lib.ListN.{length};
 ghost use Rattle.gf64.specs.Field.{sum, product};
 ghost use Rattle.field.specs.Answers.{invertedOf};
 ghost use Rattle.reed_solomon.specs.Answers.{encodeOutcome, interpolateOutcome, valuesAfter, coefficientsAfter};
-ghost use Rattle.fold.specs.Answers.{foldAnswer, foldValuesAfter, nextBasisAfter};
+ghost use Rattle.lone_fold.specs.Calls.{FoldCall};
 ghost use Rattle.fri.specs.Judge.{verdictOf};
-ghost use Rattle.fri.specs.Prover.{proveOutcome, storeAfter, lastAfter};
 ghost use Rattle.layout.specs.Parameters.{runOf};
 ghost use Rattle.layout.specs.Parts.{partOf};
 ghost use Rattle.transcript.specs.Judge.{transcriptVerdict};
-ghost use Rattle.c_answers.specs.Answers.{answerOfInverted, answerOfFolded, answerOfOutcome, answerOfProved, answerOfPart, answerOfVerdict, answered, whereAnswered};
+ghost use Rattle.c_answers.specs.Answers.{answerOfInverted, answerOfOutcome, answerOfPart, answerOfVerdict};
+ghost use Rattle.c_answers.specs.Answers.{answered, whereAnswered};
+ghost use Rattle.capi.specs.Calls.{FoldAnswered, ProofAnswered};
 
 // How many numbers an answer has.
 const ANSWER_LENGTH: usize = 5;
@@ -50,8 +51,12 @@ pub extern "C" fn rz_encode(
     values: &mut [u64],
     answer: &mut [u64],
 )
-    ensures answer { λ _. ⌜ now (answer .exit) ≡ answered (answerOfOutcome (encodeOutcome (now (basis .entry)) (now (coefficients .entry)) (now (values .entry)))) (now (answer .entry)) ⌝ }
-    ensures output { λ _. ⌜ now (values .exit) ≡ whereAnswered (now (answer .entry)) (valuesAfter offset (now (basis .entry)) (now (coefficients .entry)) (now (values .entry))) (now (values .entry)) ⌝ }
+    ensures answer { λ _.
+        let outcome = encodeOutcome (now (basis .entry)) (now (coefficients .entry)) (now (values .entry)) in
+        ⌜ now (answer .exit) ≡ answered (answerOfOutcome outcome) (now (answer .entry)) ⌝ }
+    ensures output { λ _.
+        let after = valuesAfter offset (now (basis .entry)) (now (coefficients .entry)) (now (values .entry)) in
+        ⌜ now (values .exit) ≡ whereAnswered (now (answer .entry)) after (now (values .entry)) ⌝ }
 {
     if answer.len() != ANSWER_LENGTH {
         return;
@@ -68,8 +73,12 @@ pub extern "C" fn rz_interpolate(
     coefficients: &mut [u64],
     answer: &mut [u64],
 )
-    ensures answer { λ _. ⌜ now (answer .exit) ≡ answered (answerOfOutcome (interpolateOutcome (now (basis .entry)) (now (word .entry)) (now (coefficients .entry)))) (now (answer .entry)) ⌝ }
-    ensures output { λ _. ⌜ now (coefficients .exit) ≡ whereAnswered (now (answer .entry)) (coefficientsAfter offset (now (basis .entry)) (now (word .entry)) (now (coefficients .entry))) (now (coefficients .entry)) ⌝ }
+    ensures answer { λ _.
+        let outcome = interpolateOutcome (now (basis .entry)) (now (word .entry)) (now (coefficients .entry)) in
+        ⌜ now (answer .exit) ≡ answered (answerOfOutcome outcome) (now (answer .entry)) ⌝ }
+    ensures output { λ _.
+        let after = coefficientsAfter offset (now (basis .entry)) (now (word .entry)) (now (coefficients .entry)) in
+        ⌜ now (coefficients .exit) ≡ whereAnswered (now (answer .entry)) after (now (coefficients .entry)) ⌝ }
 {
     if answer.len() != ANSWER_LENGTH {
         return;
@@ -90,9 +99,19 @@ pub extern "C" fn rz_fold(
     next_basis: &mut [u64],
     answer: &mut [u64],
 )
-    ensures answer { λ _. ⌜ now (answer .exit) ≡ answered (answerOfFolded (foldAnswer k step offset (now (basis .entry)) (now (word .entry)) (now (values .entry)) (now («next_basis» .entry)))) (now (answer .entry)) ⌝ }
-    ensures output { λ _. ⌜ now (values .exit) ≡ whereAnswered (now (answer .entry)) (foldValuesAfter k step offset (now (basis .entry)) (now (word .entry)) challenge (now (values .entry)) (now («next_basis» .entry))) (now (values .entry)) ⌝ }
-    ensures next { λ _. ⌜ now («next_basis» .exit) ≡ whereAnswered (now (answer .entry)) (nextBasisAfter k step (now (basis .entry)) (now (word .entry)) (now (values .entry)) (now («next_basis» .entry))) (now («next_basis» .entry)) ⌝ }
+    ensures { λ _.
+        let call : FoldCall = record {
+          k = k;
+          step = step;
+          offset = offset;
+          basis = now (basis .entry);
+          word = now (word .entry);
+          challenge = challenge;
+          values = now (values .entry);
+          next = now («next_basis» .entry);
+        } in
+        ⌜ FoldAnswered call (now (answer .entry)) (now (answer .exit)) (now (values .exit))
+        (now («next_basis» .exit)) ⌝ }
 {
     if answer.len() != ANSWER_LENGTH {
         return;
@@ -123,9 +142,10 @@ pub extern "C" fn rz_prove(
     last: &mut [u64],
     answer: &mut [u64],
 )
-    ensures answer { λ _. ⌜ now (answer .exit) ≡ answered (answerOfProved (proveOutcome (runOf (record { k = k; rate = rate; step = step }) offset (now (basis .entry)) (now (challenges .entry)) (now (word .entry)) (now (store .entry)) (now (last .entry))))) (now (answer .entry)) ⌝ }
-    ensures store { λ _. ⌜ now (store .exit) ≡ whereAnswered (now (answer .entry)) (storeAfter (runOf (record { k = k; rate = rate; step = step }) offset (now (basis .entry)) (now (challenges .entry)) (now (word .entry)) (now (store .entry)) (now (last .entry)))) (now (store .entry)) ⌝ }
-    ensures last { λ _. ⌜ now (last .exit) ≡ whereAnswered (now (answer .entry)) (lastAfter (runOf (record { k = k; rate = rate; step = step }) offset (now (basis .entry)) (now (challenges .entry)) (now (word .entry)) (now (store .entry)) (now (last .entry)))) (now (last .entry)) ⌝ }
+    ensures { λ _.
+        let run = runOf (record { k = k; rate = rate; step = step }) offset (now (basis .entry))
+        (now (challenges .entry)) (now (word .entry)) (now (store .entry)) (now (last .entry)) in
+        ⌜ ProofAnswered run (now (answer .entry)) (now (answer .exit)) (now (store .exit)) (now (last .exit)) ⌝ }
 {
     if answer.len() != ANSWER_LENGTH {
         return;
@@ -152,7 +172,9 @@ pub extern "C" fn rz_layer(
     i: usize,
     answer: &mut [u64],
 )
-    ensures { λ _. ⌜ now (answer .exit) ≡ answered (answerOfPart (partOf (record { k = k; rate = rate; step = step }) (length (now (store .entry))) i)) (now (answer .entry)) ⌝ }
+    ensures { λ _.
+        let part = partOf (record { k = k; rate = rate; step = step }) (length (now (store .entry))) i in
+        ⌜ now (answer .exit) ≡ answered (answerOfPart part) (now (answer .entry)) ⌝ }
 {
     if answer.len() != ANSWER_LENGTH {
         return;
@@ -175,7 +197,11 @@ pub extern "C" fn rz_judge(
     last: &[u64],
     answer: &mut [u64],
 )
-    ensures { λ _. ⌜ now (answer .exit) ≡ answered (answerOfVerdict (verdictOf (runOf (record { k = k; rate = rate; step = step }) offset (now (basis .entry)) (now (challenges .entry)) (now (word .entry)) (now (store .entry)) (now (last .entry))) (now (queries .entry)))) (now (answer .entry)) ⌝ }
+    ensures { λ _.
+        let run = runOf (record { k = k; rate = rate; step = step }) offset (now (basis .entry))
+        (now (challenges .entry)) (now (word .entry)) (now (store .entry)) (now (last .entry)) in
+        let verdict = verdictOf run (now (queries .entry)) in
+        ⌜ now (answer .exit) ≡ answered (answerOfVerdict verdict) (now (answer .entry)) ⌝ }
 {
     if answer.len() != ANSWER_LENGTH {
         return;
@@ -196,7 +222,9 @@ pub extern "C" fn rz_judge(
 
 #[no_mangle]
 pub extern "C" fn rz_judge_transcript(bytes: &[u8], answer: &mut [u64])
-    ensures { λ _. ⌜ now (answer .exit) ≡ answered (answerOfVerdict (transcriptVerdict (now (bytes .entry)))) (now (answer .entry)) ⌝ }
+    ensures { λ _.
+        let verdict = transcriptVerdict (now (bytes .entry)) in
+        ⌜ now (answer .exit) ≡ answered (answerOfVerdict verdict) (now (answer .entry)) ⌝ }
 {
     if answer.len() != ANSWER_LENGTH {
         return;

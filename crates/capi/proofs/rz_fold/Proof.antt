@@ -1,6 +1,7 @@
 -- `capi::rz_fold` meets its contract: where the answer's list has another length nothing is done. Assumes nothing.
-use mathlib.Core.Path.{ap, _∙_}
-use Rattle.fold.specs.Answers.{foldAnswer, foldValuesAfter, nextBasisAfter}
+use lib.ListN.{length}
+use mathlib.Core.Path.{_≡_, ap, _∙_}
+use Rattle.lone_fold.specs.Calls.{FoldCall, answerOfCall, valuesAfterCall, nextAfterCall}
 use Rattle.c_answers.specs.Answers.{answerOfFolded}
 use Rattle.c_answers.proofs.Five.{whereAnswered-five, whereAnswered-other, left-alone, written}
 use borrow.Author.Needs.{needs}
@@ -8,11 +9,36 @@ use native.Mathlib.Omega.{arith}
 use Rattle.capi.proofs.rz_fold.Statement.{statement}
 use Rattle.capi.proofs.rz_fold.Tie as tie
 
+-- where the lists are known, and the call
+abbrev start-of : tie.After-slice-known3 → tie.Start
+start-of c = c .before .before .before .before .before
+
+abbrev call-at : tie.After-slice-known3 → FoldCall
+call-at c =
+    let a = start-of c .args in
+    record {
+      k = a .k;
+      step = a .step;
+      offset = a .offset;
+      basis = a .basis .now;
+      word = a .word .now;
+      challenge = a .challenge;
+      values = a .values .now;
+      next = a .next-basis .now;
+    }
+
 returns : tie.Need-returns
 returns c =
-    let a = c .before .before .before .before .before .before .args in
-    let first = left-alone (answerOfFolded (foldAnswer (a .k) (a .step) (a .offset) (a .basis .now) (a .word .now) (a .values .now) (a .next-basis .now))) (a .answer .now) (foldValuesAfter (a .k) (a .step) (a .offset) (a .basis .now) (a .word .now) (a .challenge) (a .values .now) (a .next-basis .now)) (a .values .now) (c .if1 .taken) in
-    (first .0, (first .1, whereAnswered-other (a .answer .now) (nextBasisAfter (a .k) (a .step) (a .basis .now) (a .word .now) (a .values .now) (a .next-basis .now)) (a .next-basis .now) (c .if1 .taken)))
+    let lent = start-of (c .before) .args .answer .now in
+    let call = call-at (c .before) in
+    let first =
+    left-alone (answerOfFolded (answerOfCall call)) lent (valuesAfterCall call) (call .values) (c .if1 .taken)
+    in
+    record {
+      answer = first .0;
+      output = first .1;
+      next = whereAnswered-other lent (nextAfterCall call) (call .next) (c .if1 .taken);
+    }
 
 fold-requires : tie.Need-fold-requires
 fold-requires c κs = search needs
@@ -34,11 +60,24 @@ same-length-3 c = search needs
 
 returns-2 : tie.Need-returns-2
 returns-2 c =
-    let a = c .before .before .before .before .before .before .before .before .before .before .before .before .before .before .before .before .before .before .args in
-    let f = c .before .before .before .before .before .before .before .before .before .fold in
-    let first = written (answerOfFolded (foldAnswer (a .k) (a .step) (a .offset) (a .basis .now) (a .word .now) (a .values .now) (a .next-basis .now))) (c .before .before .before .before .of-folded .result) (a .answer .now) (foldValuesAfter (a .k) (a .step) (a .offset) (a .basis .now) (a .word .now) (a .challenge) (a .values .now) (a .next-basis .now)) (a .values .now)
-    (c .before .before .write .last .1 .0) (f .last .1 .1 .1 .1 .1 .1 .0) (omega arith) (c .before .before .write .ensures) (c .before .before .before .before .of-folded .ensures ∙ ap answerOfFolded (f .ensures .0)) (f .ensures .1 .0) in
-    (first .0, (first .1, f .ensures .1 .1 ∙ whereAnswered-five (a .answer .now) (nextBasisAfter (a .k) (a .step) (a .basis .now) (a .word .now) (a .values .now) (a .next-basis .now)) (a .next-basis .now) (omega arith)))
+    let write = c .before .before .write in
+    let told = c .before .before .before .before .of-folded in
+    let folded = c .before .before .before .before .before .before .before .before .before in
+    let f = folded .fold in
+    let known = folded .before .before .before .before in
+    let lent = start-of known .args .answer .now in
+    let call = call-at known in
+    let five : length lent ≡ 5 = omega arith in
+    let first =
+    written (answerOfFolded (answerOfCall call)) (told .result) lent (valuesAfterCall call) (call .values)
+    (write .last .1 .0) (f .last .1 .1 .1 .1 .1 .1 .0) five (write .ensures)
+    (told .ensures ∙ ap answerOfFolded (f .ensures .answer)) (f .ensures .output)
+    in
+    record {
+      answer = first .0;
+      output = first .1;
+      next = f .ensures .next ∙ whereAnswered-five lent (nextAfterCall call) (call .next) five;
+    }
 
 pub rz-fold-spec : {M : Type 1} → statement M
 rz-fold-spec =

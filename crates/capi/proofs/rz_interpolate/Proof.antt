@@ -1,5 +1,8 @@
 -- `capi::rz_interpolate` meets its contract: where the answer's list has another length nothing is done. Assumes
 -- nothing.
+use Rattle.c_answers.specs.declared.Answer.{Answer}
+use mathlib.Core.List.{List}
+use Prim.Native.Nat.{ℕ}
 use mathlib.Core.Path.{ap, _∙_}
 use native.Mathlib.Omega.{arith}
 use borrow.Author.Needs.{needs}
@@ -9,11 +12,24 @@ use Rattle.c_answers.proofs.Five.{left-alone, written}
 use Rattle.capi.proofs.rz_interpolate.Statement.{statement}
 use Rattle.capi.proofs.rz_interpolate.Tie as tie
 
+-- where the lists are known, the answer in C's numbers, and what the operation leaves
+abbrev start-of : tie.After-slice-known2 → tie.Start
+start-of c = c .before .before .before .before
+
+abbrev answer-at : tie.After-slice-known2 → Answer
+answer-at c =
+    let a = start-of c .args in
+    answerOfOutcome (interpolateOutcome (a .basis .now) (a .word .now) (a .coefficients .now))
+
+abbrev left-at : tie.After-slice-known2 → List ℕ
+left-at c =
+    let a = start-of c .args in coefficientsAfter (a .offset) (a .basis .now) (a .word .now) (a .coefficients .now)
+
 returns : tie.Need-returns
 returns c =
-    let a = c .before .before .before .before .before .args in
-    let outcome = interpolateOutcome (a .basis .now) (a .word .now) (a .coefficients .now) in
-    left-alone (answerOfOutcome outcome) (a .answer .now) (coefficientsAfter (a .offset) (a .basis .now) (a .word .now) (a .coefficients .now)) (a .coefficients .now) (c .if1 .taken)
+    let known = c .before in
+    let a = start-of known .args in
+    left-alone (answer-at known) (a .answer .now) (left-at known) (a .coefficients .now) (c .if1 .taken)
 
 interpolate-requires : tie.Need-interpolate-requires
 interpolate-requires c κs = search needs
@@ -32,11 +48,15 @@ same-length-2 c = search needs
 
 returns-2 : tie.Need-returns-2
 returns-2 c =
-    let a = c .before .before .before .before .before .before .before .before .before .before .before .before .before .before .args in
-    let outcome = interpolateOutcome (a .basis .now) (a .word .now) (a .coefficients .now) in
-    written (answerOfOutcome outcome) (c .before .before .before .before .of-outcome .result) (a .answer .now) (coefficientsAfter (a .offset) (a .basis .now) (a .word .now) (a .coefficients .now)) (a .coefficients .now)
-    (c .before .before .write .last .1 .0) (c .before .before .before .before .before .before .before .interpolate .last .1 .1 .1 .0) (omega arith) (c .before .before .write .ensures)
-    (c .before .before .before .before .of-outcome .ensures ∙ ap answerOfOutcome (c .before .before .before .before .before .before .before .interpolate .ensures .0)) (c .before .before .before .before .before .before .before .interpolate .ensures .1)
+    let write = c .before .before .write in
+    let told = c .before .before .before .before .of-outcome in
+    let done = c .before .before .before .before .before .before .before in
+    let f = done .interpolate in
+    let known = done .before .before .before in
+    let a = start-of known .args in
+    written (answer-at known) (told .result) (a .answer .now) (left-at known) (a .coefficients .now) (write .last .1 .0)
+    (f .last .1 .1 .1 .0) (omega arith) (write .ensures) (told .ensures ∙ ap answerOfOutcome (f .ensures .0))
+    (f .ensures .1)
 
 pub rz-interpolate-spec : {M : Type 1} → statement M
 rz-interpolate-spec =

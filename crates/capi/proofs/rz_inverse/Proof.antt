@@ -1,4 +1,5 @@
 -- `capi::rz_inverse` meets its contract: a list of another length is left as it was. Assumes nothing.
+use Rattle.c_answers.specs.declared.Answer.{Answer}
 use mathlib.Core.Path.{ap, _∙_}
 use native.Mathlib.Omega.{arith}
 use borrow.Author.Needs.{needs}
@@ -8,8 +9,12 @@ use Rattle.c_answers.proofs.Five.{answered-five, answered-other}
 use Rattle.capi.proofs.rz_inverse.Statement.{statement}
 use Rattle.capi.proofs.rz_inverse.Tie as tie
 
+-- the inverse in C's numbers
+abbrev answer-at : tie.Start → Answer
+answer-at c = answerOfInverted (invertedOf (c .args .a))
+
 returns : tie.Need-returns
-returns c = answered-other (answerOfInverted (invertedOf (c .before .before .args .a))) (c .before .before .args .answer .now) (c .if1 .taken)
+returns c = let start = c .before .before in answered-other (answer-at start) (start .args .answer .now) (c .if1 .taken)
 
 inverse-requires : tie.Need-inverse-requires
 inverse-requires c κs = search needs
@@ -25,8 +30,12 @@ same-length c = search needs
 
 returns-2 : tie.Need-returns-2
 returns-2 c =
-    c .before .before .write .ensures ∙ ap numbersOf (c .before .before .before .before .of-inverted .ensures ∙ ap answerOfInverted (c .before .before .before .before .before .inverse .ensures .0))
-    ∙ answered-five (answerOfInverted (invertedOf (c .before .before .before .before .before .before .before .before .args .a))) (c .before .before .before .before .before .before .before .before .args .answer .now) (omega arith)
+    let write = c .before .before .write in
+    let told = c .before .before .before .before .of-inverted in
+    let inverse = c .before .before .before .before .before in
+    let start = inverse .before .before .before in
+    write .ensures ∙ ap numbersOf (told .ensures ∙ ap answerOfInverted (inverse .inverse .ensures .0))
+    ∙ answered-five (answer-at start) (start .args .answer .now) (omega arith)
 
 pub rz-inverse-spec : {M : Type 1} → statement M
 rz-inverse-spec =

@@ -3,18 +3,34 @@ use Rattle.c_answers.proofs.Five.{whereAnswered-five, whereAnswered-other, left
 use Rattle.c_answers.specs.Answers.{answerOfProved}
 use Rattle.layout.specs.Parameters.{runOf}
 use Rattle.fri.specs.Prover.{proveOutcome, storeAfter, lastAfter}
-use mathlib.Core.Path.{ap, _∙_}
+use Rattle.fri.specs.Run.{Run}
+use lib.ListN.{length}
+use mathlib.Core.Path.{_≡_, ap, _∙_}
 use borrow.Author.Needs.{needs}
 use native.Mathlib.Omega.{arith}
 use Rattle.capi.proofs.rz_prove.Statement.{statement}
 use Rattle.capi.proofs.rz_prove.Tie as tie
 
+-- where the lists are known, and the run of the call
+abbrev start-of : tie.After-slice-known3 → tie.Start
+start-of c = c .before .before .before .before .before .before
+
+abbrev run-at : tie.After-slice-known3 → Run
+run-at c =
+    let a = start-of c .args in
+    runOf (record { k = a .k; rate = a .rate; step = a .step }) (a .offset) (a .basis .now) (a .challenges .now)
+    (a .word .now) (a .store .now) (a .last .now)
+
 returns : tie.Need-returns
 returns c =
-    let a = c .before .before .before .before .before .before .before .args in
-    let run = runOf (record { k = a .k; rate = a .rate; step = a .step }) (a .offset) (a .basis .now) (a .challenges .now) (a .word .now) (a .store .now) (a .last .now) in
-    let first = left-alone (answerOfProved (proveOutcome run)) (a .answer .now) (storeAfter run) (a .store .now) (c .if1 .taken) in
-    (first .0, (first .1, whereAnswered-other (a .answer .now) (lastAfter run) (a .last .now) (c .if1 .taken)))
+    let lent = start-of (c .before) .args .answer .now in
+    let run = run-at (c .before) in
+    let first = left-alone (answerOfProved (proveOutcome run)) lent (storeAfter run) (run .store) (c .if1 .taken) in
+    record {
+      answer = first .0;
+      store = first .1;
+      last = whereAnswered-other lent (lastAfter run) (run .last) (c .if1 .taken);
+    }
 
 prove-requires : tie.Need-prove-requires
 prove-requires c κs = search needs
@@ -36,12 +52,24 @@ same-length-3 c = search needs
 
 returns-2 : tie.Need-returns-2
 returns-2 c =
-    let a = c .before .before .before .before .before .before .before .before .before .before .before .before .before .before .before .before .before .before .before .args in
-    let run = runOf (record { k = a .k; rate = a .rate; step = a .step }) (a .offset) (a .basis .now) (a .challenges .now) (a .word .now) (a .store .now) (a .last .now) in
-    let f = c .before .before .before .before .before .before .before .before .before .prove in
-    let first = written (answerOfProved (proveOutcome run)) (c .before .before .before .before .of-proved .result) (a .answer .now) (storeAfter run) (a .store .now)
-    (c .before .before .write .last .1 .0) (f .last .1 .1 .1 .1 .1 .0) (omega arith) (c .before .before .write .ensures) (c .before .before .before .before .of-proved .ensures ∙ ap answerOfProved (f .ensures .0)) (f .ensures .1 .0) in
-    (first .0, (first .1, f .ensures .1 .1 ∙ whereAnswered-five (a .answer .now) (lastAfter run) (a .last .now) (omega arith)))
+    let write = c .before .before .write in
+    let told = c .before .before .before .before .of-proved in
+    let proved = c .before .before .before .before .before .before .before .before .before in
+    let f = proved .prove in
+    let known = proved .before .before .before .before in
+    let lent = start-of known .args .answer .now in
+    let run = run-at known in
+    let five : length lent ≡ 5 = omega arith in
+    let first =
+    written (answerOfProved (proveOutcome run)) (told .result) lent (storeAfter run) (run .store) (write .last .1 .0)
+    (f .last .1 .1 .1 .1 .1 .0) five (write .ensures) (told .ensures ∙ ap answerOfProved (f .ensures .answer))
+    (f .ensures .store)
+    in
+    record {
+      answer = first .0;
+      store = first .1;
+      last = f .ensures .last ∙ whereAnswered-five lent (lastAfter run) (run .last) five;
+    }
 
 pub rz-prove-spec : {M : Type 1} → statement M
 rz-prove-spec =
