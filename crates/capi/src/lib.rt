@@ -151,15 +151,8 @@ pub extern "C" fn rz_prove(
         return;
     }
     let parameters = Parameters { k, rate, step };
-    let outcome = prover::prove(
-        parameters,
-        Element(offset),
-        basis,
-        challenges,
-        word,
-        store,
-        last,
-    );
+    let offset = Element(offset);
+    let outcome = prover::prove(parameters, offset, basis, challenges, word, store, last);
     Answer::of_proved(outcome).write(answer);
 }
 
