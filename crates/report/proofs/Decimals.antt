@@ -50,12 +50,18 @@ below-20-digits h = lt-of-lt-of-le h (le-by-compare (2 ^ 64) (10 ^ 20) tt)
 pub counting-start : (n : ℕ) → n < 2 ^ 64 → Counting n 1 n 19
 counting-start n h = record { seen = omega arith; all = refl; bound = below-20-digits h; same = omega arith }
 
-pub counting-next : (n count rest more : ℕ) → Counting n count rest more → 10 ≤ rest → Counting n (count + 1) (rest / 10) (more - 1)
+pub counting-next : (n count rest more : ℕ) → Counting n count rest more → 10 ≤ rest
+    → Counting n (count + 1) (rest / 10) (more - 1)
 counting-next n count rest zero c h = let b : rest < 10 = c .bound in absurd (omega arith)
 counting-next n count rest (suc more) c h =
     let e : more ≡ suc more - 1 = omega arith in
     subst (Counting n (count + 1) (rest / 10)) e
-    (record { seen = omega arith; all = omega arith; bound = omega arith; same = omega (arith, places-tenth more rest h) })
+    (record {
+      seen = omega arith;
+      all = omega arith;
+      bound = omega arith;
+      same = omega (arith, places-tenth more rest h);
+    })
 
 pub counting-end : (n count rest more : ℕ) → Counting n count rest more → rest < 10 → count ≡ placesWithin 19 n
 counting-end n count rest more c h = omega (arith, places-digit more rest h)
@@ -68,7 +74,9 @@ by-tenths : (P : ℕ → ℕ → Type 0)
     → (more n : ℕ) → n < 10 ^ suc more → P more n
 by-tenths P one next zero n h = one zero n h
 by-tenths P one next (suc more) n h =
-    ⊎-elim (λ none. next more n (omega arith) (by-tenths P one next more (n / 10) (omega arith))) (λ some. one (suc more) n (omega arith))
+    ⊎-elim
+    (λ none. next more n (omega arith) (by-tenths P one next more (n / 10) (omega arith)))
+    (λ some. one (suc more) n (omega arith))
     (eq-zero-or-pos (10 - n))
 
 abbrev written : ℕ → ℕ → List ℕ
@@ -85,7 +93,8 @@ each-append P (a ∷ s) d each last zero h = each zero (omega arith)
 each-append P (a ∷ s) d each last (suc i) h = each-append P s d (λ j l. each (suc j) (omega arith)) last i (omega arith)
 
 -- every byte is a digit's
-pub digits-decimal : (width n i : ℕ) → i < length (digits 10 width n) → (48 ≤ getD (digits 10 width n) i 0) × (getD (digits 10 width n) i 0 ≤ 57)
+pub digits-decimal : (width n i : ℕ) → i < length (digits 10 width n)
+    → (48 ≤ getD (digits 10 width n) i 0) × (getD (digits 10 width n) i 0 ≤ 57)
 unfolding digits
 digits-decimal zero n i h = absurd (omega arith)
 digits-decimal (suc width) n i h =

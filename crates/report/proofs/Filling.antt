@@ -6,8 +6,8 @@ use native.Mathlib.Omega.{arith}
 use lib.ListN.{length, getD, take, set, length-append}
 use lib.Seq.{take-all, take-take, getD-take, take-at, getD-at}
 use Rattle.report.specs.Digits.{digit, digits}
-use Rattle.report.specs.Put.{Put}
-use Rattle.report.proofs.Placing.{filled, filled-start, filled-next, filled-end}
+use Rattle.placing.specs.Put.{Put}
+use Rattle.placing.proofs.Placing.{filled, filled-start, filled-next, filled-end}
 
 pub length-digits : (base width n : ℕ) → length (digits base width n) ≡ width
 unfolding digits
@@ -47,7 +47,8 @@ module _ (held : List ℕ) (base width n at : ℕ) (room : at + width ≤ length
       }
 
   pub filling-next : (out : List ℕ) (rest left v : ℕ) → 0 < left → left ≤ width → v ≡ digit (rest % base)
-      → Filling held text base at out rest left → Filling held text base at (set out (at + left - 1) v) (rest / base) (left - 1)
+      → Filling held text base at out rest left
+      → Filling held text base at (set out (at + left - 1) v) (rest / base) (left - 1)
   filling-next out rest zero v h l e f = absurd (omega arith)
   filling-next out rest (suc i) v h l e f =
       let place : at + suc i - 1 ≡ at + i = omega arith in
@@ -56,7 +57,9 @@ module _ (held : List ℕ) (base width n at : ℕ) (room : at + width ≤ length
       (record {
         list =
             ap₂ (λ (o : List ℕ) (m : ℕ). set o m v) (f .list) place
-            ∙ filled-next held text at i v (omega (arith, length-digits base width n)) (omega (arith, length-digits base width n))
+            ∙ filled-next held text at i v
+            (omega (arith, length-digits base width n))
+            (omega (arith, length-digits base width n))
             (e ∙ sym (last-digit text base i rest (f .digits)));
         digits = earlier-digits text base i rest (f .digits);
       })

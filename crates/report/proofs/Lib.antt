@@ -1,4 +1,3 @@
-mod Placing
 mod Filling
 mod Decimals
 pub mod Theorems

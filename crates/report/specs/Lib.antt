@@ -1,4 +1,3 @@
 pub mod Digits
-pub mod Put
 pub mod Lines
 pub mod Theorems

@@ -10,16 +10,17 @@ use Rattle.fri.specs.Judge.{numberOfAnswer, placeOfAnswer, roundOfAnswer}
 use Rattle.report.specs.Digits.{bytes, decimal}
 
 -- a place or a round, or a hyphen where there is none
-unfoldable pub orHyphen : Position → List ℕ
+unfoldable pub orHyphen : (position : Position) → List ℕ
 orHyphen (At n) = decimal n
 orHyphen Absent = bytes "-"
 
-unfoldable pub answerText : Answer → List ℕ
+-- the line's first word
+unfoldable pub answerText : (answer : Answer) → List ℕ
 answerText Accepted = bytes "accepted"
 answerText (Refused cause) = bytes "refused"
 
 -- what follows the answer: number, place, round and reads, each after a space, and a line feed
-unfoldable pub numbersText : ℕ → Position → Position → ℕ → List ℕ
+unfoldable pub numbersText : (number : ℕ) (place round : Position) (reads : ℕ) → List ℕ
 numbersText number place round reads =
     (bytes " " ++ decimal number)
     ++ (bytes " " ++ orHyphen place)
@@ -27,11 +28,15 @@ numbersText number place round reads =
     ++ (bytes " " ++ decimal reads)
     ++ bytes "\n"
 
-unfoldable pub lineOf : Verdict → List ℕ
+unfoldable pub lineOf : (verdict : Verdict) → List ℕ
 lineOf verdict =
     answerText (verdict .answer)
-    ++ numbersText (numberOfAnswer (verdict .answer)) (placeOfAnswer (verdict .answer)) (roundOfAnswer (verdict .answer)) (verdict .reads)
+    ++ numbersText
+    (numberOfAnswer (verdict .answer))
+    (placeOfAnswer (verdict .answer))
+    (roundOfAnswer (verdict .answer))
+    (verdict .reads)
 
 -- the header and the line
-unfoldable pub linesOf : Verdict → List ℕ
+unfoldable pub linesOf : (verdict : Verdict) → List ℕ
 linesOf verdict = bytes "answer number place round reads\n" ++ lineOf verdict

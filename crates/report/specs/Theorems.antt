@@ -11,19 +11,25 @@ use Rattle.report.specs.Lines.{linesOf}
 -- the lines of the verdicts of cases G and H, and the codes of the texts in them
 pub record Examples : Type 0 where
   pub header : bytes "answer number place round reads\n"
-      ≡ 97 ∷ 110 ∷ 115 ∷ 119 ∷ 101 ∷ 114 ∷ 32 ∷ 110 ∷ 117 ∷ 109 ∷ 98 ∷ 101 ∷ 114 ∷ 32 ∷ 112 ∷ 108 ∷ 97 ∷ 99 ∷ 101 ∷ 32 ∷ 114 ∷ 111 ∷ 117 ∷ 110 ∷ 100 ∷ 32 ∷ 114 ∷ 101 ∷ 97 ∷ 100 ∷ 115 ∷ 10 ∷ []
-  pub answers : (bytes "accepted" ≡ 97 ∷ 99 ∷ 99 ∷ 101 ∷ 112 ∷ 116 ∷ 101 ∷ 100 ∷ []) × (bytes "refused" ≡ 114 ∷ 101 ∷ 102 ∷ 117 ∷ 115 ∷ 101 ∷ 100 ∷ [])
+      ≡ 97 ∷ 110 ∷ 115 ∷ 119 ∷ 101 ∷ 114 ∷ 32
+      ∷ 110 ∷ 117 ∷ 109 ∷ 98 ∷ 101 ∷ 114 ∷ 32
+      ∷ 112 ∷ 108 ∷ 97 ∷ 99 ∷ 101 ∷ 32
+      ∷ 114 ∷ 111 ∷ 117 ∷ 110 ∷ 100 ∷ 32
+      ∷ 114 ∷ 101 ∷ 97 ∷ 100 ∷ 115 ∷ 10 ∷ []
+  pub answers : (bytes "accepted" ≡ 97 ∷ 99 ∷ 99 ∷ 101 ∷ 112 ∷ 116 ∷ 101 ∷ 100 ∷ [])
+      × (bytes "refused" ≡ 114 ∷ 101 ∷ 102 ∷ 117 ∷ 115 ∷ 101 ∷ 100 ∷ [])
   pub others : bytes " -\n" ≡ 32 ∷ 45 ∷ 10 ∷ []
-  pub accepted : linesOf (record { answer = Accepted; reads = 4 }) ≡ bytes "answer number place round reads\naccepted 0 - - 4\n"
+  pub accepted : linesOf (record { answer = Accepted; reads = 4 })
+      ≡ bytes "answer number place round reads\naccepted 0 - - 4\n"
   pub refused : linesOf (record { answer = Refused (RoundCheckFails 1 0); reads = 4 })
       ≡ bytes "answer number place round reads\nrefused 11 1 0 4\n"
 
 -- the number that decimal digits stand for, read on after those that stand for `before`
-unfoldable pub valueAfter : (before : ℕ) → List ℕ → ℕ
+unfoldable pub valueAfter : (before : ℕ) (digits : List ℕ) → ℕ
 valueAfter before [] = before
 valueAfter before (d ∷ rest) = valueAfter (10 * before + (d - 48)) rest
 
-abbrev pub valueOf : List ℕ → ℕ
+abbrev pub valueOf : (digits : List ℕ) → ℕ
 valueOf = valueAfter 0
 
 -- of a 64-bit number the digits stand for it, each is `0` to `9`, and the first is not `0` but for 0 itself

@@ -1,17 +1,17 @@
 // What the program prints of a verdict: a header and a line.
 mod writing;
 
-use crate::writing::put;
 use crate::writing::put_number;
 use fri::Answer;
 use fri::Verdict;
+use placing::put;
 use refusal::Position;
 ghost use mathlib.Core.Path.{_≡_};
 ghost use mathlib.Core.List.{_++_};
 ghost use Prim.Native.Nat.{_+_, _-_, _≤_};
 ghost use lib.ListN.{length, take, drop, replicate};
 ghost use Rattle.report.specs.Digits.{bytes};
-ghost use Rattle.report.specs.Put.{Put};
+ghost use Rattle.placing.specs.Put.{Put};
 ghost use Rattle.report.specs.Lines.{orHyphen, numbersText, lineOf, linesOf};
 
 // `length` bytes at the front of the array, and zeros after them.
@@ -24,7 +24,8 @@ pub struct Text {
 pub fn lines(verdict: Verdict) -> Text
     ensures text { λ r. ⌜ take (r .length) (r .bytes) ≡ linesOf verdict ⌝ }
     ensures rest { λ r. ⌜ drop (r .length) (r .bytes) ≡ replicate (128 - r .length) 0 ⌝ }
-    ensures fits { λ r. ⌜ (r .length ≤ 128) × (r .length ≤ length (r .bytes)) × (r .length ≡ length (take (r .length) (r .bytes))) ⌝ }
+    ensures fits { λ r.
+        ⌜ (r .length ≤ 128) × (r .length ≤ length (r .bytes)) × (r .length ≡ length (take (r .length) (r .bytes))) ⌝ }
 {
     let mut bytes = [0u8; 128];
     let start = put(b"answer number place round reads\n", 0, &mut bytes);

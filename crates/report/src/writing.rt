@@ -1,23 +1,12 @@
-// Puts texts and numbers into a lent list of bytes, in ASCII. What puts a text answers where it ends.
+// Puts numbers into a lent list of bytes, in ASCII, and answers where their digits end.
+use placing::put;
 ghost use mathlib.Core.Path.{_≡_};
 ghost use mathlib.Core.List.{_++_};
 ghost use Prim.Native.Nat.{_+_, _≤_, _<_};
 ghost use lib.ListN.{length};
 ghost use Rattle.report.specs.Digits.{bytes, digits, placesWithin, decimal};
 ghost use Rattle.report.specs.Digits.{digit as digitOf};
-ghost use Rattle.report.specs.Put.{Put};
-
-pub fn put(text: &[u8], at: usize, out: &mut [u8]) -> usize
-    requires { ⌜ at + length (now text) ≤ length (now out) ⌝ }
-    ensures { λ r. ⌜ Put (now (out .entry)) at (now (text .entry)) r (now (out .exit)) ⌝ }
-{
-    let mut i: usize = 0;
-    while i < text.len() {
-        out[at + i] = text[i];
-        i += 1;
-    }
-    at + text.len()
-}
+ghost use Rattle.placing.specs.Put.{Put};
 
 // A space and a decimal number of up to 20 digits.
 pub fn put_number(n: u64, at: usize, out: &mut [u8]) -> usize

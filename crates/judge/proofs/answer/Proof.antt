@@ -1,4 +1,5 @@
--- `judge::answer` meets its contract: the verdict is that on the bytes read, and the text has its lines. Assumes nothing.
+-- `judge::answer` meets its contract: the verdict is that on the bytes read, and the text has its lines.
+-- Assumes nothing.
 use mathlib.Core.Path.{ap, _∙_}
 use native.Mathlib.Omega.{arith}
 use lib.ListN.{length-take}

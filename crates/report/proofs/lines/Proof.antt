@@ -2,7 +2,7 @@
 use borrow.Author.Needs.{needs}
 use Rattle.report.specs.Digits.{bytes}
 use Rattle.report.specs.Lines.{linesOf}
-use Rattle.report.proofs.Placing.{put-append, text-in-front, zeros-after, within}
+use Rattle.placing.proofs.Placing.{put-append, text-in-front, zeros-after, within}
 use Rattle.report.proofs.lines.Statement.{statement}
 use Rattle.report.proofs.lines.Tie as tie
 

@@ -6,7 +6,7 @@ use Rattle.fri.specs.declared.Answer.{Answer}
 use Rattle.fri.specs.declared.Answer.the-variants.{Accepted}
 use Rattle.report.specs.Digits.{bytes}
 use Rattle.report.specs.Lines.{answerText, numbersText, lineOf}
-use Rattle.report.proofs.Placing.{put-append, put-same}
+use Rattle.placing.proofs.Placing.{put-append, put-same}
 use Rattle.report.proofs.put_line.Statement.{statement}
 use Rattle.report.proofs.put_line.Tie as tie
 
@@ -49,9 +49,11 @@ same-length c = search needs
 returns : tie.Need-returns
 unfolding bytes answerText lineOf
 returns c =
-    let verdict = c .before .before .before .before .before .before .before .before .before .before .before .before .args .verdict in
+    let numbers = c .before .before in
+    let word = numbers .before .before .before .before in
+    let verdict = word .before .before .before .before .before .before .args .verdict in
     let accepted : verdict .answer ≡ Accepted = search needs in
-    put-same (put-append (c .before .before .before .before .before .before .put .ensures) (c .before .before .put-numbers .ensures))
+    put-same (put-append (word .put .ensures) (numbers .put-numbers .ensures))
     (ap (λ (x : Answer). lineOf (record { answer = x; reads = verdict .reads })) (sym accepted))
 
 same-length-2 : tie.Need-same-length-2
@@ -60,12 +62,14 @@ same-length-2 c = search needs
 returns-2 : tie.Need-returns-2
 unfolding bytes answerText lineOf
 returns-2 c =
-    let verdict = c .before .before .before .before .before .before .before .before .before .before .before .before .before .before .before .before .args .verdict in
-    let given = c .before .before .before .before .before .before .before .before .before .before .before .before .before .answer .given .1 in
-    let number = c .before .before .before .before .before .before .number .ensures in
-    let place = c .before .before .before .before .before .place .ensures in
-    let round = c .before .before .before .before .round .ensures in
-    put-same (put-append (c .before .before .before .before .before .before .before .before .before .put2 .ensures) (c .before .before .put-numbers2 .ensures))
+    let numbers = c .before .before in
+    let round = numbers .before .before .round .ensures in
+    let place = numbers .before .before .before .place .ensures in
+    let number = numbers .before .before .before .before .number .ensures in
+    let word = numbers .before .before .before .before .before .before .before in
+    let given = word .before .before .before .before .answer .given .1 in
+    let verdict = word .before .before .before .before .before .before .before .args .verdict in
+    put-same (put-append (word .put2 .ensures) (numbers .put-numbers2 .ensures))
     ((λ i. bytes "refused" ++ numbersText (number i) (place i) (round i) (verdict .reads))
     ∙ ap (λ (x : Answer). lineOf (record { answer = x; reads = verdict .reads })) (sym given))
 

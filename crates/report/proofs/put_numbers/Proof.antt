@@ -2,7 +2,7 @@
 use borrow.Author.Needs.{needs}
 use Rattle.report.specs.Digits.{bytes}
 use Rattle.report.specs.Lines.{numbersText}
-use Rattle.report.proofs.Placing.{put-append}
+use Rattle.placing.proofs.Placing.{put-append}
 use Rattle.report.proofs.put_numbers.Statement.{statement}
 use Rattle.report.proofs.put_numbers.Tie as tie
 
@@ -30,11 +30,17 @@ same-length c = search needs
 returns : tie.Need-returns
 unfolding bytes numbersText
 returns c =
-    let number = c .before .before .before .before .before .before .before .before .before .before .before .before .before .before .before .before .before .before .before .put-number .ensures .0 in
-    let place = c .before .before .before .before .before .before .before .before .before .before .before .before .before .before .before .put-position .ensures .0 in
-    let round = c .before .before .before .before .before .before .before .before .before .before .before .put-position2 .ensures .0 in
-    let reads = c .before .before .before .before .before .before .before .put-number2 .ensures .0 in
-    put-append (put-append (put-append (put-append number place) round) reads) (c .before .before .put .ensures)
+    let reads = c .before .before .before .before .before .before .before in
+    let round = reads .before .before .before .before in
+    let place = round .before .before .before .before in
+    let number = place .before .before .before .before in
+    put-append
+    (put-append
+    (put-append
+    (put-append (number .put-number .ensures .0) (place .put-position .ensures .0))
+    (round .put-position2 .ensures .0))
+    (reads .put-number2 .ensures .0))
+    (c .before .before .put .ensures)
 
 pub put-numbers-spec : {M : Type 1} → statement M
 put-numbers-spec =

@@ -7,7 +7,7 @@ use Rattle.refusal.specs.declared.Position.{Position}
 use Rattle.refusal.specs.declared.Position.the-variants.{Absent}
 use Rattle.report.specs.Digits.{bytes}
 use Rattle.report.specs.Lines.{orHyphen}
-use Rattle.report.proofs.Placing.{put-same}
+use Rattle.placing.proofs.Placing.{put-same}
 use Rattle.report.proofs.put_position.Statement.{statement}
 use Rattle.report.proofs.put_position.Tie as tie
 
@@ -42,7 +42,8 @@ same-length-2 c = search needs
 returns-2 : tie.Need-returns-2
 unfolding bytes orHyphen
 returns-2 c =
-    let absent : c .before .before .before .before .before .before .before .before .args .position ≡ Absent = search needs in
+    let position = c .before .before .before .before .before .before .before .before .args .position in
+    let absent : position ≡ Absent = search needs in
     let hyphen = c .before .before .put .ensures in
     (put-same hyphen (ap (λ (p : Position). bytes " " ++ orHyphen p) (sym absent)), omega (arith, hyphen .ends))
 

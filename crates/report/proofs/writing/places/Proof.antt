@@ -33,7 +33,8 @@ loop-again c =
 returns : tie.Need-returns Inv-loop μ-loop
 returns c =
     let l = c .before .loop in
-    (counting-end (c .before .before .args .n) (l .count) (l .rest) (20 - l .count) (l .inv) (omega arith), search needs)
+    let n = c .before .before .args .n in
+    (counting-end n (l .count) (l .rest) (20 - l .count) (l .inv) (omega arith), search needs)
 
 pub places-spec : {M : Type 1} → statement M
 places-spec =

@@ -1,5 +1,5 @@
--- `report::writing::put_digits` meets its contract. The loop's invariant: the digits but the first `left` are filled in.
--- Assumes nothing.
+-- `report::writing::put_digits` meets its contract. The loop's invariant: the digits but the first `left` are filled
+-- in. Assumes nothing.
 use mathlib.Core.Path.{_≡_, refl}
 use Prim.Native.Nat.{_-_, _≤_}
 use native.Mathlib.Nat.{mod-lt, div-le-self}
@@ -21,7 +21,8 @@ abbrev μ-loop : tie.MeasureT-loop
 loop-holds : tie.Need-loop-holds Inv-loop μ-loop
 loop-holds c =
     let a = c .before .args in
-    (search needs, search needs, refl, filling-start (a .out .now) (a .base) (a .width) (a .n) (a .at) (c .before .pre .1))
+    let filling = filling-start (a .out .now) (a .base) (a .width) (a .n) (a .at) (c .before .pre .1) in
+    (search needs, search needs, refl, filling)
 
 rem-digit : tie.Need-rem-digit Inv-loop μ-loop
 rem-digit c = search needs
@@ -52,12 +53,12 @@ loop-again : tie.Need-loop-again Inv-loop μ-loop
 loop-again c =
     let a = c .before .before .before .before .args in
     let l = c .before .before .loop in
-    let digit = c .digit .result in (
+    let room = c .before .before .before .before .pre .1 in (
       search needs,
       omega (arith, div-le-self (l .rest) (a .base)),
       search needs,
-      filling-next (a .out .now) (a .base) (a .width) (a .n) (a .at) (c .before .before .before .before .pre .1) (l .out) (l .rest) (l .left) digit
-          (omega arith) (omega arith) (c .digit .ensures) (l .inv .3),
+      filling-next (a .out .now) (a .base) (a .width) (a .n) (a .at) room (l .out) (l .rest) (l .left)
+          (c .digit .result) (omega arith) (omega arith) (c .digit .ensures) (l .inv .3),
     )
 
 add-result : tie.Need-add-result Inv-loop μ-loop
@@ -70,7 +71,9 @@ returns : tie.Need-returns Inv-loop μ-loop
 returns c =
     let a = c .before .before .before .args in
     let l = c .before .loop in
-    filling-end (a .out .now) (a .base) (a .width) (a .n) (a .at) (c .before .before .before .pre .1) (l .out) (l .rest) (l .left) (omega arith) (l .inv .3)
+    let room = c .before .before .before .pre .1 in
+    filling-end (a .out .now) (a .base) (a .width) (a .n) (a .at) room (l .out) (l .rest) (l .left)
+    (omega arith) (l .inv .3)
 
 pub put-digits-spec : {M : Type 1} → statement M
 put-digits-spec =

@@ -6,7 +6,7 @@ use native.Mathlib.Nat.{add-zero}
 use native.Mathlib.Omega.{arith}
 use lib.ListN.{length, getD, take, drop, set, replicate, length-append, length-drop, take-append-drop}
 use lib.Seq.{paste, take-length, length-take-le, take-at, drop-at, drop-drop, take-suc, drop-cons, set-at, drop-length}
-use Rattle.report.specs.Put.{Put}
+use Rattle.placing.specs.Put.{Put}
 
 -- ---- one text after the other
 
@@ -30,9 +30,12 @@ module _ {held : List ℕ} {at : ℕ} {text : List ℕ} {end : ℕ} {left : List
       ∙ omega (arith, length-before, length-drop end held)
 
 later : (l : List ℕ) (m end : ℕ) → m ≤ end → drop end l ≡ drop (end - m) (drop m l)
-later l m end h = let e : end ≡ m + (end - m) = omega arith in ap (λ (n : ℕ). drop n l) e ∙ sym (drop-drop (end - m) m l)
+later l m end h =
+    let e : end ≡ m + (end - m) = omega arith in
+    ap (λ (n : ℕ). drop n l) e ∙ sym (drop-drop (end - m) m l)
 
-pub put-append : {held mid left s t : List ℕ} {at m end : ℕ} → Put held at s m mid → Put mid m t end left → Put held at (s ++ t) end left
+pub put-append : {held mid left s t : List ℕ} {at m end : ℕ}
+    → Put held at s m mid → Put mid m t end left → Put held at (s ++ t) end left
 put-append {held} {mid} {left} {s} {t} {at} {m} {end} p q =
     record {
       list =
@@ -53,7 +56,8 @@ put-same {held} {left} {at = at} {end = end} p e = subst (λ (text : List ℕ). 
 
 -- ---- a text that is copied from the front
 
-pub pasted : {left : List ℕ} (held text : List ℕ) (at i : ℕ) → left ≡ paste held at text i → length text ≡ i → at + length text ≤ length held
+pub pasted : {left : List ℕ} (held text : List ℕ) (at i : ℕ)
+    → left ≡ paste held at text i → length text ≡ i → at + length text ≤ length held
     → Put held at text (at + length text) left
 pasted held text at i e l room =
     record {
@@ -77,7 +81,8 @@ filled-start held text at i e =
     ∙ ap (λ (s : List ℕ). take (at + length text) held ++ (s ++ drop (at + length text) held)) (drop-length text)
     ∙ take-append-drop (at + length text) held)
 
-pub filled-next : (held text : List ℕ) (at i v : ℕ) → i < length text → at + length text ≤ length held → v ≡ getD text i 0
+pub filled-next : (held text : List ℕ) (at i v : ℕ)
+    → i < length text → at + length text ≤ length held → v ≡ getD text i 0
     → set (filled held text at (suc i)) (at + i) v ≡ filled held text at i
 unfolding filled
 filled-next held text at i v h room e =
@@ -97,7 +102,8 @@ filled-next held text at i v h room e =
     more : at + suc i ≡ suc (at + i)
     more = omega arith
 
-pub filled-end : {left : List ℕ} (held text : List ℕ) (at width i : ℕ) → left ≡ filled held text at i → i ≡ 0 → length text ≡ width
+pub filled-end : {left : List ℕ} (held text : List ℕ) (at width i : ℕ)
+    → left ≡ filled held text at i → i ≡ 0 → length text ≡ width
     → at + width ≤ length held → Put held at text (at + width) left
 unfolding filled
 filled-end held text at width i e none l room =
@@ -115,7 +121,9 @@ filled-end held text at width i e none l room =
 drop-zeros : (m n : ℕ) → drop m (replicate {A = ℕ} n 0) ≡ replicate (n - m) 0
 drop-zeros zero n = let same : n ≡ n - 0 = omega arith in ap (λ (x : ℕ). replicate x 0) same
 drop-zeros (suc m) zero = let none : 0 ≡ 0 - suc m = omega arith in ap (λ (x : ℕ). replicate x 0) none
-drop-zeros (suc m) (suc n) = let same : n - m ≡ suc n - suc m = omega arith in drop-zeros m n ∙ ap (λ (x : ℕ). replicate x 0) same
+drop-zeros (suc m) (suc n) =
+    let same : n - m ≡ suc n - suc m = omega arith in
+    drop-zeros m n ∙ ap (λ (x : ℕ). replicate x 0) same
 
 pub text-in-front : {held text : List ℕ} {end : ℕ} {left : List ℕ} → Put held 0 text end left → take end left ≡ text
 text-in-front put = take-put put
@@ -125,7 +133,8 @@ pub zeros-after : (size : ℕ) {text : List ℕ} {end : ℕ} {left : List ℕ} �
 zeros-after size {end = end} put = drop-put put ∙ drop-zeros end size
 
 -- its bytes are among those of the list
-pub within : {held text : List ℕ} {at end : ℕ} {left : List ℕ} → Put held at text end left → (end ≤ length left) × (end ≡ length (take end left))
+pub within : {held text : List ℕ} {at end : ℕ} {left : List ℕ}
+    → Put held at text end left → (end ≤ length left) × (end ≡ length (take end left))
 within {end = end} {left = left} put = (inside, sym (length-take-le end left inside))
   where
     inside : end ≤ length left

@@ -1,4 +1,4 @@
--- `report::writing::put` meets its contract. The loop's invariant: i bytes are copied. Assumes nothing.
+-- `placing::put` meets its contract. The loop's invariant: i bytes are copied. Assumes nothing.
 use mathlib.Core.Path.{_≡_, refl, sym, ap, _∙_}
 use mathlib.Core.List.{List}
 use Prim.Native.Nat.{ℕ, _+_, _-_, _≤_}
@@ -7,9 +7,9 @@ use native.Mathlib.Omega.{arith}
 use lib.ListN.{length, getD, set, length-set}
 use lib.Seq.{paste, paste-zero, paste-suc}
 use borrow.Author.Needs.{needs}
-use Rattle.report.proofs.Placing.{pasted}
-use Rattle.report.proofs.writing.put.Statement.{statement}
-use Rattle.report.proofs.writing.put.Tie as tie
+use Rattle.placing.proofs.Placing.{pasted}
+use Rattle.placing.proofs.put.Statement.{statement}
+use Rattle.placing.proofs.put.Tie as tie
 
 abbrev Inv-loop : tie.InvT-loop
 Inv-loop text at out₀ i₀ out i = (i ≤ length text) × (length out ≡ length out₀) × (out ≡ paste out₀ at text i)
