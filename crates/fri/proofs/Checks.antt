@@ -25,7 +25,8 @@ use Rattle.coset.proofs.Independence.{independent-of}
 use Rattle.fri.specs.Layout.{lastCount, storeLength}
 use Rattle.fri.specs.Run.{Run, stepsIn, roundsIn}
 use Rattle.fri.specs.Layers.{basisIn}
-use Rattle.fri.specs.Checks.{parametersOutcome, lengthsOutcome, laterBasesOutcome, basesOutcome, runOutcome, firstOutside, outcomeOfOutside, queriesOutcome}
+use Rattle.fri.specs.Checks.{parametersOutcome, lengthsOutcome, laterBasesOutcome, basesOutcome, runOutcome}
+use Rattle.fri.specs.Checks.{firstOutside, outcomeOfOutside, indicesOutcome, queriesOutcome}
 use Rattle.fri.specs.Demand.{ValidParameters, ValidQueries}
 use Rattle.fri.specs.Theorems.{Fit}
 use Rattle.fri.proofs.Cosets.{later-independent}
@@ -258,30 +259,35 @@ all-inside Absent e = refl
 abbrev counted : List ℕ → Bool
 counted queries = leb 1 (length queries) && leb (length queries) 256
 
-pub queries-pass : (k : ℕ) (queries : List ℕ) → ValidQueries k queries → queriesOutcome k queries ≡ Done
-queries-pass k queries v =
-    sym (passed-by (counted queries) QueryCountOutOfRange (outcomeOfOutside (firstOutside (2 ^ k) queries 0)) (within 1 256 (length queries) (v .least) (v .most)))
-    ∙ ap outcomeOfOutside (none-outside (2 ^ k) queries 0 (v .within))
+module _ (k first : ℕ) (queries : List ℕ) where
+  abbrev indices : Outcome
+  indices = indicesOutcome k first queries
 
-pub queries-valid : (k : ℕ) (queries : List ℕ) → queriesOutcome k queries ≡ Done → ValidQueries k queries
-queries-valid k queries e =
-    let both = unless-done (counted queries) QueryCountOutOfRange (outcomeOfOutside (firstOutside (2 ^ k) queries 0)) e in
-    let count = within-of 1 256 (length queries) (both .0) in
-    record {
-      least = count .0;
-      most = count .1;
-      within = subst (Outside (2 ^ k) queries 0) (all-inside (firstOutside (2 ^ k) queries 0) (both .1)) (outside-told (2 ^ k) queries 0);
-    }
+  pub queries-pass : ValidQueries k queries → queriesOutcome k first queries ≡ Done
+  queries-pass v =
+      sym (passed-by (counted queries) QueryCountOutOfRange indices (within 1 256 (length queries) (v .least) (v .most)))
+      ∙ ap outcomeOfOutside (none-outside (2 ^ k) queries 0 (v .within))
 
-pub count-refused : (k : ℕ) (queries : List ℕ) → (length queries < 1) ⊎ (256 < length queries) → queriesOutcome k queries ≡ Refused QueryCountOutOfRange
-count-refused k queries o =
-    sym (refused-by (counted queries) QueryCountOutOfRange (outcomeOfOutside (firstOutside (2 ^ k) queries 0)) (outside 1 256 (length queries) o))
+  pub queries-valid : queriesOutcome k first queries ≡ Done → ValidQueries k queries
+  queries-valid e =
+      let both = unless-done (counted queries) QueryCountOutOfRange indices e in
+      let count = within-of 1 256 (length queries) (both .0) in
+      let inside = all-inside (firstOutside (2 ^ k) queries 0) (both .1) in
+      record {
+        least = count .0;
+        most = count .1;
+        within = subst (Outside (2 ^ k) queries 0) inside (outside-told (2 ^ k) queries 0);
+      }
 
-pub outside-refused : (k : ℕ) (queries : List ℕ) (query : ℕ) → 1 ≤ length queries → length queries ≤ 256 → firstOutside (2 ^ k) queries 0 ≡ At query
-    → queriesOutcome k queries ≡ Refused (QueryOutOfRange query)
-outside-refused k queries query l m e =
-    sym (passed-by (counted queries) QueryCountOutOfRange (outcomeOfOutside (firstOutside (2 ^ k) queries 0)) (within 1 256 (length queries) l m))
-    ∙ ap outcomeOfOutside e
+  pub count-refused : (length queries < 1) ⊎ (256 < length queries)
+      → queriesOutcome k first queries ≡ Refused QueryCountOutOfRange
+  count-refused o = sym (refused-by (counted queries) QueryCountOutOfRange indices (outside 1 256 (length queries) o))
+
+  pub outside-refused : (query : ℕ) → 1 ≤ length queries → length queries ≤ 256
+      → firstOutside (2 ^ k) queries 0 ≡ At query → queriesOutcome k first queries ≡ Refused (QueryOutOfRange query)
+  outside-refused query l m e =
+      sym (passed-by (counted queries) QueryCountOutOfRange indices (within 1 256 (length queries) l m))
+      ∙ ap outcomeOfOutside e
 
 -- ---- which numbers there are
 
@@ -351,11 +357,16 @@ bases-early run =
 pub run-early : (run : Run) → Early (numberOfOutcome (runOutcome run))
 run-early run = run-number-by Early (inl (omega arith)) (λ n l u. inl (omega arith)) (inr (omega arith)) run (bases-early run)
 
-pub outside-number : (P : ℕ → Type 0) → P 0 → P 10 → (p : Position) → P (numberOfOutcome (outcomeOfOutside p))
+outside-number : (P : ℕ → Type 0) → P 0 → P 10 → (p : Position) → P (numberOfOutcome (outcomeOfOutside p))
 outside-number P p0 p10 (At query) = p10
 outside-number P p0 p10 Absent = p0
 
-pub queries-number : (P : ℕ → Type 0) → P 0 → P 9 → P 10 → (k : ℕ) (queries : List ℕ) → P (numberOfOutcome (queriesOutcome k queries))
-queries-number P p0 p9 p10 k queries =
-    number-unless P (counted queries) QueryCountOutOfRange (outcomeOfOutside (firstOutside (2 ^ k) queries 0)) p9
-    (outside-number P p0 p10 (firstOutside (2 ^ k) queries 0))
+pub indices-number : (P : ℕ → Type 0) → P 0 → P 10 → (k first : ℕ) (queries : List ℕ)
+    → P (numberOfOutcome (indicesOutcome k first queries))
+indices-number P p0 p10 k first queries = outside-number P p0 p10 (firstOutside (2 ^ k) queries 0)
+
+pub queries-number : (P : ℕ → Type 0) → P 0 → P 9 → P 10 → (k first : ℕ) (queries : List ℕ)
+    → P (numberOfOutcome (queriesOutcome k first queries))
+queries-number P p0 p9 p10 k first queries =
+    number-unless P (counted queries) QueryCountOutOfRange (indicesOutcome k first queries) p9
+    (indices-number P p0 p10 k first queries)

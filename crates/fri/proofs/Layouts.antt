@@ -144,6 +144,10 @@ some-round k rate step least h =
     subst (λ (n : ℕ). 1 ≤ n) (sym (length-steps k rate step))
     (le-div-iff-mul-le {k = step} {x = 1} {y = k - rate} least .1 (omega arith))
 
+-- and η is the step of round 0
+pub first-step : (k rate step : ℕ) → 1 ≤ step → rate + step ≤ k → stepAt (stepsOf k rate step) 0 ≡ step
+first-step k rate step least h = step-of-round k rate step 0 (some-round k rate step least h)
+
 -- d
 pub last-count : (k rate step : ℕ)
     → lastCount k rate (stepsOf k rate step) ≡ 2 ^ (k - rate - roundsOf k rate step * step)

@@ -4,7 +4,9 @@ use mathlib.Core.List.{List, [], _∷_}
 use Prim.Native.Nat.{ℕ, zero, suc, _+_, _^_}
 use lib.Dec.{leb, ltb, eqb}
 use lib.ListN.{length}
-use Rattle.refusal.specs.declared.Cause.the-variants.{DimensionOutOfRange, RateOutOfRange, StepOutOfRange, DimensionTooSmall, WrongLength, QueryCountOutOfRange, QueryOutOfRange}
+use Rattle.refusal.specs.declared.Cause.the-variants.{DimensionOutOfRange, RateOutOfRange, StepOutOfRange}
+use Rattle.refusal.specs.declared.Cause.the-variants.{DimensionTooSmall, WrongLength}
+use Rattle.refusal.specs.declared.Cause.the-variants.{QueryCountOutOfRange, QueryOutOfRange}
 use Rattle.refusal.specs.declared.Outcome.{Outcome}
 use Rattle.refusal.specs.declared.Outcome.the-variants.{Done, Refused}
 use Rattle.refusal.specs.declared.Position.{Position}
@@ -17,7 +19,7 @@ use Rattle.fri.specs.Run.{Run, stepsIn, roundsIn}
 use Rattle.fri.specs.Layers.{layerBasis}
 
 -- the ranges: k 2..20 (number 4), R 1..6 (5), η 1..3 (6), k at least R + η (7)
-abbrev pub parametersOutcome : ℕ → ℕ → ℕ → Outcome
+abbrev pub parametersOutcome : (k rate step : ℕ) → Outcome
 parametersOutcome k rate step =
     refusedUnless (leb 2 k && leb k 20) DimensionOutOfRange
     (refusedUnless (leb 1 rate && leb rate 6) RateOutOfRange
@@ -26,7 +28,7 @@ parametersOutcome k rate step =
     Done)))
 
 -- lists 1 to 5: the lowest one whose length is not the one due (13)
-abbrev pub lengthsOutcome : Run → Outcome
+abbrev pub lengthsOutcome : (run : Run) → Outcome
 lengthsOutcome run =
     refusedUnless (eqb (length (run .basis)) (run .k)) (WrongLength 1)
     (refusedUnless (eqb (length (run .challenges)) (roundsIn run)) (WrongLength 2)
@@ -36,31 +38,40 @@ lengthsOutcome run =
     Done))))
 
 -- the bases of the layers after layer `round`, `left` of them (16, with the round whose fold gives that layer)
-unfoldable pub laterBasesOutcome : List ℕ → List ℕ → ℕ → ℕ → Outcome
+unfoldable pub laterBasesOutcome : (steps basis : List ℕ) (round left : ℕ) → Outcome
 laterBasesOutcome steps basis round zero = Done
 laterBasesOutcome steps basis round (suc left) =
-    andThen (outcomeOfLaterBasis round (firstDependent (layerBasis steps basis (suc round)))) (laterBasesOutcome steps basis (suc round) left)
+    andThen (outcomeOfLaterBasis round (firstDependent (layerBasis steps basis (suc round))))
+    (laterBasesOutcome steps basis (suc round) left)
 
 -- the basis (8), then those of layers 1 to r (16)
-abbrev pub basesOutcome : List ℕ → List ℕ → Outcome
-basesOutcome steps basis = andThen (outcomeOfBasis (firstDependent basis)) (laterBasesOutcome steps basis 0 (length steps))
+abbrev pub basesOutcome : (steps basis : List ℕ) → Outcome
+basesOutcome steps basis =
+    andThen (outcomeOfBasis (firstDependent basis)) (laterBasesOutcome steps basis 0 (length steps))
 
 -- the checks that prover and judge have in common: 4, 5, 6, 7, 13, 8, 16
-abbrev pub runOutcome : Run → Outcome
-runOutcome run = andThen (parametersOutcome (run .k) (run .rate) (run .step)) (andThen (lengthsOutcome run) (basesOutcome (stepsIn run) (run .basis)))
+abbrev pub runOutcome : (run : Run) → Outcome
+runOutcome run =
+    andThen (parametersOutcome (run .k) (run .rate) (run .step))
+    (andThen (lengthsOutcome run) (basesOutcome (stepsIn run) (run .basis)))
 
 -- the first query, its place counted from `place`, whose index is not below the size
-unfoldable pub firstOutside : ℕ → List ℕ → ℕ → Position
+unfoldable pub firstOutside : (size : ℕ) (queries : List ℕ) (place : ℕ) → Position
 firstOutside size [] place = Absent
 firstOutside size (j ∷ queries) place = cond (ltb j size) (firstOutside size queries (suc place)) (At place)
 
 -- a query outside is refused (10)
-abbrev pub outcomeOfOutside : Position → Outcome
+abbrev pub outcomeOfOutside : (outside : Position) → Outcome
 outcomeOfOutside (At query) = Refused (QueryOutOfRange query)
 outcomeOfOutside Absent = Done
 
--- a query list: 1 to 256 queries (9), each below 2^k (10)
-abbrev pub queriesOutcome : ℕ → List ℕ → Outcome
-queriesOutcome k queries =
+-- the indices of a query list: each below 2^k (10). The checks of a query list are given the step of round 0, whose
+-- cosets are the first-layer cosets
+abbrev pub indicesOutcome : (k first : ℕ) (queries : List ℕ) → Outcome
+indicesOutcome k first queries = outcomeOfOutside (firstOutside (2 ^ k) queries 0)
+
+-- a query list: 1 to 256 queries (9), then their indices
+abbrev pub queriesOutcome : (k first : ℕ) (queries : List ℕ) → Outcome
+queriesOutcome k first queries =
     refusedUnless (leb 1 (length queries) && leb (length queries) 256) QueryCountOutOfRange
-    (outcomeOfOutside (firstOutside (2 ^ k) queries 0))
+    (indicesOutcome k first queries)

@@ -10,14 +10,14 @@ use Rattle.refusal.specs.Numbers.{numberOf, placeOf, roundOf}
 use Rattle.fri.specs.declared.Answer.{Answer}
 use Rattle.fri.specs.declared.Answer.the-variants as answers
 use Rattle.fri.specs.declared.Verdict.{Verdict}
-use Rattle.fri.specs.Run.{Run}
+use Rattle.fri.specs.Run.{Run, stepIn}
 use Rattle.fri.specs.Checks.{runOutcome, queriesOutcome}
 use Rattle.fri.specs.Rounds.{roundsOutcome}
 use Rattle.fri.specs.Reads.{entriesRead}
 
 -- all checks before the round checks: 4, 5, 6, 7, 13, 8, 16, 9, 10
-abbrev pub checksOutcome : Run → List ℕ → Outcome
-checksOutcome run queries = andThen (runOutcome run) (queriesOutcome (run .k) queries)
+abbrev pub checksOutcome : (run : Run) (queries : List ℕ) → Outcome
+checksOutcome run queries = andThen (runOutcome run) (queriesOutcome (run .k) (stepIn run 0) queries)
 
 -- accepted, or the cause
 abbrev pub answerOf : (outcome : Outcome) → Answer

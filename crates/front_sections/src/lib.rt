@@ -1,21 +1,20 @@
-// The refusals of sections 1 to 4: in each the count's bytes (1), its value (2, or 9 in section 4), the entries' bytes (1), their values.
+// The refusals of sections 1 to 4: in each the count's bytes (1), its value (2, or 9 in section 4), the entries' bytes
+// (1), their values.
 use layout::Parameters;
 use refusal::Cause;
 use refusal::Outcome;
-use refusal::Position;
 use sections::Sections;
 ghost use mathlib.Core.Path.{_≡_};
 ghost use mathlib.Core.Bool.{_&&_};
 ghost use Prim.Native.Nat.{_^_, _≤_};
 ghost use lib.Dec.{leb};
 ghost use lib.ListN.{length};
-ghost use Rattle.refusal.specs.Checks.{andThen};
-ghost use Rattle.fri.specs.Checks.{basesOutcome, firstOutside, outcomeOfOutside};
+ghost use Rattle.fri.specs.Checks.{basesOutcome, indicesOutcome};
 ghost use Rattle.layout.specs.Parameters.{stepsBy, Valid};
 ghost use Rattle.transcript.specs.Numerals.{entriesAt};
 ghost use Rattle.transcript.specs.Sections.{sectionStart};
-ghost use Rattle.transcript.specs.Checks.{parametersSection, cosetSection, challengesSection, queriesSection, frontOutcome};
-ghost use Rattle.sections.specs.Views.{sectionsIn, parametersIn};
+ghost use Rattle.transcript.specs.Checks.{parametersSection, cosetSection, queriesSection, listsOutcome, frontOutcome};
+ghost use Rattle.sections.specs.Views.{sectionsIn, ParametersOf};
 
 // Sections 1 to 4.
 pub fn checked_front(bytes: &[u8], sections: Sections) -> Outcome
@@ -42,8 +41,8 @@ fn checked_parameters(bytes: &[u8]) -> Outcome
 
 // Sections 2, 3 and 4.
 fn checked_lists(bytes: &[u8], sections: Sections, parameters: Parameters) -> Outcome
-    requires { ⌜ (sections ≡ sectionsIn (now bytes)) × (parameters ≡ parametersIn (now bytes)) × Valid parameters ⌝ }
-    ensures { λ r. ⌜ r ≡ andThen (cosetSection (now (bytes .entry))) (andThen (challengesSection (now (bytes .entry))) (queriesSection (now (bytes .entry)))) ⌝ }
+    requires { ⌜ (sections ≡ sectionsIn (now bytes)) × ParametersOf (now bytes) parameters ⌝ }
+    ensures { λ r. ⌜ r ≡ listsOutcome (now (bytes .entry)) ⌝ }
 {
     let coset = checked_coset(bytes, sections.coset, parameters);
     match coset {
@@ -55,7 +54,7 @@ fn checked_lists(bytes: &[u8], sections: Sections, parameters: Parameters) -> Ou
                 parameters.rounds(),
             );
             match challenges {
-                Outcome::Done => checked_queries(bytes, sections.queries, parameters.k),
+                Outcome::Done => checked_queries(bytes, sections.queries, parameters),
                 Outcome::Refused(cause) => Outcome::Refused(cause),
             }
         }
@@ -65,7 +64,7 @@ fn checked_lists(bytes: &[u8], sections: Sections, parameters: Parameters) -> Ou
 
 // Section 2: an independent basis (8), and those of the later layers (16).
 fn checked_coset(bytes: &[u8], at: usize, parameters: Parameters) -> Outcome
-    requires { ⌜ (at ≡ sectionStart (now bytes) 2) × (parameters ≡ parametersIn (now bytes)) × Valid parameters ⌝ }
+    requires { ⌜ (at ≡ sectionStart (now bytes) 2) × ParametersOf (now bytes) parameters ⌝ }
     ensures { λ r. ⌜ r ≡ cosetSection (now (bytes .entry)) ⌝ }
 {
     let whole = sections::checked_due(bytes, 2, at, parameters.k + 1);
@@ -78,18 +77,18 @@ fn checked_coset(bytes: &[u8], at: usize, parameters: Parameters) -> Outcome
     }
 }
 
-// The basis whose entries begin there, in the room lent for it.
+// The basis whose entries begin there, in the room lent for it. All sections end before 2^40.
 fn checked_basis(bytes: &[u8], at: usize, parameters: Parameters, basis: &mut [u64]) -> Outcome
-    requires { ⌜ Valid parameters × (length (now basis) ≡ parameters .k) × (at ≤ 1099511627776) ⌝ }
+    requires { ⌜ Valid parameters × (length (now basis) ≡ parameters .k) × (at ≤ 2 ^ 40) ⌝ }
     ensures { λ r. ⌜ r ≡ basesOutcome (stepsBy parameters) (entriesAt (now (bytes .entry)) at (parameters .k)) ⌝ }
 {
     entries::read(bytes, at, basis);
     run_checks::checked_bases(parameters, &basis[..])
 }
 
-// Section 4: 1 to 256 queries (9), each below 2^k (10).
-fn checked_queries(bytes: &[u8], at: usize, k: usize) -> Outcome
-    requires { ⌜ (at ≡ sectionStart (now bytes) 4) × (k ≡ parametersIn (now bytes) .k) × (k ≤ 20) ⌝ }
+// Section 4: 1 to 256 queries (9), then their indices.
+fn checked_queries(bytes: &[u8], at: usize, parameters: Parameters) -> Outcome
+    requires { ⌜ (at ≡ sectionStart (now bytes) 4) × ParametersOf (now bytes) parameters ⌝ }
     ensures { λ r. ⌜ r ≡ queriesSection (now (bytes .entry)) ⌝ }
 {
     let count = entries::count_at(bytes, at);
@@ -103,23 +102,21 @@ fn checked_queries(bytes: &[u8], at: usize, k: usize) -> Outcome
     match whole {
         Outcome::Done => {
             let mut room = [0u64; 256];
-            checked_indices(bytes, at + 4, k, &mut room[..count])
+            checked_indices(bytes, at + 4, parameters, &mut room[..count])
         }
         Outcome::Refused(cause) => Outcome::Refused(cause),
     }
 }
 
-// As many query indices as there is room for, whose entries begin there: each below 2^k (10).
-fn checked_indices(bytes: &[u8], at: usize, k: usize, queries: &mut [u64]) -> Outcome
-    requires { ⌜ (k ≤ 20) × (length (now queries) ≤ 256) × (at ≤ 1099511627776) ⌝ }
-    ensures { λ r. ⌜ r ≡ outcomeOfOutside (firstOutside (2 ^ k) (entriesAt (now (bytes .entry)) at (length (now (queries .entry)))) 0) ⌝ }
+// As many query indices as there is room for, whose entries begin there.
+fn checked_indices(bytes: &[u8], at: usize, parameters: Parameters, queries: &mut [u64]) -> Outcome
+    requires { ⌜ Valid parameters × (length (now queries) ≤ 256) × (at ≤ 2 ^ 40) ⌝ }
+    ensures { λ r.
+        let indices = entriesAt (now (bytes .entry)) at (length (now (queries .entry))) in
+        ⌜ r ≡ indicesOutcome (parameters .k) (parameters .step) indices ⌝ }
 {
     entries::read(bytes, at, queries);
-    let outside = round_checks::first_outside(1 << k, &queries[..]);
-    match outside {
-        Position::At(query) => Outcome::Refused(Cause::QueryOutOfRange { query }),
-        Position::Absent => Outcome::Done,
-    }
+    round_checks::checked_indices(parameters.k, parameters.step, &queries[..])
 }
 
 fn is_query_count(count: usize) -> bool

@@ -1,13 +1,13 @@
-// The refusals before the round checks: sections 1 to 4, then those of the layers and the last one, then bytes after it (3).
+// The refusals before the round checks: sections 1 to 4, then those of the layers and the last one, then bytes after
+// it (3).
 use layout::Parameters;
 use refusal::Cause;
 use refusal::Outcome;
 use sections::Sections;
 ghost use mathlib.Core.Path.{_≡_};
-ghost use Rattle.layout.specs.Parameters.{Valid};
 ghost use Rattle.transcript.specs.Sections.{sectionStart, layerSection, transcriptRounds};
 ghost use Rattle.transcript.specs.Checks.{endOutcome, layersOutcome, transcriptOutcome};
-ghost use Rattle.sections.specs.Views.{sectionsIn, parametersIn};
+ghost use Rattle.sections.specs.Views.{sectionsIn, ParametersOf};
 
 // All sections.
 pub fn checked(bytes: &[u8], sections: Sections) -> Outcome
@@ -23,7 +23,7 @@ pub fn checked(bytes: &[u8], sections: Sections) -> Outcome
 
 // The sections of the layers, and the last one.
 fn checked_layers(bytes: &[u8], layers: usize, parameters: Parameters) -> Outcome
-    requires { ⌜ (layers ≡ sectionStart (now bytes) 5) × (parameters ≡ parametersIn (now bytes)) × Valid parameters ⌝ }
+    requires { ⌜ (layers ≡ sectionStart (now bytes) 5) × ParametersOf (now bytes) parameters ⌝ }
     ensures { λ r. ⌜ r ≡ layersOutcome (now (bytes .entry)) ⌝ }
 {
     let rounds = parameters.rounds();
@@ -44,7 +44,8 @@ fn checked_layers(bytes: &[u8], layers: usize, parameters: Parameters) -> Outcom
 
 // The last coefficients, after which nothing follows (3).
 fn checked_end(bytes: &[u8], at: usize, parameters: Parameters) -> Outcome
-    requires { ⌜ (at ≡ sectionStart (now bytes) (layerSection (transcriptRounds (now bytes)))) × (parameters ≡ parametersIn (now bytes)) × Valid parameters ⌝ }
+    requires { let sent = now bytes in
+        ⌜ (at ≡ sectionStart sent (layerSection (transcriptRounds sent))) × ParametersOf sent parameters ⌝ }
     ensures { λ r. ⌜ r ≡ endOutcome (now (bytes .entry)) ⌝ }
 {
     let whole = sections::checked_due(bytes, 5 + parameters.rounds(), at, parameters.last_count());

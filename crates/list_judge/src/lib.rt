@@ -6,12 +6,9 @@ use fri::Verdict;
 use layout::Parameters;
 use refusal::Cause;
 use refusal::Outcome;
-use refusal::Position;
 use round_checks::QueryPoint;
 ghost use mathlib.Core.Path.{_≡_};
-ghost use Prim.Native.Nat.{_≤_};
 ghost use Rattle.fri.specs.Run.{Run};
-ghost use Rattle.fri.specs.Checks.{queriesOutcome};
 ghost use Rattle.fri.specs.Judge.{checksOutcome, verdictOf};
 ghost use Rattle.layout.specs.Parameters.{runOf};
 ghost use Rattle.refusal.specs.declared.Outcome.the-variants as outcomes;
@@ -80,23 +77,8 @@ fn checked(
 {
     let outcome = run_checks::checked(parameters, offset, basis, challenges, word, store, last);
     match outcome {
-        Outcome::Done => checked_queries(parameters.k, queries),
+        Outcome::Done => round_checks::checked_queries(parameters.k, parameters.step, queries),
         Outcome::Refused(cause) => Outcome::Refused(cause),
-    }
-}
-
-// 1 to 256 queries (9), each below 2^k (10).
-fn checked_queries(k: usize, queries: &[u64]) -> Outcome
-    requires { ⌜ k ≤ 20 ⌝ }
-    ensures { λ r. ⌜ r ≡ queriesOutcome k (now (queries .entry)) ⌝ }
-{
-    if queries.len() < 1 || queries.len() > 256 {
-        return Outcome::Refused(Cause::QueryCountOutOfRange);
-    }
-    let outside = round_checks::first_outside(1 << k, queries);
-    match outside {
-        Position::At(query) => Outcome::Refused(Cause::QueryOutOfRange { query }),
-        Position::Absent => Outcome::Done,
     }
 }
 

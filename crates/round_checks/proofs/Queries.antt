@@ -29,11 +29,14 @@ module _ (size : ℕ) (queries : List ℕ) (query : ℕ) where
   outside-here h out =
       sym
       (one-by-one h
-      ∙ ap (λ (t : Bool). cond t (firstOutside size (drop (suc query) queries) (suc query)) (At query)) (le-ltb (getD queries query 0) size out))
+      ∙ ap (λ (t : Bool). cond t (firstOutside size (drop (suc query) queries) (suc query)) (At query))
+      (le-ltb (getD queries query 0) size out))
 
-  pub outside-next : query < length queries → getD queries query 0 < size → firstOutside size (drop (query + 1) queries) (query + 1) ≡ left
+  pub outside-next : query < length queries → getD queries query 0 < size
+      → firstOutside size (drop (query + 1) queries) (query + 1) ≡ left
   outside-next h inside =
       ap (λ (n : ℕ). firstOutside size (drop n queries) n) (add-one query)
       ∙ sym
       (one-by-one h
-      ∙ ap (λ (t : Bool). cond t (firstOutside size (drop (suc query) queries) (suc query)) (At query)) (lt-ltb (getD queries query 0) size inside))
+      ∙ ap (λ (t : Bool). cond t (firstOutside size (drop (suc query) queries) (suc query)) (At query))
+      (lt-ltb (getD queries query 0) size inside))

@@ -40,7 +40,7 @@ pub fn checked(
 }
 
 // Refuses the lowest list whose length is not the one due (13). The contract's run has the offset.
-fn checked_lengths(
+pub fn checked_lengths(
     parameters: Parameters,
     offset: Element,
     basis: &[u64],

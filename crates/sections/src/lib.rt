@@ -3,7 +3,7 @@ use layout::Parameters;
 use refusal::Cause;
 use refusal::Outcome;
 ghost use mathlib.Core.Path.{_≡_};
-ghost use Prim.Native.Nat.{_≤_};
+ghost use Prim.Native.Nat.{_^_, _≤_};
 ghost use Rattle.transcript.specs.Sections.{sectionStart, sectionEnd, sectionCount};
 ghost use Rattle.transcript.specs.Checks.{sectionOutcome, dueOutcome};
 ghost use Rattle.sections.specs.Views.{sectionsIn, parametersIn};
@@ -32,9 +32,10 @@ pub fn find(bytes: &[u8]) -> Sections
     }
 }
 
-// Where a section ends that begins there. A count has 4 bytes, so that four sections, or thirty, end before 2^40.
+// Where a section ends that begins there. A count has 4 bytes, so that a section has less than 2^35 bytes, and thirty
+// of them, more than there are, end before 2^40.
 pub fn end_of(bytes: &[u8], at: usize) -> usize
-    requires { ⌜ at ≤ 1099511627776 ⌝ }
+    requires { ⌜ at ≤ 2 ^ 40 ⌝ }
     ensures { λ r. ⌜ r ≡ sectionEnd (now (bytes .entry)) at ⌝ }
 {
     at + 4 + 8 * entries::count_at(bytes, at)

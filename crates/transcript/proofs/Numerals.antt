@@ -1,7 +1,7 @@
 -- Little-endian numbers byte by byte, and lists of entries. Assumes nothing.
 use mathlib.Core.Path.{_≡_, refl, sym, ap, _∙_}
 use mathlib.Core.List.{List, [], _∷_}
-use Prim.Native.Nat.{ℕ, zero, suc, _+_, _*_, _≤_, _<_}
+use Prim.Native.Nat.{ℕ, zero, suc, _+_, _*_, _^_, _≤_, _<_}
 use native.Mathlib.Omega.{arith}
 use lib.ListN.{length, getD, take, drop}
 use lib.Seq.{take-nil}
@@ -51,7 +51,7 @@ unfolding countAt littleEndian
 count-bytes bytes at = omega (arith, four-bytes bytes at 0)
 
 -- an entry is two counts
-pub entry-counts : (bytes : List ℕ) (at : ℕ) → entryAt bytes at ≡ countAt bytes at + 4294967296 * countAt bytes (at + 4)
+pub entry-counts : (bytes : List ℕ) (at : ℕ) → entryAt bytes at ≡ countAt bytes at + 2 ^ 32 * countAt bytes (at + 4)
 unfolding entryAt countAt
 entry-counts bytes at = omega (arith, four-bytes bytes at 4, count-bytes bytes at)
 
@@ -62,7 +62,7 @@ are-bytes (b ∷ bytes) h = (h 0, are-bytes bytes (λ at. h (suc at)))
 byte-fits : (bytes : List ℕ) → AreBytes bytes → (at : ℕ) → getD bytes at 0 < 256
 byte-fits bytes h at = all-getD (λ b. b < 256) bytes at 0 (omega arith) h
 
-pub count-fits : (bytes : List ℕ) → AreBytes bytes → (at : ℕ) → countAt bytes at < 4294967296
+pub count-fits : (bytes : List ℕ) → AreBytes bytes → (at : ℕ) → countAt bytes at < 2 ^ 32
 count-fits bytes h at =
     omega (
       arith,

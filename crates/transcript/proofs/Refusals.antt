@@ -11,26 +11,23 @@ use Rattle.refusal.specs.declared.Outcome.the-variants.{Done}
 use Rattle.refusal.specs.Checks.{refusedUnless, andThen}
 use Rattle.refusal.specs.Numbers.{numberOf, numberOfOutcome}
 use Rattle.refusal.proofs.Checks.{number-unless, number-then}
-use Rattle.fri.specs.Layout.{dimension, lastCount}
-use Rattle.fri.specs.Checks.{parametersOutcome, basesOutcome, firstOutside, outcomeOfOutside}
-use Rattle.fri.proofs.Checks.{parameters-number, outside-number}
+use Rattle.fri.specs.Layout.{stepAt, dimension, lastCount}
+use Rattle.fri.specs.Checks.{parametersOutcome, basesOutcome, indicesOutcome}
+use Rattle.fri.proofs.Checks.{parameters-number, indices-number}
 use Rattle.transcript.specs.Sections.{sectionStart, sectionCount, layerSection, transcriptK, transcriptRate}
 use Rattle.transcript.specs.Sections.{transcriptStep, transcriptSteps, transcriptRounds, runIn, queriesIn}
 use Rattle.transcript.specs.Checks.{sectionOutcome, dueOutcome, parametersSection, cosetSection}
-use Rattle.transcript.specs.Checks.{challengesSection, queriesSection, frontOutcome, layersFrom}
+use Rattle.transcript.specs.Checks.{challengesSection, queriesSection, listsOutcome, frontOutcome, layersFrom}
 use Rattle.transcript.specs.Checks.{endOutcome, layersOutcome, transcriptOutcome}
 
 -- what holds of 0 to 10 and of the bases' number holds of a transcript's
 module _ (P : ℕ → Type 0) (small : (n : ℕ) → n ≤ 10 → P n) (bytes : List ℕ) where
-  section-number : (s : ℕ) (test : Bool) (cause : Cause) → P (numberOf cause)
-      → P (numberOfOutcome (sectionOutcome bytes s test cause))
+  section-number : (s : ℕ) (test : Bool) (cause : Cause) → P (numberOf cause) → P (numberOfOutcome (sectionOutcome bytes s test cause))
   section-number s test cause p =
       number-unless P (leb (sectionStart bytes s + 4) (length bytes)) (BytesEnd s)
-      (refusedUnless test cause (refusedUnless (leb (sectionStart bytes (suc s)) (length bytes)) (BytesEnd s) Done))
-      (small 1 (omega arith))
+      (refusedUnless test cause (refusedUnless (leb (sectionStart bytes (suc s)) (length bytes)) (BytesEnd s) Done)) (small 1 (omega arith))
       (number-unless P test cause (refusedUnless (leb (sectionStart bytes (suc s)) (length bytes)) (BytesEnd s) Done) p
-      (number-unless P (leb (sectionStart bytes (suc s)) (length bytes)) (BytesEnd s) Done (small 1 (omega arith))
-      (small 0 (omega arith))))
+      (number-unless P (leb (sectionStart bytes (suc s)) (length bytes)) (BytesEnd s) Done (small 1 (omega arith)) (small 0 (omega arith))))
 
   due-number : (s due : ℕ) → P (numberOfOutcome (dueOutcome bytes s due))
   due-number s due = section-number s (eqb (sectionCount bytes s) due) (CountDiffers s) (small 2 (omega arith))
@@ -40,39 +37,31 @@ module _ (P : ℕ → Type 0) (small : (n : ℕ) → n ≤ 10 → P n) (bytes : 
   layers-number i zero = small 0 (omega arith)
   layers-number i (suc left) =
       let size = 2 ^ dimension (transcriptK bytes) (transcriptSteps bytes) i in
-      number-then P (dueOutcome bytes (layerSection i) size) (layersFrom bytes (suc i) left)
-      (due-number (layerSection i) size) (layers-number (suc i) left)
+      number-then P (dueOutcome bytes (layerSection i) size) (layersFrom bytes (suc i) left) (due-number (layerSection i) size) (layers-number (suc i) left)
 
   end-number : P (numberOfOutcome (endOutcome bytes))
   end-number =
       let last-due = lastCount (transcriptK bytes) (transcriptRate bytes) (transcriptSteps bytes) in
       let ends = eqb (sectionStart bytes (suc (layerSection (transcriptRounds bytes)))) (length bytes) in
-      number-then P (dueOutcome bytes (layerSection (transcriptRounds bytes)) last-due)
-      (refusedUnless ends TrailingBytes Done) (due-number (layerSection (transcriptRounds bytes)) last-due)
+      number-then P (dueOutcome bytes (layerSection (transcriptRounds bytes)) last-due) (refusedUnless ends TrailingBytes Done) (due-number (layerSection (transcriptRounds bytes)) last-due)
       (number-unless P ends TrailingBytes Done (small 3 (omega arith)) (small 0 (omega arith)))
 
   queries-number : P (numberOfOutcome (queriesSection bytes))
   queries-number =
       let counted = leb 1 (sectionCount bytes 4) && leb (sectionCount bytes 4) 256 in
-      let outside = firstOutside (2 ^ transcriptK bytes) (queriesIn bytes) 0 in
-      number-then P (sectionOutcome bytes 4 counted QueryCountOutOfRange) (outcomeOfOutside outside)
+      let first = stepAt (transcriptSteps bytes) 0 in
+      number-then P (sectionOutcome bytes 4 counted QueryCountOutOfRange)
+      (indicesOutcome (transcriptK bytes) first (queriesIn bytes))
       (section-number 4 counted QueryCountOutOfRange (small 9 (omega arith)))
-      (outside-number P (small 0 (omega arith)) (small 10 (omega arith)) outside)
+      (indices-number P (small 0 (omega arith)) (small 10 (omega arith)) (transcriptK bytes) first (queriesIn bytes))
 
-  pub transcript-number : P (numberOfOutcome (basesOutcome (transcriptSteps bytes) (runIn bytes .basis)))
-      → P (numberOfOutcome (transcriptOutcome bytes))
+  pub transcript-number : P (numberOfOutcome (basesOutcome (transcriptSteps bytes) (runIn bytes .basis))) → P (numberOfOutcome (transcriptOutcome bytes))
   transcript-number bases =
       number-then P (frontOutcome bytes) (layersOutcome bytes)
-      (number-then P (parametersSection bytes)
-      (andThen (cosetSection bytes) (andThen (challengesSection bytes) (queriesSection bytes)))
-      (number-then P (dueOutcome bytes 1 3)
-      (parametersOutcome (transcriptK bytes) (transcriptRate bytes) (transcriptStep bytes)) (due-number 1 3)
-      (parameters-number P (small 0 (omega arith)) (λ n l u. small n (omega arith)) (transcriptK bytes)
-      (transcriptRate bytes) (transcriptStep bytes)))
+      (number-then P (parametersSection bytes) (listsOutcome bytes)
+      (number-then P (dueOutcome bytes 1 3) (parametersOutcome (transcriptK bytes) (transcriptRate bytes) (transcriptStep bytes)) (due-number 1 3)
+      (parameters-number P (small 0 (omega arith)) (λ n l u. small n (omega arith)) (transcriptK bytes) (transcriptRate bytes) (transcriptStep bytes)))
       (number-then P (cosetSection bytes) (andThen (challengesSection bytes) (queriesSection bytes))
-      (number-then P (dueOutcome bytes 2 (transcriptK bytes + 1))
-      (basesOutcome (transcriptSteps bytes) (runIn bytes .basis)) (due-number 2 (transcriptK bytes + 1)) bases)
-      (number-then P (challengesSection bytes) (queriesSection bytes)
-      (due-number 3 (transcriptRounds bytes)) queries-number)))
-      (number-then P (layersFrom bytes 0 (transcriptRounds bytes)) (endOutcome bytes)
-      (layers-number 0 (transcriptRounds bytes)) end-number)
+      (number-then P (dueOutcome bytes 2 (transcriptK bytes + 1)) (basesOutcome (transcriptSteps bytes) (runIn bytes .basis)) (due-number 2 (transcriptK bytes + 1)) bases)
+      (number-then P (challengesSection bytes) (queriesSection bytes) (due-number 3 (transcriptRounds bytes)) queries-number)))
+      (number-then P (layersFrom bytes 0 (transcriptRounds bytes)) (endOutcome bytes) (layers-number 0 (transcriptRounds bytes)) end-number)

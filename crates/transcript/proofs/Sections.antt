@@ -1,7 +1,7 @@
 -- Sections one after the other, and the numbers of the lists that they carry. Assumes nothing.
 use mathlib.Core.Path.{_≡_, refl, sym, ap, _∙_, subst}
 use mathlib.Core.List.{List}
-use Prim.Native.Nat.{ℕ, zero, suc, _+_, _*_, _-_, _≤_}
+use Prim.Native.Nat.{ℕ, zero, suc, _+_, _*_, _^_, _-_, _≤_}
 use native.Mathlib.Nat.{add-zero, add-suc, le-trans, le-of-eq}
 use native.Mathlib.Omega.{arith}
 use Rattle.gf64.specs.Field.{IsElement}
@@ -42,15 +42,15 @@ module _ (bytes : List ℕ) where
       subst (λ (n : ℕ). sectionStart bytes s ≤ sectionStart bytes n) whole (start-after s (t - s) h)
 
   module _ (h : AreBytes bytes) where
-    -- the start of a section is no large number, whatever the counts
-    start-small : (s : ℕ) → sectionStart bytes s ≤ s * 34359738368
+    -- a section has at most 4 + 8 · (2^32 - 1) bytes, whatever its count
+    start-small : (s : ℕ) → sectionStart bytes s ≤ s * 2 ^ 35
     unfolding sectionStart
     start-small zero = omega arith
     start-small (suc zero) = omega arith
     start-small (suc (suc s)) = omega (arith, start-small (suc s), count-fits bytes h (sectionStart bytes (suc s)))
 
     -- up to the last section that there may be
-    pub start-below : (s : ℕ) → s ≤ 25 → sectionStart bytes s ≤ 858993459200
+    pub start-below : (s : ℕ) → s ≤ 25 → sectionStart bytes s ≤ 25 * 2 ^ 35
     start-below s l = omega (arith, start-small s)
 
     pub section-fits : (s : ℕ) → All IsElement (sectionEntries bytes s)

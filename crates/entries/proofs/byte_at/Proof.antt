@@ -1,4 +1,4 @@
--- `sections::entries::byte_at` meets its contract. Assumes nothing.
+-- `entries::byte_at` meets its contract. Assumes nothing.
 use mathlib.Core.Path.{refl, sym}
 use lib.ListN.{List·getD-eq-default}
 use borrow.Author.Needs.{needs}

@@ -1,5 +1,4 @@
--- `sections::entries::count_at` meets its contract. Assumes nothing.
-use Prim.Native.Nat.{_<_}
+-- `entries::count_at` meets its contract. Assumes nothing.
 use Rattle.transcript.proofs.Numerals.{count-bytes}
 use borrow.Author.Needs.{needs}
 use native.Mathlib.Omega.{arith}
@@ -16,7 +15,7 @@ byte-at-requires-2 : tie.Need-byte-at-requires-2
 byte-at-requires-2 c κs = search needs
 
 mul-low : tie.Need-mul-low
-mul-low c = let small : c .byte-at2 .result < 256 = c .byte-at2 .ensures .1 in omega (arith, small)
+mul-low c = omega (arith, c .byte-at2 .ensures .1)
 
 add-low : tie.Need-add-low
 add-low c = omega (arith, c .byte-at2 .ensures .1, c .before .byte-at .ensures .1)
@@ -43,13 +42,35 @@ mul-result : tie.Need-mul-result
 mul-result c = omega (arith, c .byte-at4 .ensures .1, c .before .byte-at3 .ensures .1)
 
 add-result : tie.Need-add-result
-add-result c = omega (arith, c .byte-at4 .ensures .1, c .before .byte-at3 .ensures .1, c .before .before .byte-at2 .ensures .1, c .before .before .before .byte-at .ensures .1)
+add-result c =
+    let low = c .before .before in
+    omega (
+      arith,
+      low .before .byte-at .ensures .1,
+      low .byte-at2 .ensures .1,
+      c .before .byte-at3 .ensures .1,
+      c .byte-at4 .ensures .1,
+    )
 
 returns : tie.Need-returns
 returns c =
-    let a = c .before .before .before .before .before .args in (
-      omega (arith, count-bytes (a .bytes .now) (a .at), c .byte-at4 .ensures .0, c .before .byte-at3 .ensures .0, c .before .before .byte-at2 .ensures .0, c .before .before .before .byte-at .ensures .0),
-      omega (arith, c .byte-at4 .ensures .1, c .before .byte-at3 .ensures .1, c .before .before .byte-at2 .ensures .1, c .before .before .before .byte-at .ensures .1),
+    let low = c .before .before in
+    let a = low .before .before .before .args in (
+      omega (
+        arith,
+        count-bytes (a .bytes .now) (a .at),
+        low .before .byte-at .ensures .0,
+        low .byte-at2 .ensures .0,
+        c .before .byte-at3 .ensures .0,
+        c .byte-at4 .ensures .0,
+      ),
+      omega (
+        arith,
+        low .before .byte-at .ensures .1,
+        low .byte-at2 .ensures .1,
+        c .before .byte-at3 .ensures .1,
+        c .byte-at4 .ensures .1,
+      ),
     )
 
 pub count-at-spec : {M : Type 1} → statement M

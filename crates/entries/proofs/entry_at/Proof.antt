@@ -1,4 +1,4 @@
--- `sections::entries::entry_at` meets its contract. Assumes nothing.
+-- `entries::entry_at` meets its contract. Assumes nothing.
 use Rattle.transcript.proofs.Numerals.{entry-counts}
 use borrow.Author.Needs.{needs}
 use native.Mathlib.Omega.{arith}
@@ -21,7 +21,9 @@ add-result : tie.Need-add-result
 add-result c = omega (arith, c .count-at2 .ensures .1, c .before .count-at .ensures .1)
 
 returns : tie.Need-returns
-returns c = let a = c .before .before .before .args in omega (arith, entry-counts (a .bytes .now) (a .at), c .count-at2 .ensures .0, c .before .count-at .ensures .0)
+returns c =
+    let a = c .before .before .before .args in
+    omega (arith, entry-counts (a .bytes .now) (a .at), c .count-at2 .ensures .0, c .before .count-at .ensures .0)
 
 pub entry-at-spec : {M : Type 1} → statement M
 entry-at-spec =

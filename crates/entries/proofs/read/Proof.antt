@@ -1,4 +1,5 @@
--- `sections::entries::read` meets its contract. The loop's invariant: i entries are read, the others as they were. Assumes nothing.
+-- `entries::read` meets its contract. The loop's invariant: i entries are read, the others as they were. Assumes
+-- nothing.
 use mathlib.Core.Path.{_≡_, refl, sym, ap, _∙_}
 use mathlib.Core.List.{List}
 use Prim.Native.Nat.{ℕ, _-_, _≤_}
@@ -12,7 +13,8 @@ use Rattle.entries.proofs.read.Statement.{statement}
 use Rattle.entries.proofs.read.Tie as tie
 
 abbrev Inv-loop : tie.InvT-loop
-Inv-loop bytes at out₀ i₀ out i = (i ≤ length out₀) × (length out ≡ length out₀) × (out ≡ filled (entriesAt bytes at (length out₀)) out₀ i)
+Inv-loop bytes at out₀ i₀ out i =
+    (i ≤ length out₀) × (length out ≡ length out₀) × (out ≡ filled (entriesAt bytes at (length out₀)) out₀ i)
 
 abbrev μ-loop : tie.MeasureT-loop
 μ-loop bytes at out₀ i₀ out i = length out₀ - i
@@ -47,12 +49,13 @@ loop-again : tie.Need-loop-again Inv-loop μ-loop
 loop-again c =
     let a = c .before .before .before .before .before .args in
     let l = c .before .before .loop in
-    let n = length (a .out .now) in (
+    let n = length (a .out .now) in
+    let entry = entry-of (a .bytes .now) (a .at) n (l .i) (omega (arith, l .inv .1)) in (
       omega (arith, l .inv .1),
       length-set (l .out) (l .i) (c .entry-at .result) ∙ l .inv .1,
       ap (λ (held : List ℕ). set held (l .i) (c .entry-at .result)) (l .inv .2)
-          ∙ filled-next (entriesAt (a .bytes .now) (a .at) n) (a .out .now) (l .i) (c .entry-at .result) (omega (arith, l .inv .1)) (length-entries (a .bytes .now) (a .at) n)
-          (c .entry-at .ensures ∙ sym (entry-of (a .bytes .now) (a .at) n (l .i) (omega (arith, l .inv .1)))),
+          ∙ filled-next (entriesAt (a .bytes .now) (a .at) n) (a .out .now) (l .i) (c .entry-at .result)
+          (omega (arith, l .inv .1)) (length-entries (a .bytes .now) (a .at) n) (c .entry-at .ensures ∙ sym entry),
     )
 
 same-length : tie.Need-same-length Inv-loop μ-loop
@@ -63,7 +66,9 @@ returns c =
     let a = c .before .before .before .before .args in
     let l = c .before .loop in
     let n = length (a .out .now) in
-    l .inv .2 ∙ filled-all (entriesAt (a .bytes .now) (a .at) n) (a .out .now) (l .i) (omega (arith, l .inv .1)) (length-entries (a .bytes .now) (a .at) n)
+    l .inv .2
+    ∙ filled-all (entriesAt (a .bytes .now) (a .at) n) (a .out .now) (l .i) (omega (arith, l .inv .1))
+    (length-entries (a .bytes .now) (a .at) n)
 
 pub read-spec : {M : Type 1} → statement M
 read-spec =

@@ -1,27 +1,59 @@
--- `sections::checks::checked_coset` meets its contract. Assumes nothing.
+-- `front_sections::checked_coset` meets its contract. Assumes nothing.
 use mathlib.Core.Path.{_≡_, sym, ap, ap₂, _∙_}
-use Prim.Native.Nat.{ℕ, _+_}
+use Prim.Native.Nat.{ℕ, _+_, _≤_, _^_}
 use lib.Seq.{length-take-le}
 use lib.ListN.{replicate}
 use Rattle.transcript.specs.Sections.{transcriptK, transcriptSteps, runIn}
 use Rattle.transcript.specs.Numerals.{entriesAt}
 use Rattle.transcript.specs.Checks.{dueOutcome}
 use Rattle.transcript.proofs.Checks.{due-done}
-use Rattle.transcript.proofs.Sections.{start-below}
 use Rattle.transcript.proofs.Numerals.{are-bytes}
 use Rattle.refusal.specs.declared.Outcome.the-variants.{Done}
 use Rattle.refusal.proofs.Checks.{then-passed, then-refused}
 use Rattle.fri.specs.Checks.{basesOutcome}
 use Rattle.layout.specs.Parameters.{stepsBy}
 use Rattle.layout.specs.declared.Parameters.{Parameters}
-use Rattle.sections.proofs.Places.{basis-is}
+use Rattle.sections.proofs.Places.{start-near, basis-is}
 use borrow.Author.Needs.{needs}
 use native.Mathlib.Omega.{arith}
 use Rattle.front_sections.proofs.checked_coset.Statement.{statement}
 use Rattle.front_sections.proofs.checked_coset.Tie as tie
 
+-- the section begins before 2^40, with room for the offset
+abbrev Near : tie.After-shared-slice-known → Type 0
+Near c = c .before .args .at + 12 ≤ 2 ^ 40
+
+near : (c : tie.After-shared-slice-known) → Near c
+near c =
+    let a = c .before .args in
+    let known = are-bytes (a .bytes .now) (λ i. omega (arith, c .shared-slice-known .given i)) in
+    start-near (a .bytes .now) known 2 (a .at) (omega arith) (c .before .pre .0)
+
+-- what is said of its count and its bytes
+abbrev Due : tie.After-checked-due → Type 0
+Due c =
+    let bytes = c .before .before .before .args .bytes .now in
+    c .checked-due .result ≡ dueOutcome bytes 2 (transcriptK bytes + 1)
+
+due : (c : tie.After-checked-due) → Due c
+due c =
+    let start = c .before .before .before in
+    let bytes = start .args .bytes .now in
+    c .checked-due .ensures ∙ ap (λ (p : Parameters). dueOutcome bytes 2 (p .k + 1)) (start .pre .1 .read)
+
+-- they are right
+abbrev Passed : tie.After-enum-told → Type 0
+Passed c =
+    let bytes = c .before .before .before .before .before .args .bytes .now in
+    dueOutcome bytes 2 (transcriptK bytes + 1) ≡ Done
+
+passed : (c : tie.After-enum-told) → Passed c
+passed c =
+    let done : c .before .before .checked-due .result ≡ Done = search needs in
+    sym (due (c .before .before)) ∙ done
+
 add-checked-due : tie.Need-add-checked-due
-add-checked-due c = let start = c .before .before in omega (arith, start .pre .2 .k-most)
+add-checked-due c = omega (arith, c .before .before .pre .1 .valid .k-most)
 
 checked-due-requires : tie.Need-checked-due-requires
 checked-due-requires c κs = (c .before .before .pre .0, omega arith, omega arith)
@@ -30,24 +62,23 @@ enum-told : tie.Need-enum-told
 enum-told c = search needs
 
 add-checked-basis : tie.Need-add-checked-basis
-add-checked-basis c =
-    let start = c .before .before .before .before .before in
-    let bytes = start .args .bytes .now in
-    omega (arith, start .pre .0, start-below bytes (are-bytes bytes (λ i. omega (arith, c .before .before .before .before .shared-slice-known .given i))) 2 (omega arith))
+add-checked-basis c = omega (arith, near (c .before .before .before .before))
 
 array-borrow-prefix-room : tie.Need-array-borrow-prefix-room
-array-borrow-prefix-room c = let start = c .before .before .before .before .before in start .pre .2 .k-most
+array-borrow-prefix-room c = c .before .before .before .before .before .pre .1 .valid .k-most
 
 slice-aggregate-checked-basis : tie.Need-slice-aggregate-checked-basis
-slice-aggregate-checked-basis c = let start = c .before .before .before .before .before .before in sym (length-take-le (start .args .parameters .k) (replicate 20 0) (start .pre .2 .k-most))
+slice-aggregate-checked-basis c =
+    let start = c .before .before .before .before .before .before in
+    sym (length-take-le (start .args .parameters .k) (replicate 20 0) (start .pre .1 .valid .k-most))
 
 checked-basis-requires : tie.Need-checked-basis-requires
 checked-basis-requires c κs =
     let start = c .before .before .before .before .before .before in
-    let bytes = start .args .bytes .now in (
-      start .pre .2,
-      length-take-le (start .args .parameters .k) (replicate 20 0) (start .pre .2 .k-most),
-      omega (arith, start .pre .0, start-below bytes (are-bytes bytes (λ i. omega (arith, c .before .before .before .before .before .shared-slice-known .given i))) 2 (omega arith)),
+    let valid = start .pre .1 .valid in (
+      valid,
+      length-take-le (start .args .parameters .k) (replicate 20 0) (valid .k-most),
+      omega (arith, near (c .before .before .before .before .before)),
     )
 
 enum-known-whole : tie.Need-enum-known-whole
@@ -55,24 +86,25 @@ enum-known-whole c = search needs
 
 returns : tie.Need-returns
 returns c =
-    let start = c .before .before .before .before .before .before .before .before in
-    let a = start .args in
-    let bytes = a .bytes .now in
-    let k = ap (λ (q : Parameters). q .k) (start .pre .1) in
-    let due = c .before .before .before .before .before .checked-due .ensures ∙ ap (λ (n : ℕ). dueOutcome bytes 2 (n + 1)) k in
-    let done : c .before .before .before .before .before .checked-due .result ≡ Done = search needs in
+    let told = c .before .before .before in
+    let start = told .before .before .before .before .before in
+    let bytes = start .args .bytes .now in
+    let read = start .pre .1 .read in
+    let at = ap (λ (n : ℕ). n + 12) (start .pre .0) in
+    let count = due-done bytes 2 (transcriptK bytes + 1) (passed told) .0 in
     c .before .checked-basis .ensures
-    ∙ ap₂ basesOutcome (ap stepsBy (start .pre .1))
-    (ap₂ (entriesAt bytes) (ap (λ (n : ℕ). n + 12) (start .pre .0)) k ∙ basis-is bytes (transcriptK bytes) (due-done bytes 2 (transcriptK bytes + 1) (sym due ∙ done) .0))
-    ∙ then-passed (dueOutcome bytes 2 (transcriptK bytes + 1)) (basesOutcome (transcriptSteps bytes) (runIn bytes .basis)) (sym due ∙ done)
+    ∙ ap₂ basesOutcome (ap stepsBy read)
+    (ap₂ (entriesAt bytes) at (ap (λ (p : Parameters). p .k) read) ∙ basis-is bytes (transcriptK bytes) count)
+    ∙ then-passed (dueOutcome bytes 2 (transcriptK bytes + 1))
+    (basesOutcome (transcriptSteps bytes) (runIn bytes .basis)) (passed told)
 
 returns-2 : tie.Need-returns-2
 returns-2 c =
-    let start = c .before .before .before .before .before .before in
-    let bytes = start .args .bytes .now in
-    let k = ap (λ (q : Parameters). q .k) (start .pre .1) in
-    let due = c .before .before .before .checked-due .ensures ∙ ap (λ (n : ℕ). dueOutcome bytes 2 (n + 1)) k in
-    then-refused (dueOutcome bytes 2 (transcriptK bytes + 1)) (basesOutcome (transcriptSteps bytes) (runIn bytes .basis)) (c .before .whole .given .0 .0) (sym due ∙ c .before .whole .given .1)
+    let whole = c .before in
+    let bytes = whole .before .before .before .before .before .args .bytes .now in
+    then-refused (dueOutcome bytes 2 (transcriptK bytes + 1))
+    (basesOutcome (transcriptSteps bytes) (runIn bytes .basis)) (whole .whole .given .0 .0)
+    (sym (due (whole .before .before)) ∙ whole .whole .given .1)
 
 pub checked-coset-spec : {M : Type 1} → statement M
 checked-coset-spec =

@@ -1,4 +1,4 @@
--- `sections::checks::checked_lists` meets its contract. Assumes nothing.
+-- `front_sections::checked_lists` meets its contract. Assumes nothing.
 use mathlib.Core.Path.{_≡_, sym, ap, _∙_}
 use lib.ListN.{length}
 use Rattle.transcript.specs.Checks.{dueOutcome, cosetSection, challengesSection, queriesSection}
@@ -13,17 +13,40 @@ use native.Mathlib.Omega.{arith}
 use Rattle.front_sections.proofs.checked_lists.Statement.{statement}
 use Rattle.front_sections.proofs.checked_lists.Tie as tie
 
+-- section 2 has passed
+abbrev CosetPassed : tie.After-enum-told → Type 0
+CosetPassed c = cosetSection (c .before .before .before .before .args .bytes .now) ≡ Done
+
+coset-passed : (c : tie.After-enum-told) → CosetPassed c
+coset-passed c =
+    let done : c .before .before .checked-coset .result ≡ Done = search needs in
+    sym (c .before .before .checked-coset .ensures) ∙ done
+
+-- what is said of section 3
+abbrev Challenges : tie.After-checked-due → Type 0
+Challenges c =
+    let start = c .before .before .before .before .before .before in
+    c .checked-due .result ≡ challengesSection (start .args .bytes .now)
+
+challenges-said : (c : tie.After-checked-due) → Challenges c
+challenges-said c =
+    let start = c .before .before .before .before .before .before in
+    let rounds = ap (λ (p : Parameters). length (stepsBy p)) (start .pre .1 .read) in
+    c .checked-due .ensures ∙ ap (dueOutcome (start .args .bytes .now) 3) (c .before .rounds .ensures ∙ rounds)
+
 checked-coset-requires : tie.Need-checked-coset-requires
-checked-coset-requires c κs = let start = c .before in (ap (λ (s : Sections). s .coset) (start .pre .0), start .pre .1, start .pre .2)
+checked-coset-requires c κs = (ap (λ (s : Sections). s .coset) (c .before .pre .0), c .before .pre .1)
 
 enum-told : tie.Need-enum-told
 enum-told c = search needs
 
 rounds-requires : tie.Need-rounds-requires
-rounds-requires c κs = c .before .before .before .before .pre .2
+rounds-requires c κs = c .before .before .before .before .pre .1 .valid
 
 checked-due-requires : tie.Need-checked-due-requires
-checked-due-requires c κs = (ap (λ (s : Sections). s .challenges) (c .before .before .before .before .before .pre .0), omega arith, omega arith)
+checked-due-requires c κs =
+    let start = c .before .before .before .before .before in
+    (ap (λ (s : Sections). s .challenges) (start .pre .0), omega arith, omega arith)
 
 enum-told-2 : tie.Need-enum-told-2
 enum-told-2 c = search needs
@@ -31,7 +54,7 @@ enum-told-2 c = search needs
 checked-queries-requires : tie.Need-checked-queries-requires
 checked-queries-requires c κs =
     let start = c .before .before .before .before .before .before .before .before in
-    (ap (λ (s : Sections). s .queries) (start .pre .0), ap (λ (q : Parameters). q .k) (start .pre .1), start .pre .2 .k-most)
+    (ap (λ (s : Sections). s .queries) (start .pre .0), start .pre .1)
 
 enum-known-challenges : tie.Need-enum-known-challenges
 enum-known-challenges c = search needs
@@ -41,28 +64,31 @@ enum-known-coset c = search needs
 
 returns : tie.Need-returns
 returns c =
-    let start = c .before .before .before .before .before .before .before .before .before in
-    let bytes = start .args .bytes .now in
-    let coset : c .before .before .before .before .before .before .before .checked-coset .result ≡ Done = search needs in
-    let challenges : c .before .before .before .checked-due .result ≡ Done = search needs in
-    let rounds = c .before .before .before .before .rounds .ensures ∙ ap (λ (q : Parameters). length (stepsBy q)) (start .pre .1) in
+    let due = c .before .before .before in
+    let told = due .before .before in
+    let bytes = told .before .before .before .before .args .bytes .now in
+    let done : due .checked-due .result ≡ Done = search needs in
     c .checked-queries .ensures
-    ∙ then-passed (challengesSection bytes) (queriesSection bytes) (ap (dueOutcome bytes 3) (sym rounds) ∙ sym (c .before .before .before .checked-due .ensures) ∙ challenges)
-    ∙ then-passed (cosetSection bytes) (andThen (challengesSection bytes) (queriesSection bytes)) (sym (c .before .before .before .before .before .before .before .checked-coset .ensures) ∙ coset)
+    ∙ then-passed (challengesSection bytes) (queriesSection bytes) (sym (challenges-said due) ∙ done)
+    ∙ then-passed (cosetSection bytes) (andThen (challengesSection bytes) (queriesSection bytes)) (coset-passed told)
 
 returns-2 : tie.Need-returns-2
 returns-2 c =
-    let start = c .before .before .before .before .before .before .before .before .before in
-    let bytes = start .args .bytes .now in
-    let coset : c .before .before .before .before .before .before .before .checked-coset .result ≡ Done = search needs in
-    let rounds = c .before .before .before .before .rounds .ensures ∙ ap (λ (q : Parameters). length (stepsBy q)) (start .pre .1) in
-    then-refused (challengesSection bytes) (queriesSection bytes) (c .before .challenges .given .0 .0) (ap (dueOutcome bytes 3) (sym rounds) ∙ sym (c .before .before .before .checked-due .ensures) ∙ c .before .challenges .given .1)
-    ∙ then-passed (cosetSection bytes) (andThen (challengesSection bytes) (queriesSection bytes)) (sym (c .before .before .before .before .before .before .before .checked-coset .ensures) ∙ coset)
+    let refused = c .before in
+    let due = refused .before .before in
+    let told = due .before .before in
+    let bytes = told .before .before .before .before .args .bytes .now in
+    then-refused (challengesSection bytes) (queriesSection bytes) (refused .challenges .given .0 .0)
+    (sym (challenges-said due) ∙ refused .challenges .given .1)
+    ∙ then-passed (cosetSection bytes) (andThen (challengesSection bytes) (queriesSection bytes)) (coset-passed told)
 
 returns-3 : tie.Need-returns-3
 returns-3 c =
-    let bytes = c .before .before .before .before .before .args .bytes .now in
-    then-refused (cosetSection bytes) (andThen (challengesSection bytes) (queriesSection bytes)) (c .before .coset .given .0 .0) (sym (c .before .before .before .checked-coset .ensures) ∙ c .before .coset .given .1)
+    let refused = c .before in
+    let coset = refused .before .before in
+    let bytes = coset .before .before .args .bytes .now in
+    then-refused (cosetSection bytes) (andThen (challengesSection bytes) (queriesSection bytes))
+    (refused .coset .given .0 .0) (sym (coset .checked-coset .ensures) ∙ refused .coset .given .1)
 
 pub checked-lists-spec : {M : Type 1} → statement M
 checked-lists-spec =

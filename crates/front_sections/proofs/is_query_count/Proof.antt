@@ -1,10 +1,9 @@
--- `sections::checks::is_query_count` meets its contract. Assumes nothing.
+-- `front_sections::is_query_count` meets its contract. Assumes nothing.
 use mathlib.Core.Path.{sym, ap, _∙_}
 use mathlib.Core.Bool.{Bool, _&&_}
 use lib.Dec.{leb}
 use borrow.Author.Tests.{le-leb, lt-leb}
 use Rattle.refusal.proofs.Checks.{first-false}
--- `sections::checks::is_query_count` meets its contract. Assumes nothing.
 use Rattle.front_sections.proofs.is_query_count.Statement.{statement}
 use Rattle.front_sections.proofs.is_query_count.Tie as tie
 

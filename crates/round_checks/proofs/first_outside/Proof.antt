@@ -10,7 +10,8 @@ use Rattle.round_checks.proofs.first_outside.Statement.{statement}
 use Rattle.round_checks.proofs.first_outside.Tie as tie
 
 abbrev Inv-loop : tie.InvT-loop
-Inv-loop size queries query₀ query = (query ≤ length queries) × (firstOutside size (drop query queries) query ≡ firstOutside size queries 0)
+Inv-loop size queries query₀ query =
+    (query ≤ length queries) × (firstOutside size (drop query queries) query ≡ firstOutside size queries 0)
 
 abbrev μ-loop : tie.MeasureT-loop
 μ-loop size queries query₀ query = length queries - query
@@ -25,7 +26,10 @@ shared-slice-read-if1 : tie.Need-shared-slice-read-if1 Inv-loop μ-loop
 shared-slice-read-if1 c = search needs
 
 returns : tie.Need-returns Inv-loop μ-loop
-returns c = outside-here (c .before .before .before .before .args .size) (c .before .before .before .before .args .queries .now) (c .before .before .before .loop .query) (omega arith) (c .if1 .taken) ∙ c .before .before .before .loop .inv .1
+returns c =
+    let turn = c .before .before .before in
+    let a = turn .before .args in
+    outside-here (a .size) (a .queries .now) (turn .loop .query) (omega arith) (c .if1 .taken) ∙ turn .loop .inv .1
 
 add-query : tie.Need-add-query Inv-loop μ-loop
 add-query c = search needs
@@ -34,10 +38,17 @@ loop-less : tie.Need-loop-less Inv-loop μ-loop
 loop-less c = search needs
 
 loop-again : tie.Need-loop-again Inv-loop μ-loop
-loop-again c = (search needs, outside-next (c .before .before .before .before .args .size) (c .before .before .before .before .args .queries .now) (c .before .before .before .loop .query) (omega arith) (c .if1 .left) ∙ c .before .before .before .loop .inv .1)
+loop-again c =
+    let turn = c .before .before .before in
+    let a = turn .before .args in
+    let inside = outside-next (a .size) (a .queries .now) (turn .loop .query) (omega arith) (c .if1 .left) in
+    (search needs, inside ∙ turn .loop .inv .1)
 
 returns-2 : tie.Need-returns-2 Inv-loop μ-loop
-returns-2 c = outside-none (c .before .before .args .size) (c .before .before .args .queries .now) (c .before .loop .query) (omega arith) ∙ c .before .loop .inv .1
+returns-2 c =
+    let turn = c .before in
+    let a = turn .before .args in
+    outside-none (a .size) (a .queries .now) (turn .loop .query) (omega arith) ∙ turn .loop .inv .1
 
 pub first-outside-spec : {M : Type 1} → statement M
 first-outside-spec =

@@ -1,12 +1,12 @@
--- `sections::checks::checked_due` meets its contract. Assumes nothing.
+-- `sections::checked_due` meets its contract. Assumes nothing.
 use mathlib.Core.Path.{ap, _∙_}
 use Prim.Native.Nat.{ℕ}
 use lib.Dec.{eqb}
-use Rattle.transcript.proofs.Sections.{start-below}
 use Rattle.transcript.proofs.Numerals.{are-bytes}
 use Rattle.transcript.specs.Numerals.{countAt}
 use Rattle.transcript.specs.Checks.{sectionOutcome}
 use Rattle.refusal.specs.declared.Cause.the-variants.{CountDiffers}
+use Rattle.sections.proofs.Places.{start-near}
 use native.Mathlib.Omega.{arith}
 use Rattle.sections.proofs.checked_due.Statement.{statement}
 use Rattle.sections.proofs.checked_due.Tie as tie
@@ -15,7 +15,8 @@ count-at-requires : tie.Need-count-at-requires
 count-at-requires c κs =
     let start = c .before in
     let a = start .args in
-    omega (arith, start .pre .0, start-below (a .bytes .now) (are-bytes (a .bytes .now) (λ i. omega (arith, c .shared-slice-known .given i))) (a .section) (omega (arith, start .pre .2)))
+    let known = are-bytes (a .bytes .now) (λ i. omega (arith, c .shared-slice-known .given i)) in
+    omega (arith, start-near (a .bytes .now) known (a .section) (a .at) (omega (arith, start .pre .2)) (start .pre .0))
 
 checked-section-requires : tie.Need-checked-section-requires
 checked-section-requires c κs = c .before .before .pre

@@ -1,5 +1,5 @@
-use Rattle.transcript.specs.Sections.{transcriptK, transcriptRate}
 -- `sections::parameters` meets its contract. Assumes nothing.
+use Rattle.transcript.specs.Sections.{transcriptK, transcriptRate}
 use mathlib.Core.Path.{refl, ap, _∙_}
 use Prim.Native.Nat.{ℕ}
 use Rattle.layout.specs.declared.Parameters.{Parameters}
@@ -25,7 +25,8 @@ returns c =
     let k = c .before .before .entry-at .ensures ∙ parameter-is bytes (start .pre) 0 4 (omega arith) refl in
     let rate = c .before .entry-at2 .ensures ∙ parameter-is bytes (start .pre) 1 12 (omega arith) refl in
     let step = c .entry-at3 .ensures ∙ parameter-is bytes (start .pre) 2 20 (omega arith) refl in
-    ap {B = Parameters} (λ (n : ℕ). record { k = n; rate = c .before .entry-at2 .result; step = c .entry-at3 .result }) k
+    ap {B = Parameters}
+    (λ (n : ℕ). record { k = n; rate = c .before .entry-at2 .result; step = c .entry-at3 .result }) k
     ∙ ap {B = Parameters} (λ (n : ℕ). record { k = transcriptK bytes; rate = n; step = c .entry-at3 .result }) rate
     ∙ ap {B = Parameters} (λ (n : ℕ). record { k = transcriptK bytes; rate = transcriptRate bytes; step = n }) step
 
