@@ -1,5 +1,5 @@
-// The verdict on the run that the bytes of a transcript carry. The small lists are read into room on the stack; entries of layers are read from the
-// bytes as they are needed.
+// The verdict on the run that the bytes of a transcript carry. The small lists are read into room on the stack; entries
+// of layers are read from the bytes as they are needed.
 use field::Element;
 use fri::Answer;
 use fri::Verdict;
@@ -34,7 +34,7 @@ pub fn verdict(bytes: &[u8], sections: Sections) -> Verdict
 // The verdict where all sections pass.
 fn judge_checked(bytes: &[u8], sections: Sections) -> Verdict
     requires { ⌜ (sections ≡ sectionsIn (now bytes)) × (transcriptOutcome (now bytes) ≡ outcomes.Done) ⌝ }
-    ensures { λ r. ⌜ r ≡ verdictOf (runIn (now (bytes .entry))) (queriesIn (now (bytes .entry))) ⌝ }
+    ensures { λ r. let sent = now (bytes .entry) in ⌜ r ≡ verdictOf (runIn sent) (queriesIn sent) ⌝ }
 {
     let parameters = sections::parameters(bytes);
     let rounds = parameters.rounds();
@@ -65,9 +65,10 @@ fn judge_in(
     queries: &mut [u64],
     last: &mut [u64],
 ) -> Verdict
-    requires { ⌜ (sections ≡ sectionsIn (now bytes)) × (parameters ≡ parametersIn (now bytes)) × (transcriptOutcome (now bytes) ≡ outcomes.Done)
-        × RoomFor (now bytes) (length (now basis)) (length (now challenges)) (length (now queries)) (length (now last)) ⌝ }
-    ensures { λ r. ⌜ r ≡ verdictOf (runIn (now (bytes .entry))) (queriesIn (now (bytes .entry))) ⌝ }
+    requires { let sent = now bytes in
+        ⌜ (sections ≡ sectionsIn sent) × (parameters ≡ parametersIn sent) × (transcriptOutcome sent ≡ outcomes.Done)
+        × RoomFor sent (length (now basis)) (length (now challenges)) (length (now queries)) (length (now last)) ⌝ }
+    ensures { λ r. let sent = now (bytes .entry) in ⌜ r ≡ verdictOf (runIn sent) (queriesIn sent) ⌝ }
 {
     let offset = entries::entry_at(bytes, sections.coset + 4);
     entries::read(bytes, sections.coset + 12, basis);
