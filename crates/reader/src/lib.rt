@@ -1,6 +1,6 @@
-// The judge over the bytes of a transcript. They are read through one small view: a struct with a reference to them and where their sections begin, and
-// thin functions over it. The borrow checker covers no function over such a struct, so each is proved by hand; the work is in crates `sections` and
-// `carried`, over a plain slice.
+// The judge over the bytes of a transcript. They are read through one small view: a struct with a reference to them and
+// where their sections begin, and thin functions over it. The borrow checker covers no function over such a struct, so
+// each is proved by hand; the work is in crates `sections` and `byte_judge`, over a plain slice.
 use fri::Answer;
 use fri::Verdict;
 use refusal::Cause;
@@ -32,9 +32,9 @@ impl<'a> Reader<'a> {
     }
 }
 
-// The verdict on a transcript of any length. Refused section by section: its count's bytes (1), its count (2, or 9 in section 4), its entries' bytes
-// (1), their values (4 to 7 in section 1, 8 and 16 in section 2, 10 in section 4); then bytes after the last section (3); then the first round check
-// that fails (11).
+// The verdict on a transcript of any length. Refused section by section: its count's bytes (1), its count (2, or 9 in
+// section 4), its entries' bytes (1), their values (4 to 7 in section 1, 8 and 16 in section 2, 10 in section 4); then
+// bytes after the last section (3); then the first round check that fails (11).
 pub fn judge(bytes: &[u8]) -> Verdict
     ensures { λ r. ⌜ r ≡ transcriptVerdict (now (bytes .entry)) ⌝ }
 {
