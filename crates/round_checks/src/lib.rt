@@ -122,8 +122,8 @@ impl Round {
         let inverses = self.inverses;
         let between = span[here.index % size];
         let first = here.point.sum(Element(between));
-        let coset = Coset::read(&span[..size], self.challenge.sum(first), part);
-        coset.value_at(&inverses[..step])
+        let coset = Coset::read(&span[..size], first, part);
+        coset.value_at(self.challenge, &inverses[..step])
     }
 
     // The value that the fold must equal: an entry of the next layer, where that is stored, or, in the last round, the

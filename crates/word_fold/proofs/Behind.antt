@@ -15,7 +15,8 @@ pub record Behind (size : ℕ) (values held joined : List ℕ) (j : ℕ) : Type 
   pub back : drop size joined ≡ filled values (drop size held) j
   pub as-long : length joined ≡ length held
 
-pub behind-start : (size : ℕ) (values held : List ℕ) → length held ≡ size + length values → Behind size values held held 0
+pub behind-start : (size : ℕ) (values held : List ℕ) → length held ≡ size + length values
+    → Behind size values held held 0
 behind-start size values held e =
     record {
       room = omega (arith, length-drop size held);
@@ -26,14 +27,17 @@ behind-start size values held e =
     }
 
 -- a part of the front
-part-of-front : (n start m : ℕ) (xs : List ℕ) → start + m ≤ n → n ≤ length xs → take m (drop start xs) ≡ take m (drop start (take n xs))
+part-of-front : (n start m : ℕ) (xs : List ℕ) → start + m ≤ n → n ≤ length xs
+    → take m (drop start xs) ≡ take m (drop start (take n xs))
 part-of-front n start m xs inside fits =
     ap (λ (l : List ℕ). take m (drop start l)) (sym (take-append-drop n xs))
     ∙ ap (take m) (drop-append-le start (take n xs) (drop n xs) (omega (arith, length-take-le n xs fits)))
-    ∙ take-append-le m (drop start (take n xs)) (drop n xs) (omega (arith, length-take-le n xs fits, length-drop start (take n xs)))
+    ∙ take-append-le m (drop start (take n xs)) (drop n xs)
+    (omega (arith, length-take-le n xs fits, length-drop start (take n xs)))
 
 module _ {size : ℕ} {values held joined : List ℕ} {j : ℕ} (b : Behind size values held joined j) where
-  pub behind-next : (v : ℕ) → j < length values → v ≡ getD values j 0 → Behind size values held (set joined (size + j) v) (j + 1)
+  pub behind-next : (v : ℕ) → j < length values → v ≡ getD values j 0
+      → Behind size values held (set joined (size + j) v) (j + 1)
   behind-next v h e =
       record {
         room = b .room;
@@ -47,9 +51,11 @@ module _ {size : ℕ} {values held joined : List ℕ} {j : ℕ} (b : Behind size
 
   pub behind-part : (start m : ℕ) → start + m ≤ size → take m (drop start joined) ≡ take m (drop start (take size held))
   behind-part start m inside =
-      part-of-front size start m joined inside (omega (arith, b .as-long, b .fits)) ∙ ap (λ (l : List ℕ). take m (drop start l)) (b .front)
+      part-of-front size start m joined inside (omega (arith, b .as-long, b .fits))
+      ∙ ap (λ (l : List ℕ). take m (drop start l)) (b .front)
 
   pub behind-all : length values ≤ j → joined ≡ take size held ++ values
   behind-all h =
       sym (take-append-drop size joined)
-      ∙ ap₂ (λ (front back : List ℕ). front ++ back) (b .front) (b .back ∙ filled-all values (drop size held) j (omega (arith, b .room)) (b .room))
+      ∙ ap₂ (λ (front back : List ℕ). front ++ back) (b .front)
+      (b .back ∙ filled-all values (drop size held) j (omega (arith, b .room)) (b .room))

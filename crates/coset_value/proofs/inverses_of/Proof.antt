@@ -1,4 +1,5 @@
--- `coset_value::inverses_of` meets its contract. The loop's invariant: t inverses stand in the array, zeros follow. Assumes nothing.
+-- `coset_value::inverses_of` meets its contract. The loop's invariant: t inverses stand in the array, zeros follow.
+-- Assumes nothing.
 use mathlib.Core.Path.{_≡_, sym, ap, _∙_}
 use mathlib.Core.List.{List, map}
 use Prim.Native.Nat.{ℕ, _-_, _≤_}
@@ -13,13 +14,15 @@ use Rattle.coset_value.proofs.inverses_of.Statement.{statement}
 use Rattle.coset_value.proofs.inverses_of.Tie as tie
 
 abbrev Inv-loop : tie.InvT-loop
-Inv-loop elements inverses₀ t₀ inverses t = (t ≤ length elements) × (inverses ≡ filled (padded gf64 3 (map inverse elements)) (replicate 3 0) t)
+Inv-loop elements inverses₀ t₀ inverses t =
+    (t ≤ length elements) × (inverses ≡ filled (padded gf64 3 (map inverse elements)) (replicate 3 0) t)
 
 abbrev μ-loop : tie.MeasureT-loop
 μ-loop elements inverses₀ t₀ inverses t = length elements - t
 
 loop-holds : tie.Need-loop-holds Inv-loop μ-loop
-loop-holds c = (search needs, filled-start (padded gf64 3 (map inverse (c .before .args .elements .now))) (replicate 3 0))
+loop-holds c =
+    (search needs, filled-start (padded gf64 3 (map inverse (c .before .args .elements .now))) (replicate 3 0))
 
 mul-t4 : tie.Need-mul-t4 Inv-loop μ-loop
 mul-t4 c = search needs

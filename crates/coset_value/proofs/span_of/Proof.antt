@@ -1,4 +1,5 @@
--- `coset_value::span_of` meets its contract. The loop's invariant: i points stand in the array, zeros follow. Assumes nothing.
+-- `coset_value::span_of` meets its contract. The loop's invariant: i points stand in the array, zeros follow. Assumes
+-- nothing.
 use mathlib.Core.Path.{_≡_, sym, ap, _∙_}
 use mathlib.Core.List.{List}
 use Prim.Native.Nat.{ℕ, _-_, _^_, _≤_}
@@ -16,7 +17,9 @@ use Rattle.coset_value.proofs.span_of.Statement.{statement}
 use Rattle.coset_value.proofs.span_of.Tie as tie
 
 abbrev Inv-loop : tie.InvT-loop
-Inv-loop basis size span₀ i₀ span i = (i ≤ size) × (size ≤ 8) × (size ≡ 2 ^ length basis) × (span ≡ filled (padded gf64 8 (points 0 basis)) (replicate 8 0) i)
+Inv-loop basis size span₀ i₀ span i =
+    (i ≤ size) × (size ≤ 8) × (size ≡ 2 ^ length basis)
+    × (span ≡ filled (padded gf64 8 (points 0 basis)) (replicate 8 0) i)
 
 abbrev μ-loop : tie.MeasureT-loop
 μ-loop basis size span₀ i₀ span i = size - i
@@ -27,8 +30,13 @@ shl-size c = search needs
 loop-holds : tie.Need-loop-holds Inv-loop μ-loop
 loop-holds c =
     let start = c .before in
-    let shifted = size-shifted (length (start .args .basis .now)) (omega (arith, start .pre)) in
-    (search needs, omega (arith, shifted, pow-mono {i = length (start .args .basis .now)} {j = 3} (start .pre)), shifted, filled-start (padded gf64 8 (points 0 (start .args .basis .now))) (replicate 8 0))
+    let basis = start .args .basis .now in
+    let shifted = size-shifted (length basis) (omega (arith, start .pre)) in (
+      search needs,
+      omega (arith, shifted, pow-mono {i = length basis} {j = 3} (start .pre)),
+      shifted,
+      filled-start (padded gf64 8 (points 0 basis)) (replicate 8 0),
+    )
 
 point-requires : tie.Need-point-requires Inv-loop μ-loop
 point-requires c κs = search needs
@@ -56,7 +64,8 @@ loop-again c =
       l .inv .1,
       l .inv .2,
       ap (λ (held : List ℕ). set held (l .i) value) (l .inv .3)
-          ∙ padded-next 8 (points 0 basis) (l .i) value (omega (arith, count, l .inv .2)) (omega (arith, count, pow-mono {i = length basis} {j = 3} (start .pre)))
+          ∙ padded-next 8 (points 0 basis) (l .i) value (omega (arith, count, l .inv .2))
+          (omega (arith, count, pow-mono {i = length basis} {j = 3} (start .pre)))
           (c .point .ensures ∙ sym (getD-points 0 basis (l .i) (omega (arith, l .inv .2)))),
     )
 
@@ -67,7 +76,8 @@ returns c =
     let l = c .before .loop in
     let count = length-points 0 basis in
     l .inv .3
-    ∙ filled-padded 8 (points 0 basis) (l .i) (omega (arith, count, l .inv .2)) (omega (arith, count, pow-mono {i = length basis} {j = 3} (start .pre)))
+    ∙ filled-padded 8 (points 0 basis) (l .i) (omega (arith, count, l .inv .2))
+    (omega (arith, count, pow-mono {i = length basis} {j = 3} (start .pre)))
 
 pub span-of-spec : {M : Type 1} → statement M
 span-of-spec =

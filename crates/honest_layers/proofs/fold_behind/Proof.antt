@@ -80,15 +80,19 @@ fill-behind-requires c κs =
     let start = start-of elements in
     let f = start .pre .foldable in
     let count = counted elements in
-    let all = whole start in (
-      omega (arith, count, f .step-least),
-      omega (arith, count, f .step-most),
-      omega (arith, count, all, f .step-fits),
-      omega (arith, all, f .dimension-most),
-      taken elements,
-      f .independent,
-      start .pre .joined-fits ∙ ap₂ (λ (m n : ℕ). 2 ^ m + 2 ^ (m - n)) (sym all) (sym count),
-    )
+    let all = whole start in
+    record {
+      step =
+          record {
+            some = omega (arith, count, f .step-least);
+            few = omega (arith, count, f .step-most);
+            fits = omega (arith, count, all, f .step-fits);
+            basis-fits = omega (arith, all, f .dimension-most);
+            elements-are = taken elements;
+            independent = f .independent;
+          };
+      both-fit = start .pre .joined-fits ∙ ap₂ (λ (m n : ℕ). 2 ^ m + 2 ^ (m - n)) (sym all) (sym count);
+    }
 
 same-length : tie.Need-same-length
 same-length c = search needs

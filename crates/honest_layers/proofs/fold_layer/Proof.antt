@@ -79,16 +79,20 @@ fill-values-requires c κs =
     let start = start-of elements in
     let f = start .pre .foldable in
     let count = counted elements in
-    let all = whole start in (
-      omega (arith, count, f .step-least),
-      omega (arith, count, f .step-most),
-      omega (arith, count, all, f .step-fits),
-      omega (arith, all, f .dimension-most),
-      taken elements,
-      f .independent,
-      start .pre .layer-fits ∙ ap (λ (n : ℕ). 2 ^ n) (sym all),
-      start .pre .next-fits ∙ ap₂ (λ (m n : ℕ). 2 ^ (m - n)) (sym all) (sym count),
-    )
+    let all = whole start in
+    record {
+      step =
+          record {
+            some = omega (arith, count, f .step-least);
+            few = omega (arith, count, f .step-most);
+            fits = omega (arith, count, all, f .step-fits);
+            basis-fits = omega (arith, all, f .dimension-most);
+            elements-are = taken elements;
+            independent = f .independent;
+          };
+      word-fits = start .pre .layer-fits ∙ ap (λ (n : ℕ). 2 ^ n) (sym all);
+      values-fit = start .pre .next-fits ∙ ap₂ (λ (m n : ℕ). 2 ^ (m - n)) (sym all) (sym count);
+    }
 
 same-length : tie.Need-same-length
 same-length c = search needs

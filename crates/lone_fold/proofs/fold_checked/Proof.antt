@@ -56,16 +56,20 @@ fill-values-requires c κs =
     let start = start-of elements in
     let basis = start .args .basis .now in
     let count = counted elements in
-    let f = start .pre in (
-      omega (arith, count, f .step-least),
-      omega (arith, count, f .step-most),
-      omega (arith, count, f .step-fits),
-      f .basis-most,
-      taken elements ∙ ap (λ (n : ℕ). stepElements n basis) (sym count),
-      f .independent,
-      f .word-fits,
-      f .values-fit ∙ ap (λ (n : ℕ). 2 ^ (length basis - n)) (sym count),
-    )
+    let f = start .pre in
+    record {
+      step =
+          record {
+            some = omega (arith, count, f .step-least);
+            few = omega (arith, count, f .step-most);
+            fits = omega (arith, count, f .step-fits);
+            basis-fits = f .basis-most;
+            elements-are = taken elements ∙ ap (λ (n : ℕ). stepElements n basis) (sym count);
+            independent = f .independent;
+          };
+      word-fits = f .word-fits;
+      values-fit = f .values-fit ∙ ap (λ (n : ℕ). 2 ^ (length basis - n)) (sym count);
+    }
 
 array-share-prefix-elements-2 : tie.Need-array-share-prefix-elements-2
 array-share-prefix-elements-2 c = search needs
