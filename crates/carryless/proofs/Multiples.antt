@@ -22,7 +22,8 @@ first-multiple a t e m h =
 
 -- a multiple of fewer than four bits can be doubled in 64
 pub half-multiple-lt : (a x n : ℕ) → a < 2 ^ 32 → n < 16 → x ≡ carryless n a → x < 2 ^ 63
-half-multiple-lt a x n ha hn e = subst (λ (y : ℕ). y < 2 ^ 63) (sym e) (le-trans (carryless-lt 4 32 n a hn ha) (omega arith))
+half-multiple-lt a x n ha hn e = subst (λ (y : ℕ). y < 2 ^ 63) (sym e)
+    (le-trans (carryless-lt 4 32 n a hn ha) (omega arith))
 
 pub next-multiple : (a : ℕ) (t : List ℕ) (n v : ℕ) → 0 < n → n < length t → Filled a t n
     → v ≡ bitXor (n % 2 * a) (getD t (n / 2) 0 * 2) → Filled a (set t n v) (n + 1)

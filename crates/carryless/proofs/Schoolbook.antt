@@ -34,13 +34,17 @@ pub sums-joined : (j k a₀ a₁ x y : ℕ) (p q r : Products) → a₀ < 2 ^ 32
     → r ≡ joinedOf p k q → Sums a₀ a₁ x y r
 sums-joined j k a₀ a₁ x y p q r h₀ h₁ hx hy fits above below e =
     record {
-      low = ap (λ (s : Products). s .low) e ∙ parts-joined j k a₀ y (p .low) (q .low) h₀ hy fits (above .low) (below .low);
+      low = ap (λ (s : Products). s .low) e
+          ∙ parts-joined j k a₀ y (p .low) (q .low) h₀ hy fits (above .low) (below .low);
       middle =
           ap (λ (s : Products). s .middle) e
           ∙ ap₂ (λ (u v : ℕ). shiftedSum u k v) (above .middle) (below .middle)
-          ∙ shifted-swap k (carryless (x / 2 ^ k) a₀) (carryless (y / 2 ^ k) a₁) (carryless (x % 2 ^ k) a₀) (carryless (y % 2 ^ k) a₁)
-          ∙ ap₂ bitXor (parts-joined j k a₀ x _ _ h₀ hx fits refl refl) (parts-joined j k a₁ y _ _ h₁ hy fits refl refl);
-      high = ap (λ (s : Products). s .high) e ∙ parts-joined j k a₁ x (p .high) (q .high) h₁ hx fits (above .high) (below .high);
+          ∙ shifted-swap k (carryless (x / 2 ^ k) a₀) (carryless (y / 2 ^ k) a₁) (carryless (x % 2 ^ k) a₀)
+          (carryless (y % 2 ^ k) a₁)
+          ∙ ap₂ bitXor (parts-joined j k a₀ x _ _ h₀ hx fits refl refl)
+          (parts-joined j k a₁ y _ _ h₁ hy fits refl refl);
+      high = ap (λ (s : Products). s .high) e
+          ∙ parts-joined j k a₁ x (p .high) (q .high) h₁ hx fits (above .high) (below .high);
     }
 
 -- ---- the schoolbook product by halves of 32 bits
@@ -66,7 +70,8 @@ schoolbook-mixed : (a b h p q l : ℕ) → h ≡ carryless (b / 2 ^ 32) (a / 2 ^
     → q ≡ carryless (b % 2 ^ 32) (a / 2 ^ 32) → l ≡ carryless (b % 2 ^ 32) (a % 2 ^ 32)
     → bitXor h (bitXor p q / 2 ^ 32) * 2 ^ 64 + bitXor l (bitXor p q * 2 ^ 32 % 2 ^ 64) ≡ carryless a b
 schoolbook-mixed a b h p q l eh ep eq el =
-    ap (λ (u : ℕ). bitXor h u * 2 ^ 64 + bitXor l (bitXor p q * 2 ^ 32 % 2 ^ 64)) (sym (mul-div-mul-right (bitXor p q) (2 ^ 32) (pow-pos 32)))
+    ap (λ (u : ℕ). bitXor h u * 2 ^ 64 + bitXor l (bitXor p q * 2 ^ 32 % 2 ^ 64))
+    (sym (mul-div-mul-right (bitXor p q) (2 ^ 32) (pow-pos 32)))
     ∙ wide-sum h l (bitXor p q * 2 ^ 32) low-fits
     ∙ ap₂ bitXor (sym (xor-shifted h 64 l low-fits)) (sym (xor-shift 32 p q))
     ∙ xor-swap (h * 2 ^ 64) l (p * 2 ^ 32) (q * 2 ^ 32)

@@ -9,7 +9,8 @@ use lib.Pow.{pow-pos, mod-pow-add, low as lower}
 use lib.Bits.{bitXor, xor-shifted, xor-comm, xor-zero-r, xor-mod}
 use Rattle.gf64.specs.Polynomial.{carryless, remainder, reduction}
 use Rattle.gf64.proofs.Remainder.{remainder-high, remainder-id}
-use Rattle.gf64.proofs.Carryless.{carryless-lt, carryless-add-l, carryless-add-r, carryless-shift-l, carryless-comm, carryless-bit-r}
+use Rattle.gf64.proofs.Carryless.{carryless-lt, carryless-add-l, carryless-add-r, carryless-shift-l, carryless-comm}
+use Rattle.gf64.proofs.Carryless.{carryless-bit-r}
 
 -- ---- a product by the i + 1 low bits of x, from that by the i low bits
 
@@ -41,11 +42,16 @@ bit-clear x i a w e h =
 over-short : (h over low : ℕ) → h < 2 ^ 64 → over * 2 ^ 64 + low ≡ carryless reduction h → over < 2 ^ 5
 unfolding IsLe
 over-short h over low hh e =
-    omega (arith, subst (λ (x : ℕ). x < 2 ^ 69) (sym e) (carryless-lt 5 64 reduction h (le-by-compare (suc reduction) 32 tt) hh))
+    omega (
+      arith,
+      subst (λ (x : ℕ). x < 2 ^ 69) (sym e)
+          (carryless-lt 5 64 reduction h (le-by-compare (suc reduction) 32 tt) hh),
+    )
 
 over-times-reduction : (over : ℕ) → over < 2 ^ 5 → carryless reduction over < 2 ^ 64
 unfolding IsLe
-over-times-reduction over h = lt-of-lt-of-le (carryless-lt 5 5 reduction over (le-by-compare (suc reduction) 32 tt) h) (le-by-compare 1024 (2 ^ 64) tt)
+over-times-reduction over h = lt-of-lt-of-le (carryless-lt 5 5 reduction over (le-by-compare (suc reduction) 32 tt) h)
+    (le-by-compare 1024 (2 ^ 64) tt)
 
 pub reduced-together : (h l over low high′ low′ : ℕ) → h < 2 ^ 64 → l < 2 ^ 64 → low < 2 ^ 64 → low′ < 2 ^ 64
     → over * 2 ^ 64 + low ≡ carryless reduction h → high′ * 2 ^ 64 + low′ ≡ carryless reduction (bitXor h over)

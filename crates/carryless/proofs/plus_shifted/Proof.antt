@@ -22,7 +22,8 @@ returns c =
     let w = c .before .before .args .w in
     let a = c .before .before .args .a in
     let i = c .before .before .args .i in
-    ap (λ (x : ℕ). bitXor (w .high) x * 2 ^ 64 + bitXor (w .low) (a * 2 ^ i % 2 ^ 64)) (shifted-out a i (c .before .before .pre))
+    ap (λ (x : ℕ). bitXor (w .high) x * 2 ^ 64 + bitXor (w .low) (a * 2 ^ i % 2 ^ 64))
+    (shifted-out a i (c .before .before .pre))
     ∙ wide-sum (w .high) (w .low) (a * 2 ^ i) (search needs)
 
 pub plus-shifted-spec : {M : Type 1} → statement M

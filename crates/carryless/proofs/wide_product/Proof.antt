@@ -16,9 +16,12 @@ times32-requires c κs = search needs
 
 returns : tie.Need-returns
 returns c =
-    let a = c .before .before .before .before .before .before .before .before .before .args .a in
-    schoolbook a (c .before .before .before .before .before .before .before .before .before .args .b) _
-    (c .before .before .before .before .times32 .ensures (a % 2 ^ 32) (a / 2 ^ 32) (c .before .before .before .before .before .before .before .before .window .ensures) (c .before .before .before .before .before .before .before .window2 .ensures))
+    let times = c .before .before .before .before in
+    let windows = times .before .before .before in
+    let start = windows .before .before in
+    let a = start .args .a in
+    schoolbook a (start .args .b) _
+    (times .times32 .ensures (a % 2 ^ 32) (a / 2 ^ 32) (windows .before .window .ensures) (windows .window2 .ensures))
 
 pub wide-product-spec : {M : Type 1} → statement M
 wide-product-spec = tie.close (tie.spec window-requires window-requires-2 times32-requires returns)

@@ -27,7 +27,8 @@ array-read-multiple c = search needs
 
 multiple-requires : tie.Need-multiple-requires Inv-loop μ-loop
 multiple-requires c κs =
-    half-multiple-lt _ _ _ (c .before .before .pre) (omega arith) (c .before .loop .inv .3 (c .before .loop .n / 2) (omega arith))
+    half-multiple-lt _ _ _ (c .before .before .pre) (omega arith)
+    (c .before .loop .inv .3 (c .before .loop .n / 2) (omega arith))
 
 mul-t : tie.Need-mul-t Inv-loop μ-loop
 mul-t c = search needs
@@ -46,7 +47,8 @@ loop-again c = (
   search needs,
   search needs,
   simp length-set (c .before .before .loop .inv .2),
-  next-multiple (c .before .before .before .args .a) (c .before .before .loop .t) (c .before .before .loop .n) _ (c .before .before .loop .inv .0) (omega arith) (c .before .before .loop .inv .3) (c .multiple .ensures),
+  next-multiple (c .before .before .before .args .a) (c .before .before .loop .t) (c .before .before .loop .n) _
+      (c .before .before .loop .inv .0) (omega arith) (c .before .before .loop .inv .3) (c .multiple .ensures),
 )
 
 returns : tie.Need-returns Inv-loop μ-loop

@@ -32,7 +32,8 @@ returns-2 c = (answer, (λ z. absurd (nonzero z), inverts))
     answer : Value (c .inverse-or-zero .result) ≡ invertedOf a
     answer =
         ap {B = Inverted} (λ (x : ℕ). Value (record { 0 = x })) (c .inverse-or-zero .ensures)
-        ∙ sym (ap (λ (b : Bool). cond b (Refused InverseOfZero) (Value (record { 0 = inverse a }))) (ne-eqb a 0 nonzero))
+        ∙ sym (ap (λ (b : Bool). cond b (Refused InverseOfZero) (Value (record { 0 = inverse a })))
+        (ne-eqb a 0 nonzero))
 
     inverts : (x : Element) → Value (c .inverse-or-zero .result) ≡ Value x → product a (x .0) ≡ 1
     inverts x e =

@@ -1,4 +1,5 @@
--- `field::Element::inverse_or_zero` meets its contract: each line joins two exponents that are all ones. Assumes nothing.
+-- `field::Element::inverse_or_zero` meets its contract: each line joins two exponents that are all ones. Assumes
+-- nothing.
 use native.Mathlib.Omega.{arith}
 use borrow.Author.Needs.{needs}
 use Rattle.field.proofs.Ones.{ones-first, ones-join, ones-last}
@@ -34,16 +35,24 @@ squared-requires c κs = search needs
 
 returns : tie.Need-returns
 returns c =
-    let a = c .before .before .before .before .before .before .before .before .before .args .self .0 in
-    let one = ones-first a (omega (arith, c .before .before .before .before .before .before .before .before .before .good)) in
-    let two = ones-join a 1 1 _ _ _ one one (c .before .before .before .before .before .before .before .before .raised .ensures) in
-    let three = ones-join a 2 1 _ _ _ two one (c .before .before .before .before .before .before .before .raised2 .ensures) in
-    let six = ones-join a 3 3 _ _ _ three three (c .before .before .before .before .before .before .raised3 .ensures) in
-    let twelve = ones-join a 6 6 _ _ _ six six (c .before .before .before .before .before .raised4 .ensures) in
-    let fifteen = ones-join a 12 3 _ _ _ twelve three (c .before .before .before .before .raised5 .ensures) in
-    let thirty = ones-join a 15 15 _ _ _ fifteen fifteen (c .before .before .before .raised6 .ensures) in
-    let sixty = ones-join a 30 30 _ _ _ thirty thirty (c .before .before .raised7 .ensures) in
-    ones-last a _ _ (ones-join a 60 3 _ _ _ sixty three (c .before .raised8 .ensures)) (c .squared .ensures)
+    let at8 = c .before in
+    let at7 = at8 .before in
+    let at6 = at7 .before in
+    let at5 = at6 .before in
+    let at4 = at5 .before in
+    let at3 = at4 .before in
+    let at2 = at3 .before in
+    let at1 = at2 .before in
+    let a = at1 .before .args .self .0 in
+    let one = ones-first a (omega (arith, at1 .before .good)) in
+    let two = ones-join a 1 1 _ _ _ one one (at1 .raised .ensures) in
+    let three = ones-join a 2 1 _ _ _ two one (at2 .raised2 .ensures) in
+    let six = ones-join a 3 3 _ _ _ three three (at3 .raised3 .ensures) in
+    let twelve = ones-join a 6 6 _ _ _ six six (at4 .raised4 .ensures) in
+    let fifteen = ones-join a 12 3 _ _ _ twelve three (at5 .raised5 .ensures) in
+    let thirty = ones-join a 15 15 _ _ _ fifteen fifteen (at6 .raised6 .ensures) in
+    let sixty = ones-join a 30 30 _ _ _ thirty thirty (at7 .raised7 .ensures) in
+    ones-last a _ _ (ones-join a 60 3 _ _ _ sixty three (at8 .raised8 .ensures)) (c .squared .ensures)
 
 pub inverse-or-zero-spec : {M : Type 1} → statement M
 inverse-or-zero-spec =

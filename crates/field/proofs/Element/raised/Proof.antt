@@ -13,7 +13,8 @@ product-requires : tie.Need-product-requires
 product-requires c κs = search needs
 
 returns : tie.Need-returns
-returns c = c .product .ensures .0 ∙ ap (λ (x : ℕ). product x (c .before .before .args .other .0)) (c .before .squared .ensures)
+returns c = c .product .ensures .0
+    ∙ ap (λ (x : ℕ). product x (c .before .before .args .other .0)) (c .before .squared .ensures)
 
 pub raised-spec : {M : Type 1} → statement M
 raised-spec = tie.close (tie.spec squared-requires product-requires returns)

@@ -27,8 +27,11 @@ loop-less : tie.Need-loop-less Inv-loop μ-loop
 loop-less c = search needs
 
 loop-again : tie.Need-loop-again Inv-loop μ-loop
-loop-again c =
-    (search needs, c .product .ensures ∙ squared-once-more _ (c .before .before .loop .i) _ (c .before .before .loop .inv .1))
+loop-again c = (
+  search needs,
+  c .product .ensures
+      ∙ squared-once-more _ (c .before .before .loop .i) _ (c .before .before .loop .inv .1),
+)
 
 returns : tie.Need-returns Inv-loop μ-loop
 returns c =

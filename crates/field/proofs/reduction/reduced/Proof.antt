@@ -12,7 +12,8 @@ times-reduction-requires-2 c κs = search needs
 
 returns : tie.Need-returns
 returns c =
-    reduced-together _ _ _ _ _ _ (search needs) (search needs) (search needs) (search needs) (c .before .before .before .before .times-reduction .ensures)
+    reduced-together _ _ _ _ _ _ (search needs) (search needs) (search needs) (search needs)
+    (c .before .before .before .before .times-reduction .ensures)
     (c .before .before .times-reduction2 .ensures)
 
 pub reduced-spec : {M : Type 1} → statement M

@@ -1,5 +1,5 @@
--- `field::reduction::times_reduction` meets its contract. The loop's invariant: w is the product by the i low bits of the
--- reduction constant. Assumes nothing.
+-- `field::reduction::times_reduction` meets its contract. The loop's invariant: w is the product by the i low bits of
+-- the reduction constant. Assumes nothing.
 use mathlib.Core.Path.{_≡_, sym, ap, _∙_}
 use mathlib.Core.Logic.{⊎-elim}
 use Prim.Native.Nat.{ℕ, _-_, _%_, _^_, _≤_}
