@@ -21,7 +21,8 @@ from rows place = firstDependentAfter [] (drop place rows) place
 
 pub row-zero : (rows : List ℕ) (place : ℕ) → place < length rows → getD rows place 0 ≡ 0 → from rows place ≡ At place
 row-zero rows place h z =
-    ap (λ (l : List ℕ). firstDependentAfter [] l place) (drop-cons rows place 0 h) ∙ first-zero (getD rows place 0) (drop (suc place) rows) place z
+    ap (λ (l : List ℕ). firstDependentAfter [] l place) (drop-cons rows place 0 h)
+    ∙ first-zero (getD rows place 0) (drop (suc place) rows) place z
 
 row-taken : (rows : List ℕ) (place : ℕ) → place < length rows → getD rows place 0 ≢ 0
     → firstDependentAfter [] (map (cleared (getD rows place 0)) (drop (place + 1) rows)) (place + 1) ≡ from rows place
@@ -44,7 +45,8 @@ part-of-rows rows count p h = sym (ap (λ (n : ℕ). drop p (take n rows)) whole
     whole : count ≡ p + (count - p)
     whole = omega arith
 
-rows-changed : (rows : List ℕ) (count p : ℕ) (changed : List ℕ) → p ≤ count → count ≤ length rows → length changed ≡ count - p
+rows-changed : (rows : List ℕ) (count p : ℕ) (changed : List ℕ) → p ≤ count → count ≤ length rows
+    → length changed ≡ count - p
     → drop p (take count (putMid p (count - p) rows changed)) ≡ changed
 rows-changed rows count p changed h m l =
     ap (drop p)
@@ -54,14 +56,18 @@ rows-changed rows count p changed h m l =
     ∙ drop-at (take p rows) changed p (length-take-le p rows (le-trans h m))
 
 -- with the row's highest bit cleared from the rows after it
-pub row-next : (rows : List ℕ) (count place : ℕ) (changed : List ℕ) → place < count → count ≤ length rows → getD rows place 0 ≢ 0
+pub row-next : (rows : List ℕ) (count place : ℕ) (changed : List ℕ) → place < count → count ≤ length rows
+    → getD rows place 0 ≢ 0
     → changed ≡ map (cleared (getD rows place 0)) (midOf (place + 1) (count - (place + 1)) rows)
-    → from (take count (putMid (place + 1) (count - (place + 1)) rows changed)) (place + 1) ≡ from (take count rows) place
+    → from (take count (putMid (place + 1) (count - (place + 1)) rows changed)) (place + 1)
+    ≡ from (take count rows) place
 row-next rows count place changed h m nz e =
     ap (λ (l : List ℕ). firstDependentAfter [] l (place + 1))
     (rows-changed rows count (place + 1) changed (omega arith) m
-    (ap length e ∙ length-map (midOf (place + 1) (count - (place + 1)) rows) (cleared (getD rows place 0)) ∙ mid-len (place + 1) count rows m)
-    ∙ e ∙ ap₂ (λ (b : ℕ) (l : List ℕ). map (cleared b) l) (sym same) (part-of-rows rows count (place + 1) (omega arith)))
+    (ap length e ∙ length-map (midOf (place + 1) (count - (place + 1)) rows) (cleared (getD rows place 0))
+    ∙ mid-len (place + 1) count rows m)
+    ∙ e ∙ ap₂ (λ (b : ℕ) (l : List ℕ). map (cleared b) l) (sym same)
+    (part-of-rows rows count (place + 1) (omega arith)))
     ∙ row-taken (take count rows) place (omega (arith, length-take-le count rows m)) (λ z. nz (sym same ∙ z))
   where
     same : getD (take count rows) place 0 ≡ getD rows place 0

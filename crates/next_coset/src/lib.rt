@@ -41,7 +41,9 @@ pub fn step_elements(basis: &[u64], step: usize) -> [u64; 3]
 // The image of each number under the maps, into the front of a list.
 pub fn fill_images(elements: &[u64], xs: &[u64], images: &mut [u64])
     requires { ⌜ length (now xs) ≤ length (now images) ⌝ }
-    ensures { λ _. ⌜ now (images .exit) ≡ map (composedMaps (now (elements .entry))) (now (xs .entry)) ++ drop (length (now (xs .entry))) (now (images .entry)) ⌝ }
+    ensures { λ _.
+        let front = map (composedMaps (now (elements .entry))) (now (xs .entry)) in
+        ⌜ now (images .exit) ≡ front ++ drop (length (now (xs .entry))) (now (images .entry)) ⌝ }
 {
     let mut i: usize = 0;
     while i < xs.len() {

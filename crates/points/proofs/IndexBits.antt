@@ -1,4 +1,5 @@
--- A point from the bits of its index, one after the other: an element whose bit is set joins the offset. Assumes nothing.
+-- A point from the bits of its index, one after the other: an element whose bit is set joins the offset. Assumes
+-- nothing.
 use mathlib.Core.Path.{_≡_, refl, sym, ap, _∙_}
 use mathlib.Core.Logic.{_≢_}
 use mathlib.Core.List.{List, _∷_}
@@ -16,9 +17,11 @@ point-cons : (p b : ℕ) (basis : List ℕ) (j : ℕ) → bitXor (j % 2 * b) (po
 unfolding point
 point-cons p b basis j = refl
 
-from-here : (p : ℕ) (basis : List ℕ) (t j : ℕ) → t < length basis → point p (getD basis t 0 ∷ drop (t + 1) basis) j ≡ point p (drop t basis) j
+from-here : (p : ℕ) (basis : List ℕ) (t j : ℕ) → t < length basis
+    → point p (getD basis t 0 ∷ drop (t + 1) basis) j ≡ point p (drop t basis) j
 from-here p basis t j h =
-    ap (λ (l : List ℕ). point p l j) (ap (λ (n : ℕ). getD basis t 0 ∷ drop n basis) (add-one t) ∙ sym (drop-cons basis t 0 h))
+    ap (λ (l : List ℕ). point p l j)
+    (ap (λ (n : ℕ). getD basis t 0 ∷ drop n basis) (add-one t) ∙ sym (drop-cons basis t 0 h))
 
 pub bit-set : (p : ℕ) (basis : List ℕ) (t j : ℕ) → t < length basis → j % 2 ≡ 1
     → point (bitXor p (getD basis t 0)) (drop (t + 1) basis) (j / 2) ≡ point p (drop t basis) j

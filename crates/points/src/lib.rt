@@ -26,7 +26,8 @@ pub fn point(offset: Element, basis: &[u64], j: usize) -> Element
     point
 }
 
-// The sums of the first one, two, .. elements of a basis of at most 20, and zeros: `stepped` goes from point to point by them.
+// The sums of the first one, two, .. elements of a basis of at most 20, and zeros: `stepped` goes from point to point
+// by them.
 pub fn prefix_sums(basis: &[u64]) -> [u64; 20]
     ensures { λ r. ⌜ r ≡ padded gf64 20 (prefixSums 0 (take 20 (now (basis .entry)))) ⌝ }
 {
@@ -42,7 +43,8 @@ pub fn prefix_sums(basis: &[u64]) -> [u64; 20]
     sums
 }
 
-// From point j of a coset to point j + 1, where next is j + 1 and a point's index, and sums are the basis's prefix sums.
+// From point j of a coset to point j + 1, where next is j + 1 and a point's index, and sums are the basis's prefix
+// sums.
 pub fn stepped(sums: &[u64], point: Element, next: usize) -> Element
     ensures { λ r. ⌜ r .0 ≡ sum (point .0) (getD (now (sums .entry)) (trailingZeros 64 next) 0) ⌝ }
 {

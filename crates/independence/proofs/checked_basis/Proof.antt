@@ -16,7 +16,8 @@ enum-told : tie.Need-enum-told
 enum-told c = search needs
 
 returns : tie.Need-returns
-returns c = ap outcomeOfBasis (sym (c .before .dependent .given .1) ∙ c .before .before .before .first-dependent .ensures)
+returns c = ap outcomeOfBasis
+    (sym (c .before .dependent .given .1) ∙ c .before .before .before .first-dependent .ensures)
 
 returns-2 : tie.Need-returns-2
 returns-2 c =

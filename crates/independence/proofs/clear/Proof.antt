@@ -1,4 +1,5 @@
--- `independence::clear` meets its contract. The loop's invariant: i rows are cleared, the others as they were. Assumes nothing.
+-- `independence::clear` meets its contract. The loop's invariant: i rows are cleared, the others as they were.
+-- Assumes nothing.
 use mathlib.Core.Path.{_≡_, refl, sym, ap, _∙_}
 use mathlib.Core.List.{List, map}
 use Prim.Native.Nat.{ℕ, _-_, _≤_, _<_}
@@ -19,8 +20,12 @@ abbrev μ-loop : tie.MeasureT-loop
 μ-loop rows₀ row i₀ rows i = length rows₀ - i
 
 loop-holds : tie.Need-loop-holds Inv-loop μ-loop
-loop-holds c =
-    (search needs, filled-start (map (cleared (c .before .args .row)) (c .before .args .rows .now)) (c .before .args .rows .now), refl)
+loop-holds c = (
+  search needs,
+  filled-start (map (cleared (c .before .args .row)) (c .before .args .rows .now))
+      (c .before .args .rows .now),
+  refl,
+)
 
 mul-cleared : tie.Need-mul-cleared Inv-loop μ-loop
 mul-cleared c = search needs
@@ -52,7 +57,9 @@ loop-again c =
       search needs,
       ap (λ (held : List ℕ). set held (l .i) (c .cleared .result)) (l .inv .1)
           ∙ filled-next (map (cleared row) rows) rows (l .i) (c .cleared .result) inside (length-map rows (cleared row))
-          (c .cleared .ensures ∙ ap (cleared row) (ap (λ (held : List ℕ). getD held (l .i) 0) (l .inv .1) ∙ filled-rest (map (cleared row) rows) rows (l .i) (l .i) (le-refl (l .i)) (length-map rows (cleared row)))
+          (c .cleared .ensures ∙ ap (cleared row)
+          (ap (λ (held : List ℕ). getD held (l .i) 0) (l .inv .1)
+          ∙ filled-rest (map (cleared row) rows) rows (l .i) (l .i) (le-refl (l .i)) (length-map rows (cleared row)))
           ∙ sym (getD-map (cleared row) rows (l .i) inside)),
       length-set (l .rows) (l .i) (c .cleared .result) ∙ l .inv .2,
     )
@@ -65,7 +72,8 @@ returns c =
     let rows = c .before .before .before .args .rows .now in
     let row = c .before .before .before .args .row in
     let l = c .before .loop in
-    l .inv .1 ∙ filled-all (map (cleared row) rows) rows (l .i) (omega (arith, l .inv .2)) (length-map rows (cleared row))
+    l .inv .1 ∙ filled-all (map (cleared row) rows) rows (l .i) (omega (arith, l .inv .2))
+    (length-map rows (cleared row))
 
 pub clear-spec : {M : Type 1} → statement M
 clear-spec =

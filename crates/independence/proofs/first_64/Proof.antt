@@ -1,4 +1,5 @@
--- `independence::first_64` meets its contract. The loop's invariant: i elements are copied, zeros follow. Assumes nothing.
+-- `independence::first_64` meets its contract. The loop's invariant: i elements are copied, zeros follow. Assumes
+-- nothing.
 use mathlib.Core.Path.{_≡_, sym, ap, _∙_}
 use mathlib.Core.List.{List}
 use Prim.Native.Nat.{ℕ, _-_, _≤_, min}
@@ -23,8 +24,12 @@ lesser-requires : tie.Need-lesser-requires Inv-loop μ-loop
 lesser-requires c κs = search needs
 
 loop-holds : tie.Need-loop-holds Inv-loop μ-loop
-loop-holds c =
-    (search needs, c .lesser .ensures, filled-start (padded gf64 64 (take 64 (c .before .before .args .basis .now))) (replicate 64 0))
+loop-holds c = (
+  search needs,
+  c .lesser .ensures,
+  filled-start (padded gf64 64 (take 64 (c .before .before .args .basis .now)))
+      (replicate 64 0),
+)
 
 mul-rows : tie.Need-mul-rows Inv-loop μ-loop
 mul-rows c = search needs
@@ -51,7 +56,8 @@ loop-again c =
       search needs,
       l .inv .1,
       ap (λ (held : List ℕ). set held (l .i) (getD basis (l .i) 0)) (l .inv .2)
-          ∙ padded-next 64 (take 64 basis) (l .i) (getD basis (l .i) 0) (omega (arith, length-take 64 basis, l .inv .1)) (omega (arith, length-take 64 basis))
+          ∙ padded-next 64 (take 64 basis) (l .i) (getD basis (l .i) 0)
+          (omega (arith, length-take 64 basis, l .inv .1)) (omega (arith, length-take 64 basis))
           (sym (getD-take 64 basis (l .i) 0 (omega arith))),
     )
 
@@ -60,7 +66,8 @@ returns c =
     let basis = c .before .before .before .before .args .basis .now in
     let l = c .before .loop in
     l .inv .2
-    ∙ filled-padded 64 (take 64 basis) (l .i) (omega (arith, length-take 64 basis, l .inv .1)) (omega (arith, length-take 64 basis))
+    ∙ filled-padded 64 (take 64 basis) (l .i) (omega (arith, length-take 64 basis, l .inv .1))
+    (omega (arith, length-take 64 basis))
 
 pub first-64-spec : {M : Type 1} → statement M
 first-64-spec =

@@ -1,5 +1,5 @@
--- `independence::first_among_64` meets its contract. The loop's invariant: the definition from place on, over what is left of the rows, is the
--- definition over the first 64 elements. Assumes nothing.
+-- `independence::first_among_64` meets its contract. The loop's invariant: the definition from place on, over what is
+-- left of the rows, is the definition over the first 64 elements. Assumes nothing.
 use mathlib.Core.Path.{_≡_, sym, ap, _∙_}
 use mathlib.Core.List.{List}
 use Prim.Native.Nat.{ℕ, _+_, _-_, _≤_, min}
@@ -19,12 +19,15 @@ use Rattle.independence.proofs.first_among_64.Statement.{statement}
 use Rattle.independence.proofs.first_among_64.Tie as tie
 
 -- the first `count` rows are the first 64 elements
-take-rows : (basis rows : List ℕ) (count : ℕ) → count ≡ min (length basis) 64 → rows ≡ padded gf64 64 (take 64 basis) → take count rows ≡ take 64 basis
-take-rows basis rows count many copied = padded-taken 64 count (take 64 basis) rows copied (omega (arith, length-take 64 basis))
+take-rows : (basis rows : List ℕ) (count : ℕ) → count ≡ min (length basis) 64 → rows ≡ padded gf64 64 (take 64 basis)
+    → take count rows ≡ take 64 basis
+take-rows basis rows count many copied = padded-taken 64 count (take 64 basis) rows copied
+    (omega (arith, length-take 64 basis))
 
 abbrev Inv-loop : tie.InvT-loop
 Inv-loop basis count rows₀ place₀ rows place =
-    (place ≤ count) × (count ≡ min (length basis) 64) × (length rows ≡ 64) × (from (take count rows) place ≡ firstDependent (take 64 basis))
+    (place ≤ count) × (count ≡ min (length basis) 64) × (length rows ≡ 64)
+    × (from (take count rows) place ≡ firstDependent (take 64 basis))
 
 abbrev μ-loop : tie.MeasureT-loop
 μ-loop basis count rows₀ place₀ rows place = count - place
@@ -42,7 +45,8 @@ loop-holds c =
       search needs,
       c .before .lesser .ensures,
       ap length (c .first-64 .ensures) ∙ length-padded gf64 64 (take 64 basis) (omega (arith, length-take 64 basis)),
-      ap firstDependent (take-rows basis (c .first-64 .result) (c .before .lesser .result) (c .before .lesser .ensures) (c .first-64 .ensures)),
+      ap firstDependent (take-rows basis (c .first-64 .result) (c .before .lesser .result)
+          (c .before .lesser .ensures) (c .first-64 .ensures)),
     )
 
 mul-row : tie.Need-mul-row Inv-loop μ-loop
@@ -89,16 +93,20 @@ loop-again c =
       search needs,
       l .inv .1,
       same-len-mid (l .place + 1) (count - (l .place + 1)) (l .rows) changed
-          (ap length (c .before .clear .ensures) ∙ length-map (midOf (l .place + 1) (count - (l .place + 1)) (l .rows)) (cleared (getD (l .rows) (l .place) 0)))
+          (ap length (c .before .clear .ensures)
+          ∙ length-map (midOf (l .place + 1) (count - (l .place + 1)) (l .rows))
+          (cleared (getD (l .rows) (l .place) 0)))
           ∙ l .inv .2,
-      row-next (l .rows) count (l .place) changed (omega arith) (omega arith) (c .before .before .before .if1 .left) (c .before .clear .ensures) ∙ l .inv .3,
+      row-next (l .rows) count (l .place) changed (omega arith) (omega arith) (c .before .before .before .if1 .left)
+          (c .before .clear .ensures) ∙ l .inv .3,
     )
 
 returns-2 : tie.Need-returns-2 Inv-loop μ-loop
 returns-2 c =
     let l = c .before .loop in
     let count = c .before .before .before .lesser .result in
-    sym (rows-end (take count (l .rows)) (l .place) (omega (arith, length-take-le count (l .rows) (omega arith)))) ∙ l .inv .3
+    sym (rows-end (take count (l .rows)) (l .place) (omega (arith, length-take-le count (l .rows) (omega arith))))
+    ∙ l .inv .3
 
 pub first-among-64-spec : {M : Type 1} → statement M
 first-among-64-spec =

@@ -1,4 +1,5 @@
--- `next_coset::composed_maps` meets its contract. The loop's invariant: y through the maps that are left is x through all. Assumes nothing.
+-- `next_coset::composed_maps` meets its contract. The loop's invariant: y through the maps that are left is x through
+-- all. Assumes nothing.
 use mathlib.Core.Path.{_≡_, refl, sym, ap, _∙_}
 use Prim.Native.Nat.{_+_, _-_, _≤_}
 use lib.ListN.{length, drop}
@@ -11,7 +12,8 @@ use Rattle.next_coset.proofs.composed_maps.Statement.{statement}
 use Rattle.next_coset.proofs.composed_maps.Tie as tie
 
 abbrev Inv-loop : tie.InvT-loop
-Inv-loop elements y₀ i₀ y i = (i ≤ length elements) × (composedMaps (drop i elements) (y .0) ≡ composedMaps elements (y₀ .0))
+Inv-loop elements y₀ i₀ y i = (i ≤ length elements)
+    × (composedMaps (drop i elements) (y .0) ≡ composedMaps elements (y₀ .0))
 
 abbrev μ-loop : tie.MeasureT-loop
 μ-loop elements y₀ i₀ y i = length elements - i
@@ -40,8 +42,12 @@ loop-less c = search needs
 loop-again : tie.Need-loop-again Inv-loop μ-loop
 loop-again c =
     let elements = c .before .before .before .before .before .before .args .elements .now in
-    let l = c .before .before .before .before .loop in
-    (search needs, ap (composedMaps (drop (l .i + 1) elements)) (c .product .ensures .0 ∙ ap (product (l .y .0)) (c .before .sum .ensures)) ∙ through-next elements (l .i) (l .y .0) (omega arith) ∙ l .inv .1)
+    let l = c .before .before .before .before .loop in (
+      search needs,
+      ap (composedMaps (drop (l .i + 1) elements))
+          (c .product .ensures .0 ∙ ap (product (l .y .0)) (c .before .sum .ensures))
+          ∙ through-next elements (l .i) (l .y .0) (omega arith) ∙ l .inv .1,
+    )
 
 returns : tie.Need-returns Inv-loop μ-loop
 returns c =

@@ -1,4 +1,5 @@
--- `next_coset::fill_images` meets its contract. The loop's invariant: i images are filled in, the others as they were. Assumes nothing.
+-- `next_coset::fill_images` meets its contract. The loop's invariant: i images are filled in, the others as they
+-- were. Assumes nothing.
 use mathlib.Core.Path.{_≡_, refl, sym, ap, _∙_}
 use mathlib.Core.List.{List, map, _++_}
 use Prim.Native.Nat.{ℕ, _-_, _≤_}
@@ -13,7 +14,8 @@ use Rattle.next_coset.proofs.fill_images.Tie as tie
 abbrev Inv-loop : tie.InvT-loop
 Inv-loop elements xs images₀ i₀ images i =
     (i ≤ length xs) × (length images ≡ length images₀)
-    × (images ≡ filled (map (composedMaps elements) xs ++ drop (length (map (composedMaps elements) xs)) images₀) images₀ i)
+    × (images ≡ filled (map (composedMaps elements) xs ++ drop
+    (length (map (composedMaps elements) xs)) images₀) images₀ i)
 
 abbrev μ-loop : tie.MeasureT-loop
 μ-loop elements xs images₀ i₀ images i = length xs - i
@@ -57,7 +59,8 @@ loop-again c =
       length-set (l .images) (l .i) image ∙ l .inv .1,
       ap (λ (held : List ℕ). set held (l .i) image) (l .inv .2)
           ∙ front-next front (a .images .now) (l .i) image (omega (arith, count)) (omega (arith, count, start .pre))
-          (c .composed-maps .ensures ∙ sym (getD-map (composedMaps (a .elements .now)) (a .xs .now) (l .i) (omega arith))),
+          (c .composed-maps .ensures
+          ∙ sym (getD-map (composedMaps (a .elements .now)) (a .xs .now) (l .i) (omega arith))),
     )
 
 same-length : tie.Need-same-length Inv-loop μ-loop

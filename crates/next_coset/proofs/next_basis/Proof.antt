@@ -19,7 +19,8 @@ array-share-prefix-elements c = search needs
 slice-aggregate-fill-images : tie.Need-slice-aggregate-fill-images
 slice-aggregate-fill-images c =
     let three : length (c .before .step-elements .result) ≡ 3 = search needs in
-    sym (length-take-le (c .before .before .before .args .step) (c .before .step-elements .result) (omega (arith, three, c .before .before .before .pre .0)))
+    sym (length-take-le (c .before .before .before .args .step) (c .before .step-elements .result)
+    (omega (arith, three, c .before .before .before .pre .0)))
 
 mul-fill-images : tie.Need-mul-fill-images
 mul-fill-images c = search needs
@@ -40,14 +41,22 @@ fill-images-requires : tie.Need-fill-images-requires
 fill-images-requires c κs =
     let start = c .before .before .before .before .before in
     let basis = start .args .basis .now in
-    omega (arith, start .pre .2, length-take-le (length basis - start .args .step) (drop (start .args .step) basis) (omega (arith, length-drop (start .args .step) basis)))
+    omega (
+      arith,
+      start .pre .2,
+      length-take-le (length basis - start .args .step) (drop (start .args .step) basis)
+          (omega (arith, length-drop (start .args .step) basis)),
+    )
 
 returns : tie.Need-returns
 returns c =
     let start = c .before .before .before .before .before .before .before in
     let basis = start .args .basis .now in
-    next-padded 20 (start .args .step) basis (c .before .before .before .before .before .step-elements .result) (c .before .fill-images .last .1 .1 .0)
-    (all-elements basis (λ i. omega (arith, c .before .before .before .before .before .before .shared-slice-known .given i))) (start .pre .1) (c .before .before .before .before .before .step-elements .ensures) (c .before .fill-images .ensures)
+    next-padded 20 (start .args .step) basis (c .before .before .before .before .before .step-elements .result)
+    (c .before .fill-images .last .1 .1 .0)
+    (all-elements basis (λ i. omega
+    (arith, c .before .before .before .before .before .before .shared-slice-known .given i))) (start .pre .1)
+    (c .before .before .before .before .before .step-elements .ensures) (c .before .fill-images .ensures)
 
 pub next-basis-spec : {M : Type 1} → statement M
 next-basis-spec =

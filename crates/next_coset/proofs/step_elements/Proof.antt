@@ -1,4 +1,5 @@
--- `next_coset::step_elements` meets its contract. The loop's invariant: t elements stand in the array, the others are zero. Assumes nothing.
+-- `next_coset::step_elements` meets its contract. The loop's invariant: t elements stand in the array, the others are
+-- zero. Assumes nothing.
 use mathlib.Core.Path.{_≡_, refl, sym, ap, _∙_}
 use mathlib.Core.List.{List}
 use Prim.Native.Nat.{ℕ, _-_, _≤_}
@@ -15,7 +16,8 @@ use Rattle.next_coset.proofs.step_elements.Statement.{statement}
 use Rattle.next_coset.proofs.step_elements.Tie as tie
 
 abbrev Inv-loop : tie.InvT-loop
-Inv-loop basis step elements₀ t₀ elements t = (t ≤ step) × (elements ≡ filled (padded gf64 3 (stepElements step basis)) (replicate 3 0) t) × (length elements ≡ 3)
+Inv-loop basis step elements₀ t₀ elements t = (t ≤ step)
+    × (elements ≡ filled (padded gf64 3 (stepElements step basis)) (replicate 3 0) t) × (length elements ≡ 3)
 
 abbrev μ-loop : tie.MeasureT-loop
 μ-loop basis step elements₀ t₀ elements t = step - t
@@ -35,7 +37,9 @@ array-share-prefix-elements : tie.Need-array-share-prefix-elements Inv-loop μ-l
 array-share-prefix-elements c = omega (arith, c .before .before .loop .inv .2)
 
 slice-aggregate-composed-maps : tie.Need-slice-aggregate-composed-maps Inv-loop μ-loop
-slice-aggregate-composed-maps c = sym (length-take-le (c .before .before .before .loop .t) (c .before .before .before .loop .elements) (omega (arith, c .before .before .before .loop .inv .2)))
+slice-aggregate-composed-maps c = sym
+    (length-take-le (c .before .before .before .loop .t) (c .before .before .before .loop .elements)
+    (omega (arith, c .before .before .before .loop .inv .2)))
 
 composed-maps-requires : tie.Need-composed-maps-requires Inv-loop μ-loop
 composed-maps-requires c κs = search needs
@@ -62,10 +66,13 @@ loop-again c =
     let count = length-elements step basis (start .pre .1) in (
       search needs,
       ap (λ (held : List ℕ). set held (l .t) element) (l .inv .1)
-          ∙ padded-next 3 (stepElements step basis) (l .t) element (omega (arith, count)) (omega (arith, count, start .pre .0))
+          ∙ padded-next 3 (stepElements step basis) (l .t) element (omega (arith, count))
+          (omega (arith, count, start .pre .0))
           (c .composed-maps .ensures
           ∙ ap (λ (held : List ℕ). composedMaps held (getD basis (l .t) 0))
-          (ap (take (l .t)) (l .inv .1) ∙ take-filled 3 (stepElements step basis) (l .t) (omega (arith, count)) (omega (arith, count, start .pre .0)))
+          (ap (take (l .t)) (l .inv .1)
+          ∙ take-filled 3 (stepElements step basis) (l .t) (omega (arith, count))
+          (omega (arith, count, start .pre .0)))
           ∙ element-at step basis (l .t) (omega arith) (start .pre .1)),
       length-set (l .elements) (l .t) element ∙ l .inv .2,
     )
@@ -77,7 +84,8 @@ returns c =
     let basis = start .args .basis .now in
     let l = c .before .loop in
     let count = length-elements step basis (start .pre .1) in
-    l .inv .1 ∙ filled-padded 3 (stepElements step basis) (l .t) (omega (arith, count)) (omega (arith, count, start .pre .0))
+    l .inv .1 ∙ filled-padded 3 (stepElements step basis) (l .t) (omega (arith, count))
+    (omega (arith, count, start .pre .0))
 
 pub step-elements-spec : {M : Type 1} → statement M
 step-elements-spec =

@@ -1,5 +1,5 @@
--- `points::point` meets its contract. The loop's invariant: the point of the bits that are left, over the elements that are left, with
--- what was summed for its offset, is the point. Assumes nothing.
+-- `points::point` meets its contract. The loop's invariant: the point of the bits that are left, over the elements
+-- that are left, with what was summed for its offset, is the point. Assumes nothing.
 use mathlib.Core.Path.{_≡_, refl, ap, _∙_}
 use mathlib.Core.Logic.{⊎-elim}
 use Prim.Native.Nat.{ℕ, _+_, _-_, _/_, _≤_}
@@ -42,8 +42,10 @@ loop-again c =
     let l = c .before .before .loop in (
       search needs,
       ⊎-elim
-          (λ k. ap (λ (p : ℕ). point p (drop (l .t + 1) basis) (l .bits / 2)) (ap (λ e. e .0) (k .3) ∙ k .2 .ensures) ∙ bit-set (l .point .0) basis (l .t) (l .bits) (omega arith) (k .0 .taken))
-          (λ k. ap (λ (p : ℕ). point p (drop (l .t + 1) basis) (l .bits / 2)) (ap (λ e. e .0) (k .1)) ∙ bit-clear (l .point .0) basis (l .t) (l .bits) (omega arith) (k .0 .left))
+          (λ k. ap (λ (p : ℕ). point p (drop (l .t + 1) basis) (l .bits / 2)) (ap (λ e. e .0) (k .3) ∙ k .2 .ensures)
+          ∙ bit-set (l .point .0) basis (l .t) (l .bits) (omega arith) (k .0 .taken))
+          (λ k. ap (λ (p : ℕ). point p (drop (l .t + 1) basis) (l .bits / 2)) (ap (λ e. e .0) (k .1))
+          ∙ bit-clear (l .point .0) basis (l .t) (l .bits) (omega arith) (k .0 .left))
           (c .if1 .came)
           ∙ l .inv .1,
     )
@@ -51,7 +53,8 @@ loop-again c =
 returns : tie.Need-returns Inv-loop μ-loop
 returns c =
     let l = c .before .loop in
-    bits-end (l .point .0) (c .before .before .before .args .basis .now) (l .t) (l .bits) (c .loop-test .left) ∙ l .inv .1
+    bits-end (l .point .0) (c .before .before .before .args .basis .now) (l .t) (l .bits) (c .loop-test .left)
+    ∙ l .inv .1
 
 pub point-spec : {M : Type 1} → statement M
 point-spec =

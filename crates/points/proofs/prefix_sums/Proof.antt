@@ -1,4 +1,5 @@
--- `points::prefix_sums` meets its contract. The loop's invariant: t sums stand in the array, the others are zero. Assumes nothing.
+-- `points::prefix_sums` meets its contract. The loop's invariant: t sums stand in the array, the others are zero.
+-- Assumes nothing.
 use mathlib.Core.Path.{_≡_, refl, sym, ap, _∙_}
 use mathlib.Core.List.{List, _∷_}
 use Prim.Native.Nat.{ℕ, _-_, _≤_, min}
@@ -17,7 +18,8 @@ use Rattle.points.proofs.prefix_sums.Tie as tie
 
 abbrev Inv-loop : tie.InvT-loop
 Inv-loop basis count sums₀ sum₀ t₀ sums sum t =
-    (t ≤ count) × (count ≡ min (length basis) 20) × (sum ≡ getD (0 ∷ prefixSums 0 (take 20 basis)) t 0) × (sums ≡ filled (padded gf64 20 (prefixSums 0 (take 20 basis))) (replicate 20 0) t)
+    (t ≤ count) × (count ≡ min (length basis) 20) × (sum ≡ getD (0 ∷ prefixSums 0 (take 20 basis)) t 0)
+    × (sums ≡ filled (padded gf64 20 (prefixSums 0 (take 20 basis))) (replicate 20 0) t)
 
 abbrev μ-loop : tie.MeasureT-loop
 μ-loop basis count sums₀ sum₀ t₀ sums sum t = count - t
@@ -26,8 +28,13 @@ lesser-requires : tie.Need-lesser-requires Inv-loop μ-loop
 lesser-requires c κs = search needs
 
 loop-holds : tie.Need-loop-holds Inv-loop μ-loop
-loop-holds c =
-    (search needs, c .lesser .ensures, refl, filled-start (padded gf64 20 (prefixSums 0 (take 20 (c .before .before .args .basis .now)))) (replicate 20 0))
+loop-holds c = (
+  search needs,
+  c .lesser .ensures,
+  refl,
+  filled-start
+      (padded gf64 20 (prefixSums 0 (take 20 (c .before .before .args .basis .now)))) (replicate 20 0),
+)
 
 mul-sum : tie.Need-mul-sum Inv-loop μ-loop
 mul-sum c = search needs
@@ -52,12 +59,14 @@ loop-again c =
     let basis = c .before .before .before .before .before .args .basis .now in
     let l = c .before .before .loop in
     let next = bitXor (l .sum) (getD basis (l .t) 0) in
-    let is-next : next ≡ getD (prefixSums 0 (take 20 basis)) (l .t) 0 = prefixSums-taken basis (l .t) (l .sum) (omega arith) (l .inv .2) in (
+    let is-next : next ≡ getD (prefixSums 0 (take 20 basis)) (l .t) 0 = prefixSums-taken basis (l .t) (l .sum)
+    (omega arith) (l .inv .2) in (
       search needs,
       l .inv .1,
       is-next ∙ ap (λ (n : ℕ). getD (0 ∷ prefixSums 0 (take 20 basis)) n 0) (sym (add-one (l .t))),
       ap (λ (held : List ℕ). set held (l .t) next) (l .inv .3)
-          ∙ padded-next 20 (prefixSums 0 (take 20 basis)) (l .t) next (omega (arith, length-prefixSums 0 (take 20 basis), length-take 20 basis, l .inv .1))
+          ∙ padded-next 20 (prefixSums 0 (take 20 basis)) (l .t) next
+          (omega (arith, length-prefixSums 0 (take 20 basis), length-take 20 basis, l .inv .1))
           (omega (arith, length-prefixSums 0 (take 20 basis), length-take 20 basis)) is-next,
     )
 
@@ -66,7 +75,8 @@ returns c =
     let basis = c .before .before .before .before .args .basis .now in
     let l = c .before .loop in
     l .inv .3
-    ∙ filled-padded 20 (prefixSums 0 (take 20 basis)) (l .t) (omega (arith, length-prefixSums 0 (take 20 basis), length-take 20 basis, l .inv .1))
+    ∙ filled-padded 20 (prefixSums 0 (take 20 basis)) (l .t)
+    (omega (arith, length-prefixSums 0 (take 20 basis), length-take 20 basis, l .inv .1))
     (omega (arith, length-prefixSums 0 (take 20 basis), length-take 20 basis))
 
 pub prefix-sums-spec : {M : Type 1} → statement M
