@@ -41,7 +41,8 @@ module _ (points cs now : List ℕ) (j : ℕ) (same : length points ≡ length c
   back : drop j now ≡ getD cs j 0 ∷ rest
   back = ap (drop j) parted ∙ drop-at (take j cs) (getD cs j 0 ∷ rest) j (length-take-le j cs (le-of-lt inside))
 
-  from-here : (x : ℕ) → x ≡ getD points j 0 → hornerStep gf64 x (getD cs j 0 ∷ rest) ≡ expanded gf64 (drop j points) (drop j cs)
+  from-here : (x : ℕ) → x ≡ getD points j 0
+      → hornerStep gf64 x (getD cs j 0 ∷ rest) ≡ expanded gf64 (drop j points) (drop j cs)
   unfolding expanded rest
   from-here x at =
       ap (λ (z : ℕ). hornerStep gf64 z (getD cs j 0 ∷ expanded gf64 (drop (suc j) points) (drop (suc j) cs))) at
@@ -54,14 +55,16 @@ module _ (points cs now : List ℕ) (j : ℕ) (same : length points ≡ length c
       (omega (arith, length-take-le j cs (le-of-lt inside)))
 
   expanded-suc : (x : ℕ) (changed : List ℕ) → x ≡ getD points j 0
-      → changed ≡ hornerStep gf64 x (midOf j (length now - j) now) → putMid j (length now - j) now changed ≡ expandedFrom points cs j
+      → changed ≡ hornerStep gf64 x (midOf j (length now - j) now)
+      → putMid j (length now - j) now changed ≡ expandedFrom points cs j
   unfolding expandedFrom
   expanded-suc x changed at e =
       put-suffix j now changed now-length
       ∙ ap₂ _++_ front (e ∙ ap (hornerStep gf64 x) (mid-suffix j now ∙ back) ∙ from-here x at)
 
 -- the point before joins
-pub expanded-next : (points cs now : List ℕ) (i x : ℕ) (changed : List ℕ) → length points ≡ length cs → 0 < i → i ≤ length cs
+pub expanded-next : (points cs now : List ℕ) (i x : ℕ) (changed : List ℕ) → length points ≡ length cs → 0 < i
+    → i ≤ length cs
     → now ≡ expandedFrom points cs i → x ≡ getD points (i - 1) 0
     → changed ≡ hornerStep gf64 x (midOf (i - 1) (length now - (i - 1)) now)
     → putMid (i - 1) (length now - (i - 1)) now changed ≡ expandedFrom points cs (i - 1)
@@ -72,13 +75,21 @@ expanded-next points cs now i x changed same pos h inv at e = by (i - 1) (omega 
     by j s at e =
         expanded-suc points cs now j same (omega arith) (inv ∙ ap (expandedFrom points cs) (sym s)) x changed at e
 
-pub expanded-end : (points cs now : List ℕ) (i : ℕ) → i ≤ 0 → now ≡ expandedFrom points cs i → now ≡ expanded gf64 points cs
+pub expanded-end : (points cs now : List ℕ) (i : ℕ) → i ≤ 0 → now ≡ expandedFrom points cs i
+    → now ≡ expanded gf64 points cs
 unfolding expandedFrom
 expanded-end points cs now zero h inv = inv
 expanded-end points cs now (suc i) h inv = absurd (omega arith)
 
-pub length-expandedFrom : (points cs : List ℕ) (i : ℕ) → length points ≡ length cs → i ≤ length cs → length (expandedFrom points cs i) ≡ length cs
+pub length-expandedFrom : (points cs : List ℕ) (i : ℕ) → length points ≡ length cs → i ≤ length cs
+    → length (expandedFrom points cs i) ≡ length cs
 unfolding expandedFrom
 length-expandedFrom points cs i same h =
     length-append (take i cs) (expanded gf64 (drop i points) (drop i cs))
-    ∙ omega (arith, length-take-le i cs h, length-expanded gf64 (drop i points) (drop i cs) (length-drop i points ∙ ap (λ (n : ℕ). n - i) same ∙ sym (length-drop i cs)), length-drop i points)
+    ∙ omega (
+      arith,
+      length-take-le i cs h,
+      length-expanded gf64 (drop i points) (drop i cs)
+          (length-drop i points ∙ ap (λ (n : ℕ). n - i) same ∙ sym (length-drop i cs)),
+      length-drop i points,
+    )

@@ -13,9 +13,11 @@ use Rattle.coset.specs.Span.{Independent}
 use Rattle.coset.proofs.Points.{length-points, points-distinct, points-elements, all-elements}
 use Rattle.reed_solomon.specs.Codes.{interpolated}
 
-pub expanded-interpolated : (offset : ℕ) (basis word : List ℕ) → IsElement offset → ((i : ℕ) → getD basis i 0 < 2 ^ 64) → ((i : ℕ) → getD word i 0 < 2 ^ 64)
+pub expanded-interpolated : (offset : ℕ) (basis word : List ℕ) → IsElement offset
+    → ((i : ℕ) → getD basis i 0 < 2 ^ 64) → ((i : ℕ) → getD word i 0 < 2 ^ 64)
     → Independent basis → length word ≡ 2 ^ length basis
-    → expanded gf64 (points offset basis) (newtonCoefficients gf64 (points offset basis) word) ≡ interpolated offset basis word
+    → expanded gf64 (points offset basis) (newtonCoefficients gf64 (points offset basis) word)
+    ≡ interpolated offset basis word
 unfolding interpolated
 expanded-interpolated offset basis word eo eb ew d h =
     newton-interpolant gf64 IsElement gf64-laws (points offset basis) word (length-points offset basis ∙ sym h)

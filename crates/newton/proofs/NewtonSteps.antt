@@ -25,12 +25,14 @@ one-more : (l : List ℕ) (j : ℕ) → j < length l → take (j + 1) l ≡ take
 one-more l j h = ap (λ (n : ℕ). take n l) (add-one j) ∙ take-suc l j 0 h
 
 -- coefficient j adds its multiple of the vanishing
-pub value-next : (points known : List ℕ) (j z v w : ℕ) → j < length points → j < length known → IsElement (getD known j 0)
+pub value-next : (points known : List ℕ) (j z v w : ℕ) → j < length points → j < length known
+    → IsElement (getD known j 0)
     → v ≡ newtonValue gf64 (take j points) (take j known) z → w ≡ vanishing gf64 (take j points) z
     → sum v (product w (getD known j 0)) ≡ newtonValue gf64 (take (j + 1) points) (take (j + 1) known) z
 value-next points known j z v w hp hk e ev ew =
     ap₂ (λ (a b : ℕ). sum a (product b c)) ev ew
-    ∙ ap (λ (s : ℕ). sum (newtonValue gf64 (take j points) (take j known) z) (product (vanishing gf64 (take j points) z) s)) (sym (single x c z))
+    ∙ ap (λ (s : ℕ). sum (newtonValue gf64 (take j points) (take j known) z)
+    (product (vanishing gf64 (take j points) z) s)) (sym (single x c z))
     ∙ sym
     (ap₂ (λ (ps cs : List ℕ). newtonValue gf64 ps cs z) (one-more points j hp) (one-more known j hk)
     ∙ newton-split gf64 IsElement gf64-laws (take j points) (take j known) (x ∷ []) (c ∷ []) z
@@ -48,7 +50,8 @@ pub vanishing-next : (points : List ℕ) (j z w : ℕ) → j < length points →
     → product w (sum z (getD points j 0)) ≡ vanishing gf64 (take (j + 1) points) z
 vanishing-next points j z w h e =
     ap (λ (s : ℕ). product s (sum z (getD points j 0))) e
-    ∙ sym (ap (λ (ps : List ℕ). vanishing gf64 ps z) (one-more points j h) ∙ vanishing-last gf64 IsElement gf64-laws (take j points) (getD points j 0) z)
+    ∙ sym (ap (λ (ps : List ℕ). vanishing gf64 ps z) (one-more points j h)
+    ∙ vanishing-last gf64 IsElement gf64-laws (take j points) (getD points j 0) z)
 
 -- all known coefficients are used
 pub coefficient-end : (points known : List ℕ) (j z y v w : ℕ) → j ≤ length known → length known ≤ j
@@ -57,7 +60,8 @@ pub coefficient-end : (points known : List ℕ) (j z y v w : ℕ) → j ≤ leng
 unfolding newtonCoefficient
 coefficient-end points known j z y v w l m ev ew =
     ap₂ (λ (a b : ℕ). product (sum y a) (inverse b))
-    (ev ∙ ap₂ (λ (n : ℕ) (cs : List ℕ). newtonValue gf64 (take n points) cs z) all (ap (λ (n : ℕ). take n known) all ∙ take-length known))
+    (ev ∙ ap₂ (λ (n : ℕ) (cs : List ℕ). newtonValue gf64 (take n points) cs z) all
+    (ap (λ (n : ℕ). take n known) all ∙ take-length known))
     (ew ∙ ap (λ (n : ℕ). vanishing gf64 (take n points) z) all)
   where
     all : j ≡ length known
@@ -65,16 +69,19 @@ coefficient-end points known j z y v w l m ev ew =
 
 -- ---- the list of coefficients
 
-take-filled : (target held : List ℕ) (i : ℕ) → i ≤ length held → length target ≡ length held → take i (filled target held i) ≡ take i target
+take-filled : (target held : List ℕ) (i : ℕ) → i ≤ length held → length target ≡ length held
+    → take i (filled target held i) ≡ take i target
 unfolding filled
 take-filled [] [] zero h e = refl
 take-filled [] [] (suc i) h e = refl
 take-filled [] (b ∷ held) i h e = absurd (omega arith)
 take-filled (a ∷ target) [] i h e = absurd (omega arith)
 take-filled (a ∷ target) (b ∷ held) zero h e = refl
-take-filled (a ∷ target) (b ∷ held) (suc i) h e = ap {B = List ℕ} (λ l. a ∷ l) (take-filled target held i (omega arith) (omega arith))
+take-filled (a ∷ target) (b ∷ held) (suc i) h e = ap {B = List ℕ} (λ l. a ∷ l)
+    (take-filled target held i (omega arith) (omega arith))
 
-module _ (points word held now : List ℕ) (i z y : ℕ) (same : length points ≡ length word) (as-many : length held ≡ length points)
+module _ (points word held now : List ℕ) (i z y : ℕ) (same : length points ≡ length word)
+    (as-many : length held ≡ length points)
     (inside : i < length held) (at : z ≡ getD points i 0) (value : y ≡ getD word i 0)
     (inv : now ≡ filled (newtonCoefficients gf64 points word) held i) where
   target-length : length (newtonCoefficients gf64 points word) ≡ length held
@@ -86,7 +93,8 @@ module _ (points word held now : List ℕ) (i z y : ℕ) (same : length points �
   known-length : length (take i now) ≡ i
   known-length = ap length known ∙ length-take-le i (newtonCoefficients gf64 points word) (omega (arith, target-length))
 
-  pub coefficient-next : newtonCoefficient gf64 (take (length (take i now)) points) (take i now) z y ≡ getD (newtonCoefficients gf64 points word) i 0
+  pub coefficient-next : newtonCoefficient gf64 (take (length (take i now)) points) (take i now) z y
+      ≡ getD (newtonCoefficients gf64 points word) i 0
   coefficient-next =
       ap₂ (λ (n : ℕ) (cs : List ℕ). newtonCoefficient gf64 (take n points) cs z y) known-length known
       ∙ ap₂ (newtonCoefficient gf64 (take i points) (take i (newtonCoefficients gf64 points word))) at value

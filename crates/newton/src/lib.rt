@@ -11,7 +11,8 @@ ghost use Rattle.reed_solomon.specs.Codes.{interpolated};
 
 // Interpolation after the checks: the values at the points become the coefficients.
 pub fn interpolate_in_place(offset: Element, basis: &[u64], values: &mut [u64])
-    requires { ⌜ (length (now basis) ≤ 12) × Independent (now basis) × (length (now values) ≡ 2 ^ length (now basis)) ⌝ }
+    requires { ⌜ (length (now basis) ≤ 12) × Independent (now basis)
+        × (length (now values) ≡ 2 ^ length (now basis)) ⌝ }
     ensures { λ _. ⌜ now (values .exit) ≡ interpolated (offset .0) (now (basis .entry)) (now (values .entry)) ⌝ }
 {
     fill_newton(offset, basis, values);
@@ -21,7 +22,9 @@ pub fn interpolate_in_place(offset: Element, basis: &[u64], values: &mut [u64])
 // Newton's coefficients in the place of the values, each from those before it.
 fn fill_newton(offset: Element, basis: &[u64], coefficients: &mut [u64])
     requires { ⌜ (length (now basis) ≤ 12) × (length (now coefficients) ≡ 2 ^ length (now basis)) ⌝ }
-    ensures { λ _. ⌜ now (coefficients .exit) ≡ newtonCoefficients gf64 (points (offset .0) (now (basis .entry))) (now (coefficients .entry)) ⌝ }
+    ensures { λ _.
+        let all = points (offset .0) (now (basis .entry)) in
+        ⌜ now (coefficients .exit) ≡ newtonCoefficients gf64 all (now (coefficients .entry)) ⌝ }
 {
     let mut i: usize = 0;
     while i < coefficients.len() {
@@ -41,7 +44,9 @@ fn newton_coefficient(
     y: Element,
 ) -> Element
     requires { ⌜ (length (now basis) ≤ 12) × (length (now known) ≤ 2 ^ length (now basis)) ⌝ }
-    ensures { λ r. ⌜ r .0 ≡ newtonCoefficient gf64 (take (length (now (known .entry))) (points (offset .0) (now (basis .entry)))) (now (known .entry)) (z .0) (y .0) ⌝ }
+    ensures { λ r.
+        let passed = take (length (now (known .entry))) (points (offset .0) (now (basis .entry))) in
+        ⌜ r .0 ≡ newtonCoefficient gf64 passed (now (known .entry)) (z .0) (y .0) ⌝ }
 {
     let sums = points::prefix_sums(basis);
     let mut value = Element::ZERO;
@@ -60,7 +65,9 @@ fn newton_coefficient(
 // From Newton's form to the polynomial, from the last point to the first.
 fn expand(offset: Element, basis: &[u64], coefficients: &mut [u64])
     requires { ⌜ length (now coefficients) ≡ 2 ^ length (now basis) ⌝ }
-    ensures { λ _. ⌜ now (coefficients .exit) ≡ expanded gf64 (points (offset .0) (now (basis .entry))) (now (coefficients .entry)) ⌝ }
+    ensures { λ _.
+        let all = points (offset .0) (now (basis .entry)) in
+        ⌜ now (coefficients .exit) ≡ expanded gf64 all (now (coefficients .entry)) ⌝ }
 {
     let mut i = coefficients.len();
     while i > 0 {

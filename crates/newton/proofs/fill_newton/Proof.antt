@@ -1,4 +1,5 @@
--- `newton::fill_newton` meets its contract. The loop's invariant: i coefficients are filled in, the others are values still. Assumes nothing.
+-- `newton::fill_newton` meets its contract. The loop's invariant: i coefficients are filled in, the others are values
+-- still. Assumes nothing.
 use Rattle.newton.proofs.NewtonSteps.{coefficient-next}
 use Rattle.coset.proofs.Points.{length-points, getD-points}
 use Rattle.coset.specs.Coset.{point, points}
@@ -19,7 +20,8 @@ use Rattle.newton.proofs.fill_newton.Tie as tie
 
 abbrev Inv-loop : tie.InvT-loop
 Inv-loop offset basis coefficients₀ i₀ coefficients i =
-    (i ≤ length coefficients₀) × (coefficients ≡ filled (newtonCoefficients gf64 (points (offset .0) basis) coefficients₀) coefficients₀ i)
+    (i ≤ length coefficients₀)
+    × (coefficients ≡ filled (newtonCoefficients gf64 (points (offset .0) basis) coefficients₀) coefficients₀ i)
     × (length coefficients ≡ length coefficients₀)
 
 abbrev μ-loop : tie.MeasureT-loop
@@ -27,8 +29,13 @@ abbrev μ-loop : tie.MeasureT-loop
 
 loop-holds : tie.Need-loop-holds Inv-loop μ-loop
 loop-holds c =
-    let a = c .before .before .args in
-    (search needs, filled-start (newtonCoefficients gf64 (points (a .offset .0) (a .basis .now)) (a .coefficients .now)) (a .coefficients .now), refl)
+    let a = c .before .before .args in (
+      search needs,
+      filled-start
+          (newtonCoefficients gf64 (points (a .offset .0) (a .basis .now)) (a .coefficients .now))
+          (a .coefficients .now),
+      refl,
+    )
 
 point-requires : tie.Need-point-requires Inv-loop μ-loop
 point-requires c κs = search needs
@@ -78,12 +85,16 @@ loop-again c =
     let counted = length-newtonCoefficients gf64 all values as-many ∙ as-many in (
       search needs,
       ap (λ (now : List ℕ). set now (l .i) (c .newton-coefficient .result .0)) (l .inv .1)
-          ∙ filled-next (newtonCoefficients gf64 all values) values (l .i) (c .newton-coefficient .result .0) inside counted
+          ∙ filled-next (newtonCoefficients gf64 all values) values (l .i)
+          (c .newton-coefficient .result .0) inside counted
           (c .newton-coefficient .ensures
-          ∙ coefficient-next all values values (l .coefficients) (l .i) (c .before .before .before .point .result .0) (getD (l .coefficients) (l .i) 0)
+          ∙ coefficient-next all values values (l .coefficients) (l .i) (c .before .before .before .point .result .0)
+          (getD (l .coefficients) (l .i) 0)
           as-many (sym as-many) inside
-          (c .before .before .before .point .ensures ∙ sym (getD-points (a .offset .0) (a .basis .now) (l .i) (omega (arith, start .pre .1))))
-          (ap (λ (now : List ℕ). getD now (l .i) 0) (l .inv .1) ∙ filled-rest (newtonCoefficients gf64 all values) values (l .i) (l .i) (le-of-eq refl) counted)
+          (c .before .before .before .point .ensures
+          ∙ sym (getD-points (a .offset .0) (a .basis .now) (l .i) (omega (arith, start .pre .1))))
+          (ap (λ (now : List ℕ). getD now (l .i) 0) (l .inv .1)
+          ∙ filled-rest (newtonCoefficients gf64 all values) values (l .i) (l .i) (le-of-eq refl) counted)
           (l .inv .1)),
       length-set (l .coefficients) (l .i) (c .newton-coefficient .result .0) ∙ l .inv .2,
     )
@@ -97,9 +108,11 @@ returns c =
     let a = start .args in
     let l = c .before .loop in
     let all = points (a .offset .0) (a .basis .now) in
-    let as-many : length all ≡ length (a .coefficients .now) = length-points (a .offset .0) (a .basis .now) ∙ sym (start .pre .1) in
+    let as-many : length all ≡ length (a .coefficients .now) = length-points (a .offset .0) (a .basis .now)
+    ∙ sym (start .pre .1) in
     l .inv .1
-    ∙ filled-all (newtonCoefficients gf64 all (a .coefficients .now)) (a .coefficients .now) (l .i) (omega (arith, l .inv .2))
+    ∙ filled-all (newtonCoefficients gf64 all (a .coefficients .now)) (a .coefficients .now) (l .i)
+    (omega (arith, l .inv .2))
     (length-newtonCoefficients gf64 all (a .coefficients .now) as-many ∙ as-many)
 
 pub fill-newton-spec : {M : Type 1} → statement M

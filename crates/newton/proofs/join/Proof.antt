@@ -1,5 +1,5 @@
--- `newton::join` meets its contract. The loop's invariant: the entries before the last looked at are those of the product, the
--- others as they were. Assumes nothing.
+-- `newton::join` meets its contract. The loop's invariant: the entries before the last looked at are those of the
+-- product, the others as they were. Assumes nothing.
 use mathlib.Core.Path.{_≡_, refl, ap, _∙_}
 use Prim.Native.Nat.{_-_, _≤_}
 use lib.ListN.{length, getD, set, length-set}
@@ -15,14 +15,19 @@ use Rattle.newton.proofs.join.Tie as tie
 
 abbrev Inv-loop : tie.InvT-loop
 Inv-loop coefficients₀ x next₀ coefficients next =
-    (1 ≤ next) × (coefficients ≡ filled (hornerStep gf64 (x .0) coefficients₀) coefficients₀ (next - 1)) × (length coefficients ≡ length coefficients₀)
+    (1 ≤ next) × (coefficients ≡ filled (hornerStep gf64 (x .0) coefficients₀) coefficients₀ (next - 1))
+    × (length coefficients ≡ length coefficients₀)
 
 abbrev μ-loop : tie.MeasureT-loop
 μ-loop coefficients₀ x next₀ coefficients next = length coefficients₀ - next
 
 loop-holds : tie.Need-loop-holds Inv-loop μ-loop
-loop-holds c =
-    (search needs, filled-start (hornerStep gf64 (c .before .args .x .0) (c .before .args .coefficients .now)) (c .before .args .coefficients .now), refl)
+loop-holds c = (
+  search needs,
+  filled-start (hornerStep gf64 (c .before .args .x .0) (c .before .args .coefficients .now))
+      (c .before .args .coefficients .now),
+  refl,
+)
 
 sub-j : tie.Need-sub-j Inv-loop μ-loop
 sub-j c = search needs
@@ -62,8 +67,10 @@ loop-again c =
     let a = c .before .before .before .before .before .before .before .args in
     let l = c .before .before .before .before .before .loop in (
       search needs,
-      ap (set (l .coefficients) (l .next - 1)) (c .sum .ensures ∙ ap (sum (getD (l .coefficients) (l .next - 1) 0)) (c .before .product .ensures .0))
-          ∙ join-next (a .x .0) (a .coefficients .now) (l .coefficients) (l .next) (l .inv .0) (omega (arith, l .inv .2)) (l .inv .1),
+      ap (set (l .coefficients) (l .next - 1))
+          (c .sum .ensures ∙ ap (sum (getD (l .coefficients) (l .next - 1) 0)) (c .before .product .ensures .0))
+          ∙ join-next (a .x .0) (a .coefficients .now) (l .coefficients) (l .next) (l .inv .0)
+          (omega (arith, l .inv .2)) (l .inv .1),
       length-set (l .coefficients) (l .next - 1) (c .sum .result .0) ∙ l .inv .2,
     )
 
@@ -74,7 +81,8 @@ returns : tie.Need-returns Inv-loop μ-loop
 returns c =
     let a = c .before .before .before .args in
     let l = c .before .loop in
-    join-end (a .x .0) (a .coefficients .now) (l .coefficients) (l .next) (l .inv .0) (omega (arith, l .inv .2)) (l .inv .1)
+    join-end (a .x .0) (a .coefficients .now) (l .coefficients) (l .next) (l .inv .0) (omega (arith, l .inv .2))
+    (l .inv .1)
 
 pub join-spec : {M : Type 1} → statement M
 join-spec =

@@ -1,5 +1,5 @@
--- `newton::newton_coefficient` meets its contract. The loop's invariant: value and vanishing are those of the first j points, and x is
--- point j. Assumes nothing.
+-- `newton::newton_coefficient` meets its contract. The loop's invariant: value and vanishing are those of the first j
+-- points, and x is point j. Assumes nothing.
 use mathlib.Core.Path.{_≡_, refl, sym, ap, ap₂, _∙_}
 use mathlib.Core.List.{List}
 use Prim.Native.Nat.{ℕ, _+_, _-_, _^_, _≤_, _<_}
@@ -21,10 +21,14 @@ use Rattle.newton.proofs.newton_coefficient.Tie as tie
 abbrev Inv-loop : tie.InvT-loop
 Inv-loop basis known z y sums value₀ weight₀ x₀ j₀ value product x j =
     (j ≤ length known) × (value .0 ≡ newtonValue gf64 (take j (points (x₀ .0) basis)) (take j known) (z .0))
-    × (product .0 ≡ vanishing gf64 (take j (points (x₀ .0) basis)) (z .0)) × (j < length known → x .0 ≡ point (x₀ .0) basis j)
+    × (product .0 ≡ vanishing gf64 (take j (points (x₀ .0) basis)) (z .0))
+    × (j < length known → x .0 ≡ point (x₀ .0) basis j)
 
 abbrev μ-loop : tie.MeasureT-loop
 μ-loop basis known z y sums value₀ weight₀ x₀ j₀ value product x j = length known - j
+
+abbrev startOf : tie.At-loop Inv-loop μ-loop → tie.Start Inv-loop μ-loop
+startOf c = c .before .before .before .before
 
 prefix-sums-requires : tie.Need-prefix-sums-requires Inv-loop μ-loop
 prefix-sums-requires c κs = search needs
@@ -67,23 +71,30 @@ loop-less c = search needs
 
 loop-again : tie.Need-loop-again Inv-loop μ-loop
 loop-again c =
-    let start = c .before .before .before .before .before .before .before .before .before .before .before .before in
+    let summed = c .before .before .before .before in
+    let at = summed .before .before .before .before in
+    let start = startOf at in
     let a = start .args in
-    let l = c .before .before .before .before .before .before .before .before .loop in
+    let l = at .loop in
+    let all = points (a .offset .0) (a .basis .now) in
     let inside : l .j < length (a .known .now) = omega arith in
     let below : l .j < 2 ^ length (a .basis .now) = omega (arith, start .pre .1) in
-    let among : l .j < length (points (a .offset .0) (a .basis .now)) = omega (arith, length-points (a .offset .0) (a .basis .now)) in
-    let at : l .x .0 ≡ getD (points (a .offset .0) (a .basis .now)) (l .j) 0 = l .inv .3 inside ∙ sym (getD-points (a .offset .0) (a .basis .now) (l .j) below) in (
+    let among : l .j < length all = omega (arith, length-points (a .offset .0) (a .basis .now)) in
+    let first = l .inv .3 inside in
+    let listed : l .x .0 ≡ getD all (l .j) 0 = first
+    ∙ sym (getD-points (a .offset .0) (a .basis .now) (l .j) below) in (
       search needs,
-      c .before .before .before .before .sum .ensures
-          ∙ ap (sum (l .value .0)) (c .before .before .before .before .before .product .ensures .0)
-          ∙ value-next (points (a .offset .0) (a .basis .now)) (a .known .now) (l .j) (a .z .0) (l .value .0) (l .vanishing .0) among inside
-          (omega (arith, c .before .before .before .before .before .before .shared-slice-known3 .given (l .j))) (l .inv .1) (l .inv .2),
-      c .before .before .product2 .ensures .0 ∙ ap (product (l .vanishing .0)) (c .before .before .before .sum2 .ensures ∙ ap (sum (a .z .0)) at)
-          ∙ vanishing-next (points (a .offset .0) (a .basis .now)) (l .j) (a .z .0) (l .vanishing .0) among (l .inv .2),
+      summed .sum .ensures ∙ ap (sum (l .value .0)) (summed .before .product .ensures .0)
+          ∙ value-next all (a .known .now) (l .j) (a .z .0) (l .value .0) (l .vanishing .0) among inside
+          (omega (arith, summed .before .before .shared-slice-known3 .given (l .j))) (l .inv .1) (l .inv .2),
+      c .before .before .product2 .ensures .0
+          ∙ ap (product (l .vanishing .0)) (c .before .before .before .sum2 .ensures ∙ ap (sum (a .z .0)) listed)
+          ∙ vanishing-next all (l .j) (a .z .0) (l .vanishing .0) among (l .inv .2),
       λ h. c .stepped .ensures
-          ∙ ap (λ (sums : List ℕ). sum (l .x .0) (getD sums (trailingZeros 64 (l .j + 1)) 0)) (c .before .before .before .before .before .before .before .before .before .prefix-sums .ensures)
-          ∙ point-stepped (a .offset .0) (a .basis .now) (l .j) (l .x .0) (omega (arith, start .pre .0)) (l .inv .3 inside) (omega (arith, start .pre .1)),
+          ∙ ap (λ (sums : List ℕ). sum (l .x .0) (getD sums (trailingZeros 64 (l .j + 1)) 0))
+          (at .before .prefix-sums .ensures)
+          ∙ point-stepped (a .offset .0) (a .basis .now) (l .j) (l .x .0) (omega (arith, start .pre .0)) first
+          (omega (arith, start .pre .1)),
     )
 
 sum-requires-3 : tie.Need-sum-requires-3 Inv-loop μ-loop
@@ -100,7 +111,8 @@ returns c =
     let a = c .before .before .before .before .before .before .before .before .args in
     let l = c .before .before .before .before .loop in
     c .product3 .ensures .0 ∙ ap₂ product (c .before .before .sum3 .ensures) (c .before .inverse-or-zero .ensures)
-    ∙ coefficient-end (points (a .offset .0) (a .basis .now)) (a .known .now) (l .j) (a .z .0) (a .y .0) (l .value .0) (l .vanishing .0)
+    ∙ coefficient-end (points (a .offset .0) (a .basis .now)) (a .known .now) (l .j) (a .z .0) (a .y .0) (l .value .0)
+    (l .vanishing .0)
     (l .inv .0) (c .before .before .before .loop-test .left) (l .inv .1) (l .inv .2)
 
 pub newton-coefficient-spec : {M : Type 1} → statement M
