@@ -32,11 +32,13 @@ pub answered-other : (a : Answer) (lent : List ℕ) → (length lent ≡ 5 → �
 answered-other a lent h = sym (ap (λ (b : Bool). cond b (numbersOf a) lent) (ne-eqb (length lent) 5 h))
 
 -- nothing is done where the answer's list has another length
-pub left-alone : (a : Answer) (lent left held : List ℕ) → (length lent ≡ 5 → ⊥) → (lent ≡ answered a lent) × (held ≡ whereAnswered lent left held)
+pub left-alone : (a : Answer) (lent left held : List ℕ) → (length lent ≡ 5 → ⊥)
+    → (lent ≡ answered a lent) × (held ≡ whereAnswered lent left held)
 left-alone a lent left held h = (answered-other a lent h, whereAnswered-other lent left held h)
 
 -- and else the answer is written and the operation's list is as it leaves it
 pub written : (a given : Answer) (lent left held lent′ held′ : List ℕ) → length lent ≡ 5
-    → lent′ ≡ numbersOf given → given ≡ a → held′ ≡ left → (lent′ ≡ answered a lent) × (held′ ≡ whereAnswered lent left held)
+    → lent′ ≡ numbersOf given → given ≡ a → held′ ≡ left
+    → (lent′ ≡ answered a lent) × (held′ ≡ whereAnswered lent left held)
 written a given lent left held lent′ held′ five w g l =
     (w ∙ ap numbersOf g ∙ answered-five a lent five, l ∙ whereAnswered-five lent left held five)

@@ -11,7 +11,8 @@ use Rattle.fri.specs.declared.Answer.the-variants as answers
 use Rattle.fri.specs.Lookup.{layerPart}
 use Rattle.layout.specs.declared.Parameters.{Parameters}
 use Rattle.layout.specs.Parts.{partOf}
-use Rattle.c_answers.specs.Answers.{none, numbersOf, answerOfFolded, answerOfProved, answerOfPart, answerOfVerdict}
+use Rattle.c_answers.specs.Answers.{none, numbersOf, answerOfFolded}
+use Rattle.c_answers.specs.Answers.{answerOfProved, answerOfPart, answerOfVerdict}
 
 pub record FoldNumbers : Type 0 where
   pub done : numbersOf (answerOfFolded (NextOffset (record { 0 = 0x48 }))) ≡ 0 ∷ none ∷ none ∷ 0 ∷ 0x48 ∷ []
@@ -25,9 +26,12 @@ pub record RunNumbers : Type 0 where
   pub degree : numbersOf (answerOfProved (outcomes.Refused (DegreeTooLarge 1))) ≡ 12 ∷ 1 ∷ none ∷ 0 ∷ 1 ∷ []
   pub store : numbersOf (answerOfProved (outcomes.Refused (WrongLength 4))) ≡ 13 ∷ 4 ∷ none ∷ 0 ∷ none ∷ []
   -- cases G and H
-  pub accepted : numbersOf (answerOfVerdict (record { answer = answers.Accepted; reads = 4 })) ≡ 0 ∷ none ∷ none ∷ 4 ∷ none ∷ []
-  pub refused : numbersOf (answerOfVerdict (record { answer = answers.Refused (RoundCheckFails 1 0); reads = 4 })) ≡ 11 ∷ 1 ∷ 0 ∷ 4 ∷ none ∷ []
+  pub accepted : numbersOf (answerOfVerdict (record { answer = answers.Accepted; reads = 4 }))
+      ≡ 0 ∷ none ∷ none ∷ 4 ∷ none ∷ []
+  pub refused : numbersOf (answerOfVerdict (record { answer = answers.Refused (RoundCheckFails 1 0); reads = 4 }))
+      ≡ 11 ∷ 1 ∷ 0 ∷ 4 ∷ none ∷ []
   -- as many entries as the value says, from the place on, are what the lookup hands back
   pub part : (p : Parameters) (store : List ℕ) (i : ℕ)
-      → take (answerOfPart (partOf p (length store) i) .value) (drop (answerOfPart (partOf p (length store) i) .place) store)
+      → take (answerOfPart (partOf p (length store) i) .value)
+      (drop (answerOfPart (partOf p (length store) i) .place) store)
       ≡ layerPart (p .k) (p .rate) (p .step) store i

@@ -8,7 +8,9 @@ use refusal::Outcome;
 use refusal::Position;
 ghost use mathlib.Core.Path.{_≡_};
 ghost use lib.ListN.{length};
-ghost use Rattle.c_answers.specs.Answers.{orNone, answerOfValue, answerOfCause, answerOfInverted, answerOfFolded, answerOfOutcome, answerOfProved, answerOfPart, answerOfVerdict, numbersOf};
+ghost use Rattle.c_answers.specs.Answers.{orNone, answerOfValue, answerOfCause, answerOfInverted};
+ghost use Rattle.c_answers.specs.Answers.{answerOfFolded, answerOfOutcome, answerOfProved};
+ghost use Rattle.c_answers.specs.Answers.{answerOfPart, answerOfVerdict, numbersOf};
 
 // The five numbers of an answer.
 pub struct Answer {

@@ -1,4 +1,5 @@
--- Which parameters, lists, bases and queries pass the checks, and what the first failing check refuses. Assumes nothing.
+-- Which parameters, lists, bases and queries pass the checks, and what the first failing check
+-- refuses. Assumes nothing.
 use mathlib.Core.Path.{_≡_, refl, sym, ap, _∙_, subst}
 use mathlib.Core.Logic.{_≢_, _⊎_, inl, inr}
 use mathlib.Core.Bool.{Bool, true, false, cond, _&&_}
@@ -10,14 +11,18 @@ use lib.Dec.{leb, ltb, eqb}
 use lib.ListN.{length, getD}
 use borrow.Author.Tests.{le-leb, lt-leb, lt-ltb, eq-eqb, ne-eqb, ltb-true, ltb-false}
 use Rattle.gf64.specs.Field.{IsElement}
-use Rattle.refusal.specs.declared.Cause.the-variants.{DimensionOutOfRange, RateOutOfRange, StepOutOfRange, DimensionTooSmall, WrongLength, BasisDependent, QueryCountOutOfRange, QueryOutOfRange}
+use Rattle.refusal.specs.declared.Cause.the-variants.{DimensionOutOfRange, RateOutOfRange, StepOutOfRange}
+use Rattle.refusal.specs.declared.Cause.the-variants.{DimensionTooSmall, WrongLength, BasisDependent}
+use Rattle.refusal.specs.declared.Cause.the-variants.{QueryCountOutOfRange, QueryOutOfRange}
 use Rattle.refusal.specs.declared.Outcome.{Outcome}
 use Rattle.refusal.specs.declared.Outcome.the-variants.{Done, Refused}
 use Rattle.refusal.specs.declared.Position.{Position}
 use Rattle.refusal.specs.declared.Position.the-variants.{At, Absent}
 use Rattle.refusal.specs.Checks.{refusedUnless, andThen}
 use Rattle.refusal.specs.Numbers.{numberOfOutcome}
-use Rattle.refusal.proofs.Checks.{equal-of-test, le-of-test, refused-not-done, passed-by, refused-by, unless-done, then-passed, then-refused, then-done, number-unless, number-then, within, within-of, outside}
+use Rattle.refusal.proofs.Checks.{equal-of-test, le-of-test, refused-not-done, passed-by}
+use Rattle.refusal.proofs.Checks.{refused-by, unless-done, then-passed, then-refused, then-done}
+use Rattle.refusal.proofs.Checks.{number-unless, number-then, within, within-of, outside}
 use Rattle.poly.specs.Polynomial.{All}
 use Rattle.coset.specs.Span.{firstDependent, Independent}
 use Rattle.coset.specs.Answers.{outcomeOfBasis, outcomeOfLaterBasis}
@@ -54,7 +59,8 @@ module _ (k rate step : ℕ) where
 
   pub parameters-pass : ValidParameters k rate step → parametersOutcome k rate step ≡ Done
   parameters-pass v =
-      k-passes (v .k-least) (v .k-most) ∙ rate-passes (v .rate-least) (v .rate-most) ∙ step-passes (v .step-least) (v .step-most)
+      k-passes (v .k-least) (v .k-most) ∙ rate-passes (v .rate-least) (v .rate-most)
+      ∙ step-passes (v .step-least) (v .step-most)
       ∙ sym (passed-by (leb (rate + step) k) DimensionTooSmall Done (le-leb (rate + step) k (v .k-enough)))
 
   pub parameters-valid : parametersOutcome k rate step ≡ Done → ValidParameters k rate step
@@ -80,11 +86,14 @@ module _ (k rate step : ℕ) where
   k-refused o = sym (refused-by (leb 2 k && leb k 20) DimensionOutOfRange after-k (outside 2 20 k o))
 
   pub rate-refused : 2 ≤ k → k ≤ 20 → (rate < 1) ⊎ (6 < rate) → parametersOutcome k rate step ≡ Refused RateOutOfRange
-  rate-refused l m o = k-passes l m ∙ sym (refused-by (leb 1 rate && leb rate 6) RateOutOfRange after-rate (outside 1 6 rate o))
+  rate-refused l m o =
+      k-passes l m ∙ sym (refused-by (leb 1 rate && leb rate 6) RateOutOfRange after-rate (outside 1 6 rate o))
 
-  pub step-refused : 2 ≤ k → k ≤ 20 → 1 ≤ rate → rate ≤ 6 → (step < 1) ⊎ (3 < step) → parametersOutcome k rate step ≡ Refused StepOutOfRange
+  pub step-refused : 2 ≤ k → k ≤ 20 → 1 ≤ rate → rate ≤ 6 → (step < 1) ⊎ (3 < step)
+      → parametersOutcome k rate step ≡ Refused StepOutOfRange
   step-refused l m a b o =
-      k-passes l m ∙ rate-passes a b ∙ sym (refused-by (leb 1 step && leb step 3) StepOutOfRange after-step (outside 1 3 step o))
+      k-passes l m ∙ rate-passes a b
+      ∙ sym (refused-by (leb 1 step && leb step 3) StepOutOfRange after-step (outside 1 3 step o))
 
   pub too-small-refused : 2 ≤ k → k ≤ 20 → 1 ≤ rate → rate ≤ 6 → 1 ≤ step → step ≤ 3 → k < rate + step
       → parametersOutcome k rate step ≡ Refused DimensionTooSmall
@@ -114,21 +123,29 @@ module _ (run : Run) where
   after1 = refusedUnless (eqb (length (run .challenges)) (roundsIn run)) (WrongLength 2) after2
 
   list1-passes : length (run .basis) ≡ run .k → lengthsOutcome run ≡ after1
-  list1-passes e = sym (passed-by (eqb (length (run .basis)) (run .k)) (WrongLength 1) after1 (eq-eqb (length (run .basis)) (run .k) e))
+  list1-passes e =
+      sym
+      (passed-by (eqb (length (run .basis)) (run .k)) (WrongLength 1) after1 (eq-eqb (length (run .basis)) (run .k) e))
 
   list2-passes : length (run .challenges) ≡ roundsIn run → after1 ≡ after2
-  list2-passes e = sym (passed-by (eqb (length (run .challenges)) (roundsIn run)) (WrongLength 2) after2 (eq-eqb (length (run .challenges)) (roundsIn run) e))
+  list2-passes e =
+      sym (passed-by (eqb (length (run .challenges)) (roundsIn run)) (WrongLength 2) after2
+      (eq-eqb (length (run .challenges)) (roundsIn run) e))
 
   list3-passes : length (run .word) ≡ 2 ^ run .k → after2 ≡ after3
-  list3-passes e = sym (passed-by (eqb (length (run .word)) (2 ^ run .k)) (WrongLength 3) after3 (eq-eqb (length (run .word)) (2 ^ run .k) e))
+  list3-passes e =
+      sym (passed-by (eqb (length (run .word)) (2 ^ run .k)) (WrongLength 3) after3
+      (eq-eqb (length (run .word)) (2 ^ run .k) e))
 
   list4-passes : length (run .store) ≡ stored → after3 ≡ after4
-  list4-passes e = sym (passed-by (eqb (length (run .store)) stored) (WrongLength 4) after4 (eq-eqb (length (run .store)) stored e))
+  list4-passes e =
+      sym (passed-by (eqb (length (run .store)) stored) (WrongLength 4) after4 (eq-eqb (length (run .store)) stored e))
 
   pub lengths-pass : Fit run → lengthsOutcome run ≡ Done
   lengths-pass f =
       list1-passes (f .basis) ∙ list2-passes (f .challenges) ∙ list3-passes (f .word) ∙ list4-passes (f .store)
-      ∙ sym (passed-by (eqb (length (run .last)) last-due) (WrongLength 5) Done (eq-eqb (length (run .last)) last-due (f .last)))
+      ∙ sym (passed-by (eqb (length (run .last)) last-due) (WrongLength 5) Done
+      (eq-eqb (length (run .last)) last-due (f .last)))
 
   pub lengths-fit : lengthsOutcome run ≡ Done → Fit run
   lengths-fit e =
@@ -146,67 +163,91 @@ module _ (run : Run) where
       }
 
   pub list1-refused : length (run .basis) ≢ run .k → lengthsOutcome run ≡ Refused (WrongLength 1)
-  list1-refused n = sym (refused-by (eqb (length (run .basis)) (run .k)) (WrongLength 1) after1 (ne-eqb (length (run .basis)) (run .k) n))
+  list1-refused n =
+      sym
+      (refused-by (eqb (length (run .basis)) (run .k)) (WrongLength 1) after1 (ne-eqb (length (run .basis)) (run .k) n))
 
-  pub list2-refused : length (run .basis) ≡ run .k → length (run .challenges) ≢ roundsIn run → lengthsOutcome run ≡ Refused (WrongLength 2)
+  pub list2-refused : length (run .basis) ≡ run .k → length (run .challenges) ≢ roundsIn run
+      → lengthsOutcome run ≡ Refused (WrongLength 2)
   list2-refused a n =
       list1-passes a
       ∙ sym (refused-by (eqb (length (run .challenges)) (roundsIn run)) (WrongLength 2) after2
       (ne-eqb (length (run .challenges)) (roundsIn run) n))
 
-  pub list3-refused : length (run .basis) ≡ run .k → length (run .challenges) ≡ roundsIn run → length (run .word) ≢ 2 ^ run .k
-      → lengthsOutcome run ≡ Refused (WrongLength 3)
+  pub list3-refused : length (run .basis) ≡ run .k → length (run .challenges) ≡ roundsIn run
+      → length (run .word) ≢ 2 ^ run .k → lengthsOutcome run ≡ Refused (WrongLength 3)
   list3-refused a b n =
-      list1-passes a ∙ list2-passes b ∙ sym (refused-by (eqb (length (run .word)) (2 ^ run .k)) (WrongLength 3) after3 (ne-eqb (length (run .word)) (2 ^ run .k) n))
+      list1-passes a ∙ list2-passes b
+      ∙ sym (refused-by (eqb (length (run .word)) (2 ^ run .k)) (WrongLength 3) after3
+      (ne-eqb (length (run .word)) (2 ^ run .k) n))
 
-  pub list4-refused : length (run .basis) ≡ run .k → length (run .challenges) ≡ roundsIn run → length (run .word) ≡ 2 ^ run .k
-      → length (run .store) ≢ stored → lengthsOutcome run ≡ Refused (WrongLength 4)
+  pub list4-refused : length (run .basis) ≡ run .k → length (run .challenges) ≡ roundsIn run
+      → length (run .word) ≡ 2 ^ run .k → length (run .store) ≢ stored → lengthsOutcome run ≡ Refused (WrongLength 4)
   list4-refused a b d n =
       list1-passes a ∙ list2-passes b ∙ list3-passes d
-      ∙ sym (refused-by (eqb (length (run .store)) stored) (WrongLength 4) after4 (ne-eqb (length (run .store)) stored n))
+      ∙ sym
+      (refused-by (eqb (length (run .store)) stored) (WrongLength 4) after4 (ne-eqb (length (run .store)) stored n))
 
-  pub list5-refused : length (run .basis) ≡ run .k → length (run .challenges) ≡ roundsIn run → length (run .word) ≡ 2 ^ run .k
+  pub list5-refused : length (run .basis) ≡ run .k → length (run .challenges) ≡ roundsIn run
+      → length (run .word) ≡ 2 ^ run .k
       → length (run .store) ≡ stored → length (run .last) ≢ last-due → lengthsOutcome run ≡ Refused (WrongLength 5)
   list5-refused a b d s n =
       list1-passes a ∙ list2-passes b ∙ list3-passes d ∙ list4-passes s
-      ∙ sym (refused-by (eqb (length (run .last)) last-due) (WrongLength 5) Done (ne-eqb (length (run .last)) last-due n))
+      ∙ sym
+      (refused-by (eqb (length (run .last)) last-due) (WrongLength 5) Done (ne-eqb (length (run .last)) last-due n))
 
 -- ---- bases
 
 -- number 16 does not come after an independent basis
-later-bases-pass : (run : Run) → ((i : ℕ) → Independent (basisIn run i)) → (round left : ℕ) → laterBasesOutcome (stepsIn run) (run .basis) round left ≡ Done
+later-bases-pass : (run : Run) → ((i : ℕ) → Independent (basisIn run i)) → (round left : ℕ)
+    → laterBasesOutcome (stepsIn run) (run .basis) round left ≡ Done
 unfolding laterBasesOutcome
 later-bases-pass run d round zero = refl
 later-bases-pass run d round (suc left) =
-    sym (then-passed (outcomeOfLaterBasis round (firstDependent (basisIn run (suc round)))) (laterBasesOutcome (stepsIn run) (run .basis) (suc round) left)
-    (ap (outcomeOfLaterBasis round) (d (suc round))))
+    sym (then-passed (outcomeOfLaterBasis round (firstDependent (basisIn run (suc round))))
+    (laterBasesOutcome (stepsIn run) (run .basis) (suc round) left) (ap (outcomeOfLaterBasis round) (d (suc round))))
     ∙ later-bases-pass run d (suc round) left
 
-pub bases-pass : (run : Run) → All IsElement (run .basis) → Independent (run .basis) → basesOutcome (stepsIn run) (run .basis) ≡ Done
+pub bases-pass : (run : Run) → All IsElement (run .basis) → Independent (run .basis)
+    → basesOutcome (stepsIn run) (run .basis) ≡ Done
 bases-pass run h d =
-    sym (then-passed (outcomeOfBasis (firstDependent (run .basis))) (laterBasesOutcome (stepsIn run) (run .basis) 0 (roundsIn run)) (ap outcomeOfBasis d))
+    sym (then-passed (outcomeOfBasis (firstDependent (run .basis)))
+    (laterBasesOutcome (stepsIn run) (run .basis) 0 (roundsIn run)) (ap outcomeOfBasis d))
     ∙ later-bases-pass run (later-independent (stepsIn run) (run .basis) h d) 0 (roundsIn run)
 
 pub bases-independent : (run : Run) → basesOutcome (stepsIn run) (run .basis) ≡ Done → Independent (run .basis)
 bases-independent run e =
-    independent-of (firstDependent (run .basis)) (then-done (outcomeOfBasis (firstDependent (run .basis))) (laterBasesOutcome (stepsIn run) (run .basis) 0 (roundsIn run)) e .0)
+    independent-of (firstDependent (run .basis))
+    (then-done (outcomeOfBasis (firstDependent (run .basis)))
+    (laterBasesOutcome (stepsIn run) (run .basis) 0 (roundsIn run)) e .0)
 
-pub bases-refused : (run : Run) (place : ℕ) → firstDependent (run .basis) ≡ At place → basesOutcome (stepsIn run) (run .basis) ≡ Refused (BasisDependent place)
+pub bases-refused : (run : Run) (place : ℕ) → firstDependent (run .basis) ≡ At place
+    → basesOutcome (stepsIn run) (run .basis) ≡ Refused (BasisDependent place)
 bases-refused run place e =
-    sym (then-refused (outcomeOfBasis (firstDependent (run .basis))) (laterBasesOutcome (stepsIn run) (run .basis) 0 (roundsIn run)) (BasisDependent place) (ap outcomeOfBasis e))
+    sym (then-refused (outcomeOfBasis (firstDependent (run .basis)))
+    (laterBasesOutcome (stepsIn run) (run .basis) 0 (roundsIn run)) (BasisDependent place) (ap outcomeOfBasis e))
 
 -- ---- a run
 
-pub run-passes : (run : Run) → All IsElement (run .basis) → ValidParameters (run .k) (run .rate) (run .step) → Fit run → Independent (run .basis) → runOutcome run ≡ Done
+pub run-passes : (run : Run) → All IsElement (run .basis) → ValidParameters (run .k) (run .rate) (run .step) → Fit run
+    → Independent (run .basis) → runOutcome run ≡ Done
 run-passes run h v f d =
-    sym (then-passed (parametersOutcome (run .k) (run .rate) (run .step)) (andThen (lengthsOutcome run) (basesOutcome (stepsIn run) (run .basis))) (parameters-pass (run .k) (run .rate) (run .step) v))
-    ∙ sym (then-passed (lengthsOutcome run) (basesOutcome (stepsIn run) (run .basis)) (lengths-pass run f)) ∙ bases-pass run h d
+    sym (then-passed (parametersOutcome (run .k) (run .rate) (run .step))
+    (andThen (lengthsOutcome run) (basesOutcome (stepsIn run) (run .basis)))
+    (parameters-pass (run .k) (run .rate) (run .step) v))
+    ∙ sym (then-passed (lengthsOutcome run) (basesOutcome (stepsIn run) (run .basis)) (lengths-pass run f))
+    ∙ bases-pass run h d
 
-pub run-valid : (run : Run) → runOutcome run ≡ Done → ValidParameters (run .k) (run .rate) (run .step) × Fit run × Independent (run .basis)
+pub run-valid : (run : Run) → runOutcome run ≡ Done
+    → ValidParameters (run .k) (run .rate) (run .step) × Fit run × Independent (run .basis)
 run-valid run e =
-    let first = then-done (parametersOutcome (run .k) (run .rate) (run .step)) (andThen (lengthsOutcome run) (basesOutcome (stepsIn run) (run .basis))) e in
-    let second = then-done (lengthsOutcome run) (basesOutcome (stepsIn run) (run .basis)) (first .1) in
-    (parameters-valid (run .k) (run .rate) (run .step) (first .0), lengths-fit run (second .0), bases-independent run (second .1))
+    let first = then-done (parametersOutcome (run .k) (run .rate) (run .step))
+    (andThen (lengthsOutcome run) (basesOutcome (stepsIn run) (run .basis))) e in
+    let second = then-done (lengthsOutcome run) (basesOutcome (stepsIn run) (run .basis)) (first .1) in (
+      parameters-valid (run .k) (run .rate) (run .step) (first .0),
+      lengths-fit run (second .0),
+      bases-independent run (second .1),
+    )
 
 -- ---- queries
 
@@ -214,11 +255,14 @@ run-valid run e =
 abbrev Outside : ℕ → List ℕ → ℕ → Position → Type 0
 Outside size queries place Absent = All (λ j. j < size) queries
 Outside size queries place (At query) =
-    (t : ℕ) × (query ≡ place + t) × (t < length queries) × (size ≤ getD queries t 0) × ((u : ℕ) → u < t → getD queries u 0 < size)
+    (t : ℕ) × (query ≡ place + t) × (t < length queries) × (size ≤ getD queries t 0)
+    × ((u : ℕ) → u < t → getD queries u 0 < size)
 
-one-inside : (size j : ℕ) (queries : List ℕ) (place : ℕ) → j < size → (p : Position) → Outside size queries (suc place) p → Outside size (j ∷ queries) place p
+one-inside : (size j : ℕ) (queries : List ℕ) (place : ℕ) → j < size → (p : Position)
+    → Outside size queries (suc place) p → Outside size (j ∷ queries) place p
 one-inside size j queries place h Absent told = (h, told)
-one-inside size j queries place h (At query) (t, e, l, o, before) = (suc t, e ∙ suc-add place t ∙ sym (add-suc place t), omega arith, o, earlier)
+one-inside size j queries place h (At query)
+    (t, e, l, o, before) = (suc t, e ∙ suc-add place t ∙ sym (add-suc place t), omega arith, o, earlier)
   where
     earlier : (u : ℕ) → u < suc t → getD (j ∷ queries) u 0 < size
     earlier zero b = h
@@ -234,9 +278,11 @@ outside-told : (size : ℕ) (queries : List ℕ) (place : ℕ) → Outside size 
 unfolding firstOutside
 outside-told size [] place = record {}
 outside-told size (j ∷ queries) place =
-    one-query size j queries place (firstOutside size queries (suc place)) (outside-told size queries (suc place)) (ltb j size) refl
+    one-query size j queries place (firstOutside size queries (suc place))
+    (outside-told size queries (suc place)) (ltb j size) refl
 
-none-outside : (size : ℕ) (queries : List ℕ) (place : ℕ) → All (λ j. j < size) queries → firstOutside size queries place ≡ Absent
+none-outside : (size : ℕ) (queries : List ℕ) (place : ℕ) → All (λ j. j < size) queries
+    → firstOutside size queries place ≡ Absent
 unfolding firstOutside
 none-outside size [] place h = refl
 none-outside size (j ∷ queries) place h =
@@ -247,10 +293,12 @@ pub first-outside : (size : ℕ) (queries : List ℕ) (query : ℕ) → firstOut
     → (query < length queries) × (size ≤ getD queries query 0) × ((t : ℕ) → t < query → getD queries t 0 < size)
 first-outside size queries query e = by (subst (Outside size queries 0) e (outside-told size queries 0))
   where
-    by : Outside size queries 0 (At query) → (query < length queries) × (size ≤ getD queries query 0) × ((t : ℕ) → t < query → getD queries t 0 < size)
+    by : Outside size queries 0 (At query)
+        → (query < length queries) × (size ≤ getD queries query 0) × ((t : ℕ) → t < query → getD queries t 0 < size)
     by (t, s, l, o, before) =
         let same : t ≡ query = omega (arith, s) in
-        subst (λ (q : ℕ). (q < length queries) × (size ≤ getD queries q 0) × ((u : ℕ) → u < q → getD queries u 0 < size)) same (l, o, before)
+        subst (λ (q : ℕ). (q < length queries) × (size ≤ getD queries q 0)
+        × ((u : ℕ) → u < q → getD queries u 0 < size)) same (l, o, before)
 
 all-inside : (p : Position) → outcomeOfOutside p ≡ Done → p ≡ Absent
 all-inside (At query) e = absurd (refused-not-done (QueryOutOfRange query) e)
@@ -265,7 +313,8 @@ module _ (k first : ℕ) (queries : List ℕ) where
 
   pub queries-pass : ValidQueries k queries → queriesOutcome k first queries ≡ Done
   queries-pass v =
-      sym (passed-by (counted queries) QueryCountOutOfRange indices (within 1 256 (length queries) (v .least) (v .most)))
+      sym
+      (passed-by (counted queries) QueryCountOutOfRange indices (within 1 256 (length queries) (v .least) (v .most)))
       ∙ ap outcomeOfOutside (none-outside (2 ^ k) queries 0 (v .within))
 
   pub queries-valid : queriesOutcome k first queries ≡ Done → ValidQueries k queries
@@ -292,25 +341,32 @@ module _ (k first : ℕ) (queries : List ℕ) where
 -- ---- which numbers there are
 
 -- an independent basis gives 0, a dependent one 8, so that 16 does not come
-pub bases-number : (P : ℕ → Type 0) → P 0 → P 8 → (run : Run) → All IsElement (run .basis) → P (numberOfOutcome (basesOutcome (stepsIn run) (run .basis)))
+pub bases-number : (P : ℕ → Type 0) → P 0 → P 8 → (run : Run) → All IsElement (run .basis)
+    → P (numberOfOutcome (basesOutcome (stepsIn run) (run .basis)))
 bases-number P p0 p8 run h = by (firstDependent (run .basis)) refl
   where
-    by : (p : Position) → firstDependent (run .basis) ≡ p → P (numberOfOutcome (basesOutcome (stepsIn run) (run .basis)))
+    by : (p : Position) → firstDependent (run .basis) ≡ p
+        → P (numberOfOutcome (basesOutcome (stepsIn run) (run .basis)))
     by (At place) e = subst (λ (o : Outcome). P (numberOfOutcome o)) (sym (bases-refused run place e)) p8
     by Absent e = subst (λ (o : Outcome). P (numberOfOutcome o)) (sym (bases-pass run h e)) p0
 
-pub parameters-number : (P : ℕ → Type 0) → P 0 → ((n : ℕ) → 4 ≤ n → n ≤ 7 → P n) → (k rate step : ℕ) → P (numberOfOutcome (parametersOutcome k rate step))
+pub parameters-number : (P : ℕ → Type 0) → P 0 → ((n : ℕ) → 4 ≤ n → n ≤ 7 → P n) → (k rate step : ℕ)
+    → P (numberOfOutcome (parametersOutcome k rate step))
 parameters-number P p0 low k rate step =
     number-unless P (leb 2 k && leb k 20) DimensionOutOfRange (after-k k rate step) (low 4 (omega arith) (omega arith))
-    (number-unless P (leb 1 rate && leb rate 6) RateOutOfRange (after-rate k rate step) (low 5 (omega arith) (omega arith))
-    (number-unless P (leb 1 step && leb step 3) StepOutOfRange (after-step k rate step) (low 6 (omega arith) (omega arith))
+    (number-unless P (leb 1 rate && leb rate 6) RateOutOfRange (after-rate k rate step)
+    (low 5 (omega arith) (omega arith))
+    (number-unless P (leb 1 step && leb step 3) StepOutOfRange (after-step k rate step)
+    (low 6 (omega arith) (omega arith))
     (number-unless P (leb (rate + step) k) DimensionTooSmall Done (low 7 (omega arith) (omega arith)) p0)))
 
 -- what holds of 0, of 4 to 8, of 13 and of the bases' number holds of a run's
-run-number-by : (P : ℕ → Type 0) → P 0 → ((n : ℕ) → 4 ≤ n → n ≤ 8 → P n) → P 13 → (run : Run) → P (numberOfOutcome (basesOutcome (stepsIn run) (run .basis)))
+run-number-by : (P : ℕ → Type 0) → P 0 → ((n : ℕ) → 4 ≤ n → n ≤ 8 → P n) → P 13 → (run : Run)
+    → P (numberOfOutcome (basesOutcome (stepsIn run) (run .basis)))
     → P (numberOfOutcome (runOutcome run))
 run-number-by P p0 low p13 run bases =
-    number-then P (parametersOutcome (run .k) (run .rate) (run .step)) (andThen (lengthsOutcome run) (basesOutcome (stepsIn run) (run .basis)))
+    number-then P (parametersOutcome (run .k) (run .rate) (run .step))
+    (andThen (lengthsOutcome run) (basesOutcome (stepsIn run) (run .basis)))
     (parameters-number P p0 (λ n l u. low n l (omega arith)) (run .k) (run .rate) (run .step))
     (number-then P (lengthsOutcome run) (basesOutcome (stepsIn run) (run .basis)) lengths-number bases)
   where
@@ -322,9 +378,10 @@ run-number-by P p0 low p13 run bases =
         (number-unless P (eqb (length (run .store)) (stored run)) (WrongLength 4) (after4 run) p13
         (number-unless P (eqb (length (run .last)) (last-due run)) (WrongLength 5) Done p13 p0))))
 
-pub run-number : (P : ℕ → Type 0) → P 0 → ((n : ℕ) → 4 ≤ n → n ≤ 8 → P n) → P 13 → (run : Run) → All IsElement (run .basis)
-    → P (numberOfOutcome (runOutcome run))
-run-number P p0 low p13 run h = run-number-by P p0 low p13 run (bases-number P p0 (low 8 (omega arith) (omega arith)) run h)
+pub run-number : (P : ℕ → Type 0) → P 0 → ((n : ℕ) → 4 ≤ n → n ≤ 8 → P n) → P 13 → (run : Run)
+    → All IsElement (run .basis) → P (numberOfOutcome (runOutcome run))
+run-number P p0 low p13 run h =
+    run-number-by P p0 low p13 run (bases-number P p0 (low 8 (omega arith) (omega arith)) run h)
 
 -- numbers other than 9 to 12, which no check of a run gives, whatever its basis
 abbrev pub Early : ℕ → Type 0
@@ -334,11 +391,13 @@ pub early-not : (m n : ℕ) → 9 ≤ m → m ≤ 12 → Early n → n ≢ m
 early-not m n l u (inl h) e = omega arith
 early-not m n l u (inr h) e = omega arith
 
-later-bases-early : (run : Run) (round left : ℕ) → Early (numberOfOutcome (laterBasesOutcome (stepsIn run) (run .basis) round left))
+later-bases-early : (run : Run) (round left : ℕ)
+    → Early (numberOfOutcome (laterBasesOutcome (stepsIn run) (run .basis) round left))
 unfolding laterBasesOutcome
 later-bases-early run round zero = inl (omega arith)
 later-bases-early run round (suc left) =
-    number-then Early (outcomeOfLaterBasis round (firstDependent (basisIn run (suc round)))) (laterBasesOutcome (stepsIn run) (run .basis) (suc round) left)
+    number-then Early (outcomeOfLaterBasis round (firstDependent (basisIn run (suc round))))
+    (laterBasesOutcome (stepsIn run) (run .basis) (suc round) left)
     (by (firstDependent (basisIn run (suc round)))) (later-bases-early run (suc round) left)
   where
     by : (p : Position) → Early (numberOfOutcome (outcomeOfLaterBasis round p))
@@ -347,7 +406,8 @@ later-bases-early run round (suc left) =
 
 pub bases-early : (run : Run) → Early (numberOfOutcome (basesOutcome (stepsIn run) (run .basis)))
 bases-early run =
-    number-then Early (outcomeOfBasis (firstDependent (run .basis))) (laterBasesOutcome (stepsIn run) (run .basis) 0 (roundsIn run)) (by (firstDependent (run .basis)))
+    number-then Early (outcomeOfBasis (firstDependent (run .basis)))
+    (laterBasesOutcome (stepsIn run) (run .basis) 0 (roundsIn run)) (by (firstDependent (run .basis)))
     (later-bases-early run 0 (roundsIn run))
   where
     by : (p : Position) → Early (numberOfOutcome (outcomeOfBasis p))
@@ -355,7 +415,8 @@ bases-early run =
     by Absent = inl (omega arith)
 
 pub run-early : (run : Run) → Early (numberOfOutcome (runOutcome run))
-run-early run = run-number-by Early (inl (omega arith)) (λ n l u. inl (omega arith)) (inr (omega arith)) run (bases-early run)
+run-early run =
+    run-number-by Early (inl (omega arith)) (λ n l u. inl (omega arith)) (inr (omega arith)) run (bases-early run)
 
 outside-number : (P : ℕ → Type 0) → P 0 → P 10 → (p : Position) → P (numberOfOutcome (outcomeOfOutside p))
 outside-number P p0 p10 (At query) = p10

@@ -1,4 +1,5 @@
--- The checks before the round checks: what passes, what the first failing one refuses, and which numbers there are. Assumes nothing.
+-- The checks before the round checks: what passes, what the first failing one refuses, and which numbers
+-- there are. Assumes nothing.
 use mathlib.Core.Path.{_≡_, refl, sym, ap, _∙_, subst}
 use mathlib.Core.Logic.{inl, inr}
 use mathlib.Core.List.{List}
@@ -7,7 +8,9 @@ use native.Mathlib.Omega.{arith}
 use Rattle.gf64.specs.Field.{IsElement}
 use Rattle.poly.specs.Polynomial.{All}
 use Rattle.refusal.specs.declared.Cause.{Cause}
-use Rattle.refusal.specs.declared.Cause.the-variants.{DimensionOutOfRange, RateOutOfRange, StepOutOfRange, DimensionTooSmall, WrongLength, BasisDependent, QueryCountOutOfRange, QueryOutOfRange}
+use Rattle.refusal.specs.declared.Cause.the-variants.{DimensionOutOfRange, RateOutOfRange, StepOutOfRange}
+use Rattle.refusal.specs.declared.Cause.the-variants.{DimensionTooSmall, WrongLength, BasisDependent}
+use Rattle.refusal.specs.declared.Cause.the-variants.{QueryCountOutOfRange, QueryOutOfRange}
 use Rattle.refusal.specs.declared.Outcome.{Outcome}
 use Rattle.refusal.specs.declared.Outcome.the-variants.{Done, Refused}
 use Rattle.refusal.specs.declared.Position.the-variants.{At, Absent}
@@ -32,10 +35,12 @@ pub passing : Passing
 passing =
     record {
       common = λ run h. (λ e. checks.run-valid run e, λ t. checks.run-passes run h (t .0) (t .1) (t .2));
-      all = λ run queries. (λ e. verdicts.checks-valid run queries e, λ t. verdicts.checks-pass run queries (t .0) (t .1));
+      all = λ run queries.
+          (λ e. verdicts.checks-valid run queries e, λ t. verdicts.checks-pass run queries (t .0) (t .1));
     }
 
-both-refuse : (run : Run) (cause : Cause) → roundOf cause ≡ Absent → runOutcome run ≡ Refused cause → BothRefuse run (numberOf cause) (placeOf cause)
+both-refuse : (run : Run) (cause : Cause) → roundOf cause ≡ Absent → runOutcome run ≡ Refused cause
+    → BothRefuse run (numberOf cause) (placeOf cause)
 both-refuse run cause n e = (
   λ queries.
       let told = verdicts.told-early run queries cause (verdicts.run-refused run queries cause e) in
@@ -47,20 +52,30 @@ both-refuse run cause n e = (
   refused-holds-both run cause e .1,
 )
 
-by-parameters : (run : Run) (cause : Cause) → parametersOutcome (run .k) (run .rate) (run .step) ≡ Refused cause → runOutcome run ≡ Refused cause
-by-parameters run cause e = sym (then-refused (parametersOutcome (run .k) (run .rate) (run .step)) (andThen (lengthsOutcome run) (basesOutcome (stepsIn run) (run .basis))) cause e)
+by-parameters : (run : Run) (cause : Cause) → parametersOutcome (run .k) (run .rate) (run .step) ≡ Refused cause
+    → runOutcome run ≡ Refused cause
+by-parameters run cause e =
+    sym (then-refused (parametersOutcome (run .k) (run .rate) (run .step))
+    (andThen (lengthsOutcome run) (basesOutcome (stepsIn run) (run .basis))) cause e)
 
-after-parameters : (run : Run) → ValidParameters (run .k) (run .rate) (run .step) → runOutcome run ≡ andThen (lengthsOutcome run) (basesOutcome (stepsIn run) (run .basis))
+after-parameters : (run : Run) → ValidParameters (run .k) (run .rate) (run .step)
+    → runOutcome run ≡ andThen (lengthsOutcome run) (basesOutcome (stepsIn run) (run .basis))
 after-parameters run v =
-    sym (then-passed (parametersOutcome (run .k) (run .rate) (run .step)) (andThen (lengthsOutcome run) (basesOutcome (stepsIn run) (run .basis))) (checks.parameters-pass (run .k) (run .rate) (run .step) v))
+    sym (then-passed (parametersOutcome (run .k) (run .rate) (run .step))
+    (andThen (lengthsOutcome run) (basesOutcome (stepsIn run) (run .basis)))
+    (checks.parameters-pass (run .k) (run .rate) (run .step) v))
 
-by-lengths : (run : Run) (cause : Cause) → ValidParameters (run .k) (run .rate) (run .step) → lengthsOutcome run ≡ Refused cause → runOutcome run ≡ Refused cause
-by-lengths run cause v e = after-parameters run v ∙ sym (then-refused (lengthsOutcome run) (basesOutcome (stepsIn run) (run .basis)) cause e)
+by-lengths : (run : Run) (cause : Cause) → ValidParameters (run .k) (run .rate) (run .step)
+    → lengthsOutcome run ≡ Refused cause → runOutcome run ≡ Refused cause
+by-lengths run cause v e =
+    after-parameters run v ∙ sym (then-refused (lengthsOutcome run) (basesOutcome (stepsIn run) (run .basis)) cause e)
 
-by-basis : (run : Run) (place : ℕ) → ValidParameters (run .k) (run .rate) (run .step) → Fit run → firstDependent (run .basis) ≡ At place
-    → runOutcome run ≡ Refused (BasisDependent place)
+by-basis : (run : Run) (place : ℕ) → ValidParameters (run .k) (run .rate) (run .step) → Fit run
+    → firstDependent (run .basis) ≡ At place → runOutcome run ≡ Refused (BasisDependent place)
 by-basis run place v f e =
-    after-parameters run v ∙ sym (then-passed (lengthsOutcome run) (basesOutcome (stepsIn run) (run .basis)) (checks.lengths-pass run f)) ∙ checks.bases-refused run place e
+    after-parameters run v
+    ∙ sym (then-passed (lengthsOutcome run) (basesOutcome (stepsIn run) (run .basis)) (checks.lengths-pass run f))
+    ∙ checks.bases-refused run place e
 
 by-queries : (run : Run) (queries : List ℕ) (cause : Cause) → runOutcome run ≡ Done
     → queriesOutcome (run .k) (stepIn run 0) queries ≡ Refused cause
@@ -72,16 +87,29 @@ by-queries run queries cause d e =
 pub refusals : Refusals
 refusals =
     record {
-      dimension = λ run o. both-refuse run DimensionOutOfRange refl (by-parameters run DimensionOutOfRange (checks.k-refused (run .k) (run .rate) (run .step) o));
-      rate = λ run l m o. both-refuse run RateOutOfRange refl (by-parameters run RateOutOfRange (checks.rate-refused (run .k) (run .rate) (run .step) l m o));
-      step = λ run l m a b o. both-refuse run StepOutOfRange refl (by-parameters run StepOutOfRange (checks.step-refused (run .k) (run .rate) (run .step) l m a b o));
+      dimension = λ run o.
+          both-refuse run DimensionOutOfRange refl
+          (by-parameters run DimensionOutOfRange (checks.k-refused (run .k) (run .rate) (run .step) o));
+      rate = λ run l m o.
+          both-refuse run RateOutOfRange refl
+          (by-parameters run RateOutOfRange (checks.rate-refused (run .k) (run .rate) (run .step) l m o));
+      step = λ run l m a b o.
+          both-refuse run StepOutOfRange refl
+          (by-parameters run StepOutOfRange (checks.step-refused (run .k) (run .rate) (run .step) l m a b o));
       too-small = λ run l m a b s t h.
-          both-refuse run DimensionTooSmall refl (by-parameters run DimensionTooSmall (checks.too-small-refused (run .k) (run .rate) (run .step) l m a b s t h));
-      list1 = λ run v n. both-refuse run (WrongLength 1) refl (by-lengths run (WrongLength 1) v (checks.list1-refused run n));
-      list2 = λ run v a n. both-refuse run (WrongLength 2) refl (by-lengths run (WrongLength 2) v (checks.list2-refused run a n));
-      list3 = λ run v a b n. both-refuse run (WrongLength 3) refl (by-lengths run (WrongLength 3) v (checks.list3-refused run a b n));
-      list4 = λ run v a b d n. both-refuse run (WrongLength 4) refl (by-lengths run (WrongLength 4) v (checks.list4-refused run a b d n));
-      list5 = λ run v a b d s n. both-refuse run (WrongLength 5) refl (by-lengths run (WrongLength 5) v (checks.list5-refused run a b d s n));
+          both-refuse run DimensionTooSmall refl
+          (by-parameters run DimensionTooSmall
+          (checks.too-small-refused (run .k) (run .rate) (run .step) l m a b s t h));
+      list1 = λ run v n.
+          both-refuse run (WrongLength 1) refl (by-lengths run (WrongLength 1) v (checks.list1-refused run n));
+      list2 = λ run v a n.
+          both-refuse run (WrongLength 2) refl (by-lengths run (WrongLength 2) v (checks.list2-refused run a n));
+      list3 = λ run v a b n.
+          both-refuse run (WrongLength 3) refl (by-lengths run (WrongLength 3) v (checks.list3-refused run a b n));
+      list4 = λ run v a b d n.
+          both-refuse run (WrongLength 4) refl (by-lengths run (WrongLength 4) v (checks.list4-refused run a b d n));
+      list5 = λ run v a b d s n.
+          both-refuse run (WrongLength 5) refl (by-lengths run (WrongLength 5) v (checks.list5-refused run a b d s n));
       dependent = λ run place v f e. both-refuse run (BasisDependent place) refl (by-basis run place v f e);
       query-count = λ run queries d o.
           by-queries run queries QueryCountOutOfRange d (checks.count-refused (run .k) (stepIn run 0) queries o);
@@ -93,24 +121,28 @@ refusals =
 
 -- ---- numbers
 
-pub judge-number : (run : Run) (queries : List ℕ) → All IsElement (run .basis) → JudgeNumber (numberOfAnswer (verdictOf run queries .answer))
+pub judge-number : (run : Run) (queries : List ℕ) → All IsElement (run .basis)
+    → JudgeNumber (numberOfAnswer (verdictOf run queries .answer))
 judge-number run queries h =
     subst JudgeNumber (sym (verdicts.same-number (andThen (checksOutcome run queries) (roundsOutcome run queries 0))))
     (number-then JudgeNumber (checksOutcome run queries) (roundsOutcome run queries 0)
     (number-then JudgeNumber (runOutcome run) (queriesOutcome (run .k) (stepIn run 0) queries)
     (checks.run-number JudgeNumber (inl refl) (λ n l u. inr (inl (l, omega arith))) (inr (inr refl)) run h)
-    (checks.queries-number JudgeNumber (inl refl) (inr (inl (omega arith, omega arith))) (inr (inl (omega arith, omega arith))) (run .k)
-    (stepIn run 0) queries))
+    (checks.queries-number JudgeNumber (inl refl) (inr (inl (omega arith, omega arith)))
+    (inr (inl (omega arith, omega arith))) (run .k) (stepIn run 0) queries))
     (by (roundsOutcome run queries 0) refl))
   where
     by : (o : Outcome) → roundsOutcome run queries 0 ≡ o → JudgeNumber (numberOfOutcome o)
     by Done e = inl refl
-    by (Refused cause) e = inr (inl (omega (arith, refused-by-round run queries cause e), omega (arith, refused-by-round run queries cause e)))
+    by (Refused cause) e =
+        inr
+        (inl (omega (arith, refused-by-round run queries cause e), omega (arith, refused-by-round run queries cause e)))
 
 pub prover-number : (run : Run) → All IsElement (run .basis) → ProverNumber (numberOfOutcome (proveOutcome run))
 prover-number run h =
     number-then ProverNumber (runOutcome run) (degreeOutcome run)
-    (checks.run-number ProverNumber (inl refl) (λ n l u. inr (inl (l, omega arith))) (inr (inr (omega arith, omega arith))) run h)
+    (checks.run-number ProverNumber (inl refl) (λ n l u. inr (inl (l, omega arith)))
+    (inr (inr (omega arith, omega arith))) run h)
     (degree-number run ProverNumber (inl refl) (inr (inr (omega arith, omega arith))))
 
 pub only-numbers : OnlyNumbers

@@ -33,20 +33,23 @@ checks-not-11 : (run : Run) (queries : List ℕ) → numberOfOutcome (checksOutc
 checks-not-11 run queries =
     number-then (λ n. n ≢ 11) (runOutcome run) (queriesOutcome (run .k) (stepIn run 0) queries)
     (checks.early-not 11 (numberOfOutcome (runOutcome run)) (omega arith) (omega arith) (checks.run-early run))
-    (checks.queries-number (λ n. n ≢ 11) (ne-of-lt (omega arith)) (ne-of-lt (omega arith)) (ne-of-lt (omega arith)) (run .k)
-    (stepIn run 0) queries)
+    (checks.queries-number (λ n. n ≢ 11) (ne-of-lt (omega arith)) (ne-of-lt (omega arith))
+    (ne-of-lt (omega arith)) (run .k) (stepIn run 0) queries)
 
-round-refused : (run : Run) (queries : List ℕ) (query round : ℕ) → verdictOf run queries .answer ≡ answers.Refused (RoundCheckFails query round)
+round-refused : (run : Run) (queries : List ℕ) (query round : ℕ)
+    → verdictOf run queries .answer ≡ answers.Refused (RoundCheckFails query round)
     → (checksOutcome run queries ≡ Done) × FailsFirst run queries query round
 round-refused run queries query round e =
     ⊎-elim
-    (λ (h : checksOutcome run queries ≡ Refused (RoundCheckFails query round)). absurd (checks-not-11 run queries (ap numberOfOutcome h)))
+    (λ (h : checksOutcome run queries ≡ Refused (RoundCheckFails query round)).
+    absurd (checks-not-11 run queries (ap numberOfOutcome h)))
     (λ (h : (checksOutcome run queries ≡ Done) × (roundsOutcome run queries 0 ≡ Refused (RoundCheckFails query round))).
     (h .0, fails-of-refused run queries query round (h .1)))
     (verdicts.refused-which run queries (RoundCheckFails query round) e)
 
 -- a query's index in layer i + 1
-next-index : (run : Run) (j i : ℕ) → suc i ≤ roundsIn run → indexIn (stepsIn run) j (suc i) ≡ j / 2 ^ (run .step * suc i)
+next-index : (run : Run) (j i : ℕ) → suc i ≤ roundsIn run
+    → indexIn (stepsIn run) j (suc i) ≡ j / 2 ^ (run .step * suc i)
 next-index run j i h = laws.index-of-layer (run .k) (run .rate) (run .step) j (suc i) h
 
 computed : (run : Run) (j i : ℕ) → ValidCoset run → j < 2 ^ run .k → i < roundsIn run
@@ -64,8 +67,12 @@ round-checks =
       found = λ run j i h.
           found-entry run j i (j / 2 ^ (run .step * suc i)) h (next-index run j i (omega arith));
       found-last = λ run j i h. found-last run j i (j / 2 ^ (run .step * suc i)) h (next-index run j i (le-of-eq h));
-      accepted = λ run queries. (λ e. verdicts.accepted-checks run queries e, λ t. verdicts.accepted-by run queries (t .0) (t .1));
-      refused = λ run queries query round. (λ e. round-refused run queries query round e, λ t. verdicts.refused-by run queries query round (t .0) (t .1));
+      accepted = λ run queries.
+          (λ e. verdicts.accepted-checks run queries e, λ t. verdicts.accepted-by run queries (t .0) (t .1));
+      refused = λ run queries query round. (
+        λ e. round-refused run queries query round e,
+        λ t. verdicts.refused-by run queries query round (t .0) (t .1),
+      );
     }
 
 -- ---- reads
@@ -73,21 +80,32 @@ round-checks =
 told-accepted : (run : Run) (queries : List ℕ) → Accepted run queries
     → Tells (verdictOf run queries) 0 Absent Absent (length queries * roundsIn run * 2 ^ run .step)
 told-accepted run queries e =
-    let told = verdicts.accepted-checks run queries e in
-    (ap numberOfAnswer e, ap placeOfAnswer e, ap roundOfAnswer e, verdicts.reads-accepted run queries (told .0) (told .1))
+    let told = verdicts.accepted-checks run queries e in (
+      ap numberOfAnswer e,
+      ap placeOfAnswer e,
+      ap roundOfAnswer e,
+      verdicts.reads-accepted run queries (told .0) (told .1),
+    )
 
-told-refused : (run : Run) (queries : List ℕ) (query round : ℕ) → verdictOf run queries .answer ≡ answers.Refused (RoundCheckFails query round)
-    → Tells (verdictOf run queries) 11 (At query) (At round) (query * roundsIn run * 2 ^ run .step + min (round + 2) (roundsIn run) * 2 ^ run .step)
+told-refused : (run : Run) (queries : List ℕ) (query round : ℕ)
+    → verdictOf run queries .answer ≡ answers.Refused (RoundCheckFails query round)
+    → Tells (verdictOf run queries) 11 (At query) (At round)
+    (query * roundsIn run * 2 ^ run .step + min (round + 2) (roundsIn run) * 2 ^ run .step)
 told-refused run queries query round e =
-    let told = round-refused run queries query round e in
-    (ap numberOfAnswer e, ap placeOfAnswer e, ap roundOfAnswer e, verdicts.reads-refused run queries query round (told .0) (told .1))
+    let told = round-refused run queries query round e in (
+      ap numberOfAnswer e,
+      ap placeOfAnswer e,
+      ap roundOfAnswer e,
+      verdicts.reads-refused run queries query round (told .0) (told .1),
+    )
 
-no-reads : (run : Run) (queries : List ℕ) (cause : Cause) → verdictOf run queries .answer ≡ answers.Refused cause → numberOf cause ≢ 11
-    → verdictOf run queries .reads ≡ 0
+no-reads : (run : Run) (queries : List ℕ) (cause : Cause) → verdictOf run queries .answer ≡ answers.Refused cause
+    → numberOf cause ≢ 11 → verdictOf run queries .reads ≡ 0
 no-reads run queries cause e n =
     ⊎-elim
     (λ (h : checksOutcome run queries ≡ Refused cause). verdicts.refused-early run queries cause h .1)
-    (λ (h : (checksOutcome run queries ≡ Done) × (roundsOutcome run queries 0 ≡ Refused cause)). absurd (n (refused-by-round run queries cause (h .1))))
+    (λ (h : (checksOutcome run queries ≡ Done) × (roundsOutcome run queries 0 ≡ Refused cause)).
+    absurd (n (refused-by-round run queries cause (h .1))))
     (verdicts.refused-which run queries cause e)
 
 pub reads : Reads

@@ -17,12 +17,14 @@ use Rattle.fri.specs.declared.Answer.{Answer}
 use Rattle.fri.specs.declared.Answer.the-variants as answers
 use Rattle.fri.specs.Run.{Run, roundsIn, stepIn}
 use Rattle.fri.specs.Checks.{runOutcome, queriesOutcome}
-use Rattle.fri.specs.Judge.{checksOutcome, answerOf, readsAfter, verdictOf, numberOfAnswer, placeOfAnswer, roundOfAnswer}
+use Rattle.fri.specs.Judge.{checksOutcome, answerOf, readsAfter, verdictOf}
+use Rattle.fri.specs.Judge.{numberOfAnswer, placeOfAnswer, roundOfAnswer}
 use Rattle.fri.specs.Rounds.{roundsOutcome}
 use Rattle.fri.specs.Reads.{entriesRead}
 use Rattle.fri.specs.Demand.{Accepted, ValidQueries}
 use Rattle.fri.specs.Theorems.{PassesEveryRound, FailsFirst, Tells}
-use Rattle.fri.proofs.Rounds.{all-pass, pass-of-done, first-failing, read-all, read-until, entries-of-rounds, entries-until}
+use Rattle.fri.proofs.Rounds.{all-pass, pass-of-done, first-failing, read-all}
+use Rattle.fri.proofs.Rounds.{read-until, entries-of-rounds, entries-until}
 use Rattle.fri.proofs.Checks.{queries-valid, queries-pass}
 
 -- ---- an outcome as an answer
@@ -62,7 +64,9 @@ module _ (run : Run) (queries : List ℕ) where
       (both .0, pass-of-done run queries (both .1))
 
   pub accepted-by : checksOutcome run queries ≡ Done → AllPass → Accepted run queries
-  accepted-by l h = ap answerOf (sym (then-passed (checksOutcome run queries) (roundsOutcome run queries 0) l) ∙ all-pass run queries 0 h)
+  accepted-by l h =
+      ap answerOf
+      (sym (then-passed (checksOutcome run queries) (roundsOutcome run queries 0) l) ∙ all-pass run queries 0 h)
 
   pub reads-accepted : checksOutcome run queries ≡ Done → AllPass
       → verdictOf run queries .reads ≡ length queries * roundsIn run * 2 ^ run .step
@@ -73,18 +77,23 @@ module _ (run : Run) (queries : List ℕ) where
       ∙ sym (mul-assoc (length queries) (roundsIn run) (2 ^ run .step))
 
   pub accepted-verdict : checksOutcome run queries ≡ Done → AllPass
-      → verdictOf run queries ≡ record { answer = answers.Accepted; reads = length queries * roundsIn run * 2 ^ run .step }
-  accepted-verdict l h = ap₂ (λ (a : Answer) (n : ℕ). record { answer = a; reads = n }) (accepted-by l h) (reads-accepted l h)
+      → verdictOf run queries
+      ≡ record { answer = answers.Accepted; reads = length queries * roundsIn run * 2 ^ run .step }
+  accepted-verdict l h =
+      ap₂ (λ (a : Answer) (n : ℕ). record { answer = a; reads = n }) (accepted-by l h) (reads-accepted l h)
 
   -- ---- refused by a round check
 
-  pub refused-which : (cause : Cause) → verdictOf run queries .answer ≡ answers.Refused cause → Either (checksOutcome run queries) (roundsOutcome run queries 0) cause
-  refused-which cause e = which (checksOutcome run queries) (roundsOutcome run queries 0) cause (refused-of outcome cause e)
+  pub refused-which : (cause : Cause) → verdictOf run queries .answer ≡ answers.Refused cause
+      → Either (checksOutcome run queries) (roundsOutcome run queries 0) cause
+  refused-which cause e =
+      which (checksOutcome run queries) (roundsOutcome run queries 0) cause (refused-of outcome cause e)
 
   pub refused-by : (query round : ℕ) → checksOutcome run queries ≡ Done → FailsFirst run queries query round
       → verdictOf run queries .answer ≡ answers.Refused (RoundCheckFails query round)
   refused-by query round l f =
-      ap answerOf (sym (then-passed (checksOutcome run queries) (roundsOutcome run queries 0) l) ∙ first-failing run queries 0 query round f)
+      ap answerOf (sym (then-passed (checksOutcome run queries) (roundsOutcome run queries 0) l)
+      ∙ first-failing run queries 0 query round f)
       ∙ ap (λ (n : ℕ). answers.Refused (RoundCheckFails n round)) (zero-add query)
 
   pub reads-refused : (query round : ℕ) → checksOutcome run queries ≡ Done → FailsFirst run queries query round
@@ -106,7 +115,8 @@ module _ (run : Run) (queries : List ℕ) where
     ap (λ (o : Outcome). readsAfter o (entriesRead run queries)) e,
   )
 
-  pub told-early : (cause : Cause) → checksOutcome run queries ≡ Refused cause → Tells (verdictOf run queries) (numberOf cause) (placeOf cause) (roundOf cause) 0
+  pub told-early : (cause : Cause) → checksOutcome run queries ≡ Refused cause
+      → Tells (verdictOf run queries) (numberOf cause) (placeOf cause) (roundOf cause) 0
   told-early cause e =
       let both = refused-early cause e in
       (ap numberOfAnswer (both .0), ap placeOfAnswer (both .0), ap roundOfAnswer (both .0), both .1)

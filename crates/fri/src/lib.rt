@@ -1,5 +1,5 @@
-// The protocol over lists as definitions (specs/) and theorems about them (proofs/), demand 3 among them. The code here is
-// what a judging answers.
+// The protocol over lists as definitions (specs/) and theorems about them (proofs/), demand 3 among them.
+// The code here is what a judging answers.
 use refusal::Cause;
 
 // What a judging answers.

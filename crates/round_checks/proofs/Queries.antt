@@ -21,7 +21,8 @@ module _ (size : ℕ) (queries : List ℕ) (query : ℕ) where
   outside-none h = sym (ap (λ (l : List ℕ). firstOutside size l query) (drop-of-length-le queries h))
 
   one-by-one : query < length queries
-      → left ≡ cond (ltb (getD queries query 0) size) (firstOutside size (drop (suc query) queries) (suc query)) (At query)
+      → left
+      ≡ cond (ltb (getD queries query 0) size) (firstOutside size (drop (suc query) queries) (suc query)) (At query)
   unfolding firstOutside
   one-by-one h = ap (λ (l : List ℕ). firstOutside size l query) (drop-cons queries query 0 h)
 

@@ -69,13 +69,18 @@ module _ (step offset : ℕ) (basis word : List ℕ) (w : IsWord offset basis wo
 
   -- what is computed is the entry of the fold
   pub folded-entry : (x start next : ℕ) → IsElement x
-      → valueFolded step (roundOver step basis x start next) (queryPointAt offset basis index) (cosetEntries step word coset) ≡ foldEntry step offset basis word x coset
+      → valueFolded step (roundOver step basis x start next) (queryPointAt offset basis index)
+      (cosetEntries step word coset) ≡ foldEntry step offset basis word x coset
   folded-entry x start next hx =
-      ap₂ (λ (is ps : List ℕ). valueAt is (map (sum (sum x (sum (point offset basis index) (getD (padded gf64 8 span) between 0)))) ps) (cosetEntries step word coset))
-      (padded-taken 3 step (map inverse (stepElements step basis)) (padded gf64 3 (map inverse (stepElements step basis))) refl
+      ap₂ (λ (is ps : List ℕ).
+      valueAt is (map (sum (sum x (sum (point offset basis index) (getD (padded gf64 8 span) between 0)))) ps)
+      (cosetEntries step word coset))
+      (padded-taken 3 step (map inverse (stepElements step basis))
+      (padded gf64 3 (map inverse (stepElements step basis))) refl
       (length-map (stepElements step basis) inverse ∙ length-elements step basis fits))
       (padded-taken 8 (2 ^ step) span (padded gf64 8 span) refl (length-span step basis fits))
-      ∙ ap (λ (p : ℕ). valueAt (map inverse (stepElements step basis)) (map (sum (sum x p)) span) (cosetEntries step word coset)) first-point
+      ∙ ap (λ (p : ℕ). valueAt (map inverse (stepElements step basis)) (map (sum (sum x p)) span)
+      (cosetEntries step word coset)) first-point
       ∙ entry-of-moved step offset basis word x w hx fits coset coset-inside
 
   pub query-point-next : nextQueryPoint step (padded gf64 3 (stepElements step basis)) (queryPointAt offset basis index)

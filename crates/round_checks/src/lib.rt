@@ -111,8 +111,8 @@ impl Round {
         }
     }
 
-    // The fold of that coset, which has these entries. Its first point is the query's plus entry (index mod 2^step) of the span,
-    // by which the query's point differs from it.
+    // The fold of that coset, which has these entries. Its first point is the query's plus entry (index mod 2^step) of
+    // the span, by which the query's point differs from it.
     pub fn folded(self, step: usize, here: QueryPoint, part: &[u64]) -> Element
         requires { ⌜ (1 ≤ step) × (step ≤ 3) × (length (now part) ≡ 2 ^ step) ⌝ }
         ensures { λ r. ⌜ r .0 ≡ valueFolded step self here (now (part .entry)) ⌝ }

@@ -1,7 +1,8 @@
 -- On every sample the definitions give what the reference gives. proofs/Samples.antt has a value.
 use mathlib.Core.Path.{_≡_}
 use mathlib.Core.Bool.{true}
-use Rattle.samples.specs.Samples.{every, layoutAgrees, indexAgrees, cosetAgrees, lookupAgrees, judgedAgrees, provedAgrees}
+use Rattle.samples.specs.Samples.{every, layoutAgrees, indexAgrees, cosetAgrees}
+use Rattle.samples.specs.Samples.{lookupAgrees, judgedAgrees, provedAgrees}
 use Rattle.samples.specs.Rows as rows
 
 pub record Agreement : Type 0 where

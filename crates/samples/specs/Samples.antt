@@ -1,4 +1,5 @@
--- The forms of the samples, whose values the reference computes from document 01, and the tests that the definitions give the same.
+-- The forms of the samples, whose values the reference computes from document 01, and the tests that the
+-- definitions give the same.
 use mathlib.Core.Bool.{Bool, true, false, _&&_}
 use mathlib.Core.List.{List, [], _∷_}
 use Prim.Native.Nat.{ℕ, suc}
@@ -48,9 +49,11 @@ pub record LayoutSample : Type 0 where
 abbrev pub layoutAgrees : LayoutSample → Bool
 layoutAgrees row =
     let steps = stepsOf (row .k) (row .rate) (row .step) in
-    eqb (length steps) (row .rounds) && eqb (lastCount (row .k) (row .rate) steps) (row .lastCount) && eqb (storeLength (row .k) steps) (row .storeLength)
+    eqb (length steps) (row .rounds) && eqb (lastCount (row .k) (row .rate) steps) (row .lastCount)
+    && eqb (storeLength (row .k) steps) (row .storeLength)
     && same (tabulated (dimension (row .k) steps) 0 (suc (row .rounds))) (row .dimensions)
-    && same (tabulated (layerStart (row .k) steps) 1 (length (row .starts))) (row .starts) && eqb (suc (length (row .starts))) (row .rounds)
+    && same (tabulated (layerStart (row .k) steps) 1 (length (row .starts))) (row .starts)
+    && eqb (suc (length (row .starts))) (row .rounds)
 
 -- parameters and a query's index in layers 0 to r
 pub record IndexSample : Type 0 where
@@ -123,5 +126,6 @@ pub record ProvedSample : Type 0 where
 
 abbrev pub provedAgrees : ProvedSample → Bool
 provedAgrees row =
-    eqb (numberOfOutcome (proveOutcome (row .run))) (row .number) && samePosition (placeOfOutcome (proveOutcome (row .run))) (row .place)
+    eqb (numberOfOutcome (proveOutcome (row .run))) (row .number)
+    && samePosition (placeOfOutcome (proveOutcome (row .run))) (row .place)
     && same (storeAfter (row .run)) (row .store) && same (lastAfter (row .run)) (row .last)

@@ -34,7 +34,8 @@ use Rattle.transcript.proofs.Sections.{start-later}
 use Rattle.transcript.proofs.Checks.{section-tested, due-passes, due-done, parameters-done, layers-pass}
 use Rattle.transcript.proofs.Checks.{layers-done}
 
-test-then : (test : Bool) (cause : Cause) (after : Outcome) → andThen (refusedUnless test cause Done) after ≡ refusedUnless test cause after
+test-then : (test : Bool) (cause : Cause) (after : Outcome)
+    → andThen (refusedUnless test cause Done) after ≡ refusedUnless test cause after
 test-then true cause after = refl
 test-then false cause after = refl
 
@@ -70,13 +71,18 @@ module _ (bytes : List ℕ) where
   module _ (c : Carries bytes) where
     -- all sections end within the bytes
     inside : (s : ℕ) → 1 ≤ s → s ≤ layerSection r → sectionStart bytes (suc s) ≤ length bytes
-    inside s h l = le-trans (start-later bytes (suc s) (suc (layerSection r)) (omega arith) (omega arith)) (le-of-eq (c .ends))
+    inside s h l =
+        le-trans (start-later bytes (suc s) (suc (layerSection r)) (omega arith) (omega arith)) (le-of-eq (c .ends))
 
     pub rounds-some : 0 < r
-    rounds-some = some-round (transcriptK bytes) (transcriptRate bytes) (transcriptStep bytes) (c .parameters .step-least) (c .parameters .k-enough)
+    rounds-some =
+        some-round (transcriptK bytes) (transcriptRate bytes) (transcriptStep bytes) (c .parameters .step-least)
+        (c .parameters .k-enough)
 
     layer-sized : (i : ℕ) → i < r → length (layer i) ≡ 2 ^ dimension (transcriptK bytes) (transcriptSteps bytes) i
-    layer-sized i h = length-entries bytes (sectionStart bytes (layerSection i) + 4) (sectionCount bytes (layerSection i)) ∙ c .layer-counts i h
+    layer-sized i h =
+        length-entries bytes (sectionStart bytes (layerSection i) + 4) (sectionCount bytes (layerSection i))
+        ∙ c .layer-counts i h
 
     -- the lists that they carry have the lengths due
     pub fit : Fit (runIn bytes)
@@ -85,13 +91,17 @@ module _ (bytes : List ℕ) where
         record {
           basis =
               length-drop 1 (sectionEntries bytes 2)
-              ∙ ap (λ (n : ℕ). n - 1) (length-entries bytes (sectionStart bytes 2 + 4) (sectionCount bytes 2) ∙ c .coset-count) ∙ one-less;
+              ∙ ap (λ (n : ℕ). n - 1)
+              (length-entries bytes (sectionStart bytes 2 + 4) (sectionCount bytes 2) ∙ c .coset-count) ∙ one-less;
           challenges = length-entries bytes (sectionStart bytes 3 + 4) (sectionCount bytes 3) ∙ c .challenges-count;
           word = layer-sized 0 rounds-some;
           store =
-              joined-length (transcriptK bytes) (transcriptSteps bytes) layer (r - 1) (λ i least most. layer-sized i (omega (arith, rounds-some)))
+              joined-length (transcriptK bytes) (transcriptSteps bytes) layer (r - 1)
+              (λ i least most. layer-sized i (omega (arith, rounds-some)))
               ∙ ap (λ (n : ℕ). layerStart (transcriptK bytes) (transcriptSteps bytes) n) whole;
-          last = length-entries bytes (sectionStart bytes (layerSection r) + 4) (sectionCount bytes (layerSection r)) ∙ c .last-count;
+          last =
+              length-entries bytes (sectionStart bytes (layerSection r) + 4) (sectionCount bytes (layerSection r))
+              ∙ c .last-count;
         }
       where
         one-less : transcriptK bytes + 1 - 1 ≡ transcriptK bytes
@@ -104,20 +114,25 @@ module _ (bytes : List ℕ) where
     pub layer-is : (i : ℕ) → i < r → layerIn (runIn bytes) i ≡ layer i
     unfolding layerIn
     layer-is zero h = refl
-    layer-is (suc i) h = joined-found (transcriptK bytes) (transcriptSteps bytes) layer (r - 1) (λ j least most. layer-sized j (omega (arith, rounds-some))) (suc i) (omega arith) (omega (arith, rounds-some))
+    layer-is (suc i) h =
+        joined-found (transcriptK bytes) (transcriptSteps bytes) layer (r - 1)
+        (λ j least most. layer-sized j (omega (arith, rounds-some))) (suc i) (omega arith) (omega (arith, rounds-some))
 
     -- ---- the checks
 
     parameters-section : parametersSection bytes ≡ Done
     parameters-section =
-        sym (then-passed (dueOutcome bytes 1 3) (parametersOutcome (transcriptK bytes) (transcriptRate bytes) (transcriptStep bytes))
+        sym (then-passed (dueOutcome bytes 1 3)
+        (parametersOutcome (transcriptK bytes) (transcriptRate bytes) (transcriptStep bytes))
         (due-passes bytes 1 3 (omega arith) (c .parameters-count) (inside 1 (omega arith) (omega arith))))
         ∙ parameters-pass (transcriptK bytes) (transcriptRate bytes) (transcriptStep bytes) (c .parameters)
 
     coset-section : cosetSection bytes ≡ basesOutcome (transcriptSteps bytes) (runIn bytes .basis)
     coset-section =
-        sym (then-passed (dueOutcome bytes 2 (transcriptK bytes + 1)) (basesOutcome (transcriptSteps bytes) (runIn bytes .basis))
-        (due-passes bytes 2 (transcriptK bytes + 1) (omega arith) (c .coset-count) (inside 2 (omega arith) (omega arith))))
+        sym (then-passed (dueOutcome bytes 2 (transcriptK bytes + 1))
+        (basesOutcome (transcriptSteps bytes) (runIn bytes .basis))
+        (due-passes bytes 2 (transcriptK bytes + 1) (omega arith) (c .coset-count)
+        (inside 2 (omega arith) (omega arith))))
 
     challenges-section : challengesSection bytes ≡ Done
     challenges-section = due-passes bytes 3 r (omega arith) (c .challenges-count) (inside 3 (omega arith) (omega arith))
@@ -133,16 +148,20 @@ module _ (bytes : List ℕ) where
     front-is : frontOutcome bytes ≡ andThen (basesOutcome (transcriptSteps bytes) (runIn bytes .basis)) of-queries
     front-is =
         sym (then-passed (parametersSection bytes) (listsOutcome bytes) parameters-section)
-        ∙ ap₂ andThen coset-section (sym (then-passed (challengesSection bytes) (queriesSection bytes) challenges-section) ∙ queries-section)
+        ∙ ap₂ andThen coset-section
+        (sym (then-passed (challengesSection bytes) (queriesSection bytes) challenges-section) ∙ queries-section)
 
     layers-pass-all : layersOutcome bytes ≡ Done
     layers-pass-all =
         sym (then-passed (layersFrom bytes 0 r) (endOutcome bytes)
         (layers-pass bytes 0 r r (omega arith)
-        (λ j l m. due-passes bytes (layerSection j) (2 ^ dimension (transcriptK bytes) (transcriptSteps bytes) j) (omega arith) (c .layer-counts j m) (inside (layerSection j) (omega arith) (omega arith)))))
+        (λ j l m. due-passes bytes (layerSection j) (2 ^ dimension (transcriptK bytes) (transcriptSteps bytes) j)
+        (omega arith) (c .layer-counts j m) (inside (layerSection j) (omega arith) (omega arith)))))
         ∙ sym (then-passed (dueOutcome bytes (layerSection r) last-due) end
-        (due-passes bytes (layerSection r) last-due (omega arith) (c .last-count) (inside (layerSection r) (omega arith) (omega arith))))
-        ∙ sym (passed-by (eqb (sectionStart bytes (suc (layerSection r))) (length bytes)) TrailingBytes Done (eq-eqb (sectionStart bytes (suc (layerSection r))) (length bytes) (c .ends)))
+        (due-passes bytes (layerSection r) last-due (omega arith) (c .last-count)
+        (inside (layerSection r) (omega arith) (omega arith))))
+        ∙ sym (passed-by (eqb (sectionStart bytes (suc (layerSection r))) (length bytes)) TrailingBytes Done
+        (eq-eqb (sectionStart bytes (suc (layerSection r))) (length bytes) (c .ends)))
 
     -- the checks of the sections are those of the lists
     pub checks-are : transcriptOutcome bytes ≡ checksOutcome (runIn bytes) (queriesIn bytes)
@@ -153,7 +172,8 @@ module _ (bytes : List ℕ) where
       where
         lists : basesOutcome (transcriptSteps bytes) (runIn bytes .basis) ≡ runOutcome (runIn bytes)
         lists =
-            then-passed (lengthsOutcome (runIn bytes)) (basesOutcome (transcriptSteps bytes) (runIn bytes .basis)) (lengths-pass (runIn bytes) fit)
+            then-passed (lengthsOutcome (runIn bytes)) (basesOutcome (transcriptSteps bytes) (runIn bytes .basis))
+            (lengths-pass (runIn bytes) fit)
             ∙ then-passed (parametersOutcome (transcriptK bytes) (transcriptRate bytes) (transcriptStep bytes))
             (andThen (lengthsOutcome (runIn bytes)) (basesOutcome (transcriptSteps bytes) (runIn bytes .basis)))
             (parameters-pass (transcriptK bytes) (transcriptRate bytes) (transcriptStep bytes) (c .parameters))
@@ -164,10 +184,12 @@ module _ (bytes : List ℕ) where
   passed-carries done =
       let both = then-done (frontOutcome bytes) (layersOutcome bytes) done in
       let first = then-done (parametersSection bytes) (listsOutcome bytes) (both .0) in
-      let second = then-done (cosetSection bytes) (andThen (challengesSection bytes) (queriesSection bytes)) (first .1) in
+      let second = then-done (cosetSection bytes)
+      (andThen (challengesSection bytes) (queriesSection bytes)) (first .1) in
       let third = then-done (challengesSection bytes) (queriesSection bytes) (second .1) in
       let parameters = parameters-done bytes (first .0) in
-      let coset = then-done (dueOutcome bytes 2 (transcriptK bytes + 1)) (basesOutcome (transcriptSteps bytes) (runIn bytes .basis)) (second .0) in
+      let coset = then-done (dueOutcome bytes 2 (transcriptK bytes + 1))
+      (basesOutcome (transcriptSteps bytes) (runIn bytes .basis)) (second .0) in
       let layers = then-done (layersFrom bytes 0 r) (endOutcome bytes) (both .1) in
       let last = then-done (dueOutcome bytes (layerSection r) last-due) end (layers .1) in
       record {
@@ -176,11 +198,13 @@ module _ (bytes : List ℕ) where
         coset-count = due-done bytes 2 (transcriptK bytes + 1) (coset .0) .0;
         challenges-count = due-done bytes 3 r (third .0) .0;
         layer-counts =
-            λ i h. due-done bytes (layerSection i) (2 ^ dimension (transcriptK bytes) (transcriptSteps bytes) i) (layers-done bytes 0 r r (omega arith) (layers .0) i (omega arith) h) .0;
+            λ i h. due-done bytes (layerSection i) (2 ^ dimension (transcriptK bytes) (transcriptSteps bytes) i)
+            (layers-done bytes 0 r r (omega arith) (layers .0) i (omega arith) h) .0;
         last-count = due-done bytes (layerSection r) last-due (last .0) .0;
         ends =
             equal-of-test (sectionStart bytes (suc (layerSection r))) (length bytes)
-            (unless-done (eqb (sectionStart bytes (suc (layerSection r))) (length bytes)) TrailingBytes Done (last .1) .0);
+            (unless-done (eqb (sectionStart bytes (suc (layerSection r))) (length bytes))
+            TrailingBytes Done (last .1) .0);
       }
 
   -- and 1 to 256 queries

@@ -33,22 +33,27 @@ module _ (bytes : List ℕ) where
   entries-there s = refusedUnless (leb (sectionStart bytes (suc s)) (length bytes)) (BytesEnd s) Done
 
   -- its count is cut off, its count does not pass, its entries are cut off
-  pub count-cut : (s : ℕ) (test : Bool) (cause : Cause) → length bytes < sectionStart bytes s + 4 → Refused (BytesEnd s) ≡ sectionOutcome bytes s test cause
+  pub count-cut : (s : ℕ) (test : Bool) (cause : Cause) → length bytes < sectionStart bytes s + 4
+      → Refused (BytesEnd s) ≡ sectionOutcome bytes s test cause
   count-cut s test cause h =
-      refused-by (leb (sectionStart bytes s + 4) (length bytes)) (BytesEnd s) (refusedUnless test cause (entries-there s)) (lt-leb (sectionStart bytes s + 4) (length bytes) h)
+      refused-by (leb (sectionStart bytes s + 4) (length bytes)) (BytesEnd s)
+      (refusedUnless test cause (entries-there s)) (lt-leb (sectionStart bytes s + 4) (length bytes) h)
 
   count-there : (s : ℕ) (test : Bool) (cause : Cause) → sectionStart bytes s + 4 ≤ length bytes
       → refusedUnless test cause (entries-there s) ≡ sectionOutcome bytes s test cause
   count-there s test cause h =
-      passed-by (leb (sectionStart bytes s + 4) (length bytes)) (BytesEnd s) (refusedUnless test cause (entries-there s)) (le-leb (sectionStart bytes s + 4) (length bytes) h)
+      passed-by (leb (sectionStart bytes s + 4) (length bytes)) (BytesEnd s)
+      (refusedUnless test cause (entries-there s)) (le-leb (sectionStart bytes s + 4) (length bytes) h)
 
-  pub count-fails : (s : ℕ) (test : Bool) (cause : Cause) → sectionStart bytes s + 4 ≤ length bytes → test ≡ false → Refused cause ≡ sectionOutcome bytes s test cause
+  pub count-fails : (s : ℕ) (test : Bool) (cause : Cause) → sectionStart bytes s + 4 ≤ length bytes → test ≡ false
+      → Refused cause ≡ sectionOutcome bytes s test cause
   count-fails s test cause h e = refused-by test cause (entries-there s) e ∙ count-there s test cause h
 
-  pub entries-cut : (s : ℕ) (test : Bool) (cause : Cause) → sectionStart bytes s + 4 ≤ length bytes → test ≡ true → length bytes < sectionStart bytes (suc s)
-      → Refused (BytesEnd s) ≡ sectionOutcome bytes s test cause
+  pub entries-cut : (s : ℕ) (test : Bool) (cause : Cause) → sectionStart bytes s + 4 ≤ length bytes → test ≡ true
+      → length bytes < sectionStart bytes (suc s) → Refused (BytesEnd s) ≡ sectionOutcome bytes s test cause
   entries-cut s test cause h e l =
-      refused-by (leb (sectionStart bytes (suc s)) (length bytes)) (BytesEnd s) Done (lt-leb (sectionStart bytes (suc s)) (length bytes) l)
+      refused-by (leb (sectionStart bytes (suc s)) (length bytes)) (BytesEnd s) Done
+      (lt-leb (sectionStart bytes (suc s)) (length bytes) l)
       ∙ passed-by test cause (entries-there s) e ∙ count-there s test cause h
 
   -- where its bytes are there, the test alone decides
@@ -57,24 +62,30 @@ module _ (bytes : List ℕ) where
   section-tested s test cause h whole =
       sym (count-there s test cause (omega (arith, start-next bytes s h)))
       ∙ ap (refusedUnless test cause)
-      (sym (passed-by (leb (sectionStart bytes (suc s)) (length bytes)) (BytesEnd s) Done (le-leb (sectionStart bytes (suc s)) (length bytes) whole)))
+      (sym (passed-by (leb (sectionStart bytes (suc s)) (length bytes)) (BytesEnd s) Done
+      (le-leb (sectionStart bytes (suc s)) (length bytes) whole)))
 
-  pub section-passes : (s : ℕ) (test : Bool) (cause : Cause) → 1 ≤ s → test ≡ true → sectionStart bytes (suc s) ≤ length bytes → Done ≡ sectionOutcome bytes s test cause
+  pub section-passes : (s : ℕ) (test : Bool) (cause : Cause) → 1 ≤ s → test ≡ true
+      → sectionStart bytes (suc s) ≤ length bytes → Done ≡ sectionOutcome bytes s test cause
   section-passes s test cause h e whole = passed-by test cause Done e ∙ sym (section-tested s test cause h whole)
 
-  pub section-done : (s : ℕ) (test : Bool) (cause : Cause) → sectionOutcome bytes s test cause ≡ Done → (test ≡ true) × (sectionStart bytes (suc s) ≤ length bytes)
+  pub section-done : (s : ℕ) (test : Bool) (cause : Cause) → sectionOutcome bytes s test cause ≡ Done
+      → (test ≡ true) × (sectionStart bytes (suc s) ≤ length bytes)
   section-done s test cause e =
-      let first = unless-done (leb (sectionStart bytes s + 4) (length bytes)) (BytesEnd s) (refusedUnless test cause (entries-there s)) e in
+      let first = unless-done (leb (sectionStart bytes s + 4) (length bytes)) (BytesEnd s)
+      (refusedUnless test cause (entries-there s)) e in
       let second = unless-done test cause (entries-there s) (first .1) in
       let third = unless-done (leb (sectionStart bytes (suc s)) (length bytes)) (BytesEnd s) Done (second .1) in
       (second .0, le-of-test (sectionStart bytes (suc s)) (length bytes) (third .0))
 
-  pub due-passes : (s due : ℕ) → 1 ≤ s → sectionCount bytes s ≡ due → sectionStart bytes (suc s) ≤ length bytes → dueOutcome bytes s due ≡ Done
+  pub due-passes : (s due : ℕ) → 1 ≤ s → sectionCount bytes s ≡ due → sectionStart bytes (suc s) ≤ length bytes
+      → dueOutcome bytes s due ≡ Done
   due-passes s due h e whole =
       section-tested s (eqb (sectionCount bytes s) due) (CountDiffers s) h whole
       ∙ sym (passed-by (eqb (sectionCount bytes s) due) (CountDiffers s) Done (eq-eqb (sectionCount bytes s) due e))
 
-  pub due-done : (s due : ℕ) → dueOutcome bytes s due ≡ Done → (sectionCount bytes s ≡ due) × (sectionStart bytes (suc s) ≤ length bytes)
+  pub due-done : (s due : ℕ) → dueOutcome bytes s due ≡ Done
+      → (sectionCount bytes s ≡ due) × (sectionStart bytes (suc s) ≤ length bytes)
   due-done s due e =
       let both = section-done s (eqb (sectionCount bytes s) due) (CountDiffers s) e in
       (equal-of-test (sectionCount bytes s) due (both .0), both .1)
@@ -82,12 +93,17 @@ module _ (bytes : List ℕ) where
   -- ---- sections 1 to 4
 
   -- where section 1 passes, it has the three, in range
-  pub parameters-done : parametersSection bytes ≡ Done → (sectionCount bytes 1 ≡ 3) × ValidParameters (transcriptK bytes) (transcriptRate bytes) (transcriptStep bytes)
+  pub parameters-done : parametersSection bytes ≡ Done
+      → (sectionCount bytes 1 ≡ 3) × ValidParameters (transcriptK bytes) (transcriptRate bytes) (transcriptStep bytes)
   parameters-done e =
-      let both = then-done (dueOutcome bytes 1 3) (parametersOutcome (transcriptK bytes) (transcriptRate bytes) (transcriptStep bytes)) e in
-      (due-done 1 3 (both .0) .0, parameters-valid (transcriptK bytes) (transcriptRate bytes) (transcriptStep bytes) (both .1))
+      let both = then-done (dueOutcome bytes 1 3)
+      (parametersOutcome (transcriptK bytes) (transcriptRate bytes) (transcriptStep bytes)) e in (
+        due-done 1 3 (both .0) .0,
+        parameters-valid (transcriptK bytes) (transcriptRate bytes) (transcriptStep bytes) (both .1),
+      )
 
-  pub front-done : frontOutcome bytes ≡ Done → (sectionCount bytes 1 ≡ 3) × ValidParameters (transcriptK bytes) (transcriptRate bytes) (transcriptStep bytes)
+  pub front-done : frontOutcome bytes ≡ Done
+      → (sectionCount bytes 1 ≡ 3) × ValidParameters (transcriptK bytes) (transcriptRate bytes) (transcriptStep bytes)
   front-done e = parameters-done (then-done (parametersSection bytes) (listsOutcome bytes) e .0)
 
   -- ---- the layers
@@ -96,14 +112,17 @@ module _ (bytes : List ℕ) where
   size i = 2 ^ dimension (transcriptK bytes) (transcriptSteps bytes) i
 
   -- from layer i on, those before n
-  pub layers-pass : (i left n : ℕ) → i + left ≡ n → ((j : ℕ) → i ≤ j → j < n → dueOutcome bytes (layerSection j) (size j) ≡ Done) → layersFrom bytes i left ≡ Done
+  pub layers-pass : (i left n : ℕ) → i + left ≡ n
+      → ((j : ℕ) → i ≤ j → j < n → dueOutcome bytes (layerSection j) (size j) ≡ Done) → layersFrom bytes i left ≡ Done
   unfolding layersFrom
   layers-pass i zero n e pass = refl
   layers-pass i (suc left) n e pass =
-      sym (then-passed (dueOutcome bytes (layerSection i) (size i)) (layersFrom bytes (suc i) left) (pass i (omega arith) (omega arith)))
+      sym (then-passed (dueOutcome bytes (layerSection i) (size i)) (layersFrom bytes (suc i) left)
+      (pass i (omega arith) (omega arith)))
       ∙ layers-pass (suc i) left n (omega arith) (λ j l m. pass j (omega arith) m)
 
-  pub layers-done : (i left n : ℕ) → i + left ≡ n → layersFrom bytes i left ≡ Done → (j : ℕ) → i ≤ j → j < n → dueOutcome bytes (layerSection j) (size j) ≡ Done
+  pub layers-done : (i left n : ℕ) → i + left ≡ n → layersFrom bytes i left ≡ Done → (j : ℕ) → i ≤ j → j < n
+      → dueOutcome bytes (layerSection j) (size j) ≡ Done
   unfolding layersFrom
   layers-done i zero n e done j l m = absurd (omega arith)
   layers-done i (suc left) n e done j l m =

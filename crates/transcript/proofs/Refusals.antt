@@ -22,12 +22,15 @@ use Rattle.transcript.specs.Checks.{endOutcome, layersOutcome, transcrip
 
 -- what holds of 0 to 10 and of the bases' number holds of a transcript's
 module _ (P : ℕ → Type 0) (small : (n : ℕ) → n ≤ 10 → P n) (bytes : List ℕ) where
-  section-number : (s : ℕ) (test : Bool) (cause : Cause) → P (numberOf cause) → P (numberOfOutcome (sectionOutcome bytes s test cause))
+  section-number : (s : ℕ) (test : Bool) (cause : Cause) → P (numberOf cause)
+      → P (numberOfOutcome (sectionOutcome bytes s test cause))
   section-number s test cause p =
       number-unless P (leb (sectionStart bytes s + 4) (length bytes)) (BytesEnd s)
-      (refusedUnless test cause (refusedUnless (leb (sectionStart bytes (suc s)) (length bytes)) (BytesEnd s) Done)) (small 1 (omega arith))
+      (refusedUnless test cause (refusedUnless (leb (sectionStart bytes (suc s)) (length bytes)) (BytesEnd s) Done))
+      (small 1 (omega arith))
       (number-unless P test cause (refusedUnless (leb (sectionStart bytes (suc s)) (length bytes)) (BytesEnd s) Done) p
-      (number-unless P (leb (sectionStart bytes (suc s)) (length bytes)) (BytesEnd s) Done (small 1 (omega arith)) (small 0 (omega arith))))
+      (number-unless P (leb (sectionStart bytes (suc s)) (length bytes)) (BytesEnd s) Done (small 1 (omega arith))
+      (small 0 (omega arith))))
 
   due-number : (s due : ℕ) → P (numberOfOutcome (dueOutcome bytes s due))
   due-number s due = section-number s (eqb (sectionCount bytes s) due) (CountDiffers s) (small 2 (omega arith))
@@ -37,13 +40,15 @@ module _ (P : ℕ → Type 0) (small : (n : ℕ) → n ≤ 10 → P n) (bytes : 
   layers-number i zero = small 0 (omega arith)
   layers-number i (suc left) =
       let size = 2 ^ dimension (transcriptK bytes) (transcriptSteps bytes) i in
-      number-then P (dueOutcome bytes (layerSection i) size) (layersFrom bytes (suc i) left) (due-number (layerSection i) size) (layers-number (suc i) left)
+      number-then P (dueOutcome bytes (layerSection i) size) (layersFrom bytes (suc i) left)
+      (due-number (layerSection i) size) (layers-number (suc i) left)
 
   end-number : P (numberOfOutcome (endOutcome bytes))
   end-number =
       let last-due = lastCount (transcriptK bytes) (transcriptRate bytes) (transcriptSteps bytes) in
       let ends = eqb (sectionStart bytes (suc (layerSection (transcriptRounds bytes)))) (length bytes) in
-      number-then P (dueOutcome bytes (layerSection (transcriptRounds bytes)) last-due) (refusedUnless ends TrailingBytes Done) (due-number (layerSection (transcriptRounds bytes)) last-due)
+      number-then P (dueOutcome bytes (layerSection (transcriptRounds bytes)) last-due)
+      (refusedUnless ends TrailingBytes Done) (due-number (layerSection (transcriptRounds bytes)) last-due)
       (number-unless P ends TrailingBytes Done (small 3 (omega arith)) (small 0 (omega arith)))
 
   queries-number : P (numberOfOutcome (queriesSection bytes))
@@ -55,13 +60,19 @@ module _ (P : ℕ → Type 0) (small : (n : ℕ) → n ≤ 10 → P n) (bytes : 
       (section-number 4 counted QueryCountOutOfRange (small 9 (omega arith)))
       (indices-number P (small 0 (omega arith)) (small 10 (omega arith)) (transcriptK bytes) first (queriesIn bytes))
 
-  pub transcript-number : P (numberOfOutcome (basesOutcome (transcriptSteps bytes) (runIn bytes .basis))) → P (numberOfOutcome (transcriptOutcome bytes))
+  pub transcript-number : P (numberOfOutcome (basesOutcome (transcriptSteps bytes) (runIn bytes .basis)))
+      → P (numberOfOutcome (transcriptOutcome bytes))
   transcript-number bases =
       number-then P (frontOutcome bytes) (layersOutcome bytes)
       (number-then P (parametersSection bytes) (listsOutcome bytes)
-      (number-then P (dueOutcome bytes 1 3) (parametersOutcome (transcriptK bytes) (transcriptRate bytes) (transcriptStep bytes)) (due-number 1 3)
-      (parameters-number P (small 0 (omega arith)) (λ n l u. small n (omega arith)) (transcriptK bytes) (transcriptRate bytes) (transcriptStep bytes)))
+      (number-then P (dueOutcome bytes 1 3)
+      (parametersOutcome (transcriptK bytes) (transcriptRate bytes) (transcriptStep bytes)) (due-number 1 3)
+      (parameters-number P (small 0 (omega arith)) (λ n l u. small n (omega arith)) (transcriptK bytes)
+      (transcriptRate bytes) (transcriptStep bytes)))
       (number-then P (cosetSection bytes) (andThen (challengesSection bytes) (queriesSection bytes))
-      (number-then P (dueOutcome bytes 2 (transcriptK bytes + 1)) (basesOutcome (transcriptSteps bytes) (runIn bytes .basis)) (due-number 2 (transcriptK bytes + 1)) bases)
-      (number-then P (challengesSection bytes) (queriesSection bytes) (due-number 3 (transcriptRounds bytes)) queries-number)))
-      (number-then P (layersFrom bytes 0 (transcriptRounds bytes)) (endOutcome bytes) (layers-number 0 (transcriptRounds bytes)) end-number)
+      (number-then P (dueOutcome bytes 2 (transcriptK bytes + 1))
+      (basesOutcome (transcriptSteps bytes) (runIn bytes .basis)) (due-number 2 (transcriptK bytes + 1)) bases)
+      (number-then P (challengesSection bytes) (queriesSection bytes)
+      (due-number 3 (transcriptRounds bytes)) queries-number)))
+      (number-then P (layersFrom bytes 0 (transcriptRounds bytes)) (endOutcome bytes)
+      (layers-number 0 (transcriptRounds bytes)) end-number)

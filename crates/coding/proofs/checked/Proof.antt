@@ -19,7 +19,8 @@ returns-2 c =
 returns-3 : tie.Need-returns-3
 returns-3 c =
     let a = c .before .before .before .before .args in
-    list6-refused (a .basis .now) (a .fits3) (a .fits6) (c .before .before .if1 .left) (not-false (a .fits3) (c .before .if2 .left)) (not-true (a .fits6) (c .if3 .taken))
+    list6-refused (a .basis .now) (a .fits3) (a .fits6) (c .before .before .if1 .left)
+    (not-false (a .fits3) (c .before .if2 .left)) (not-true (a .fits6) (c .if3 .taken))
 
 checked-basis-requires : tie.Need-checked-basis-requires
 checked-basis-requires c κs = search needs
@@ -28,7 +29,8 @@ returns-4 : tie.Need-returns-4
 returns-4 c =
     let a = c .before .before .before .before .before .args in
     c .checked-basis .ensures
-    ∙ basis-looked-at (a .basis .now) (a .fits3) (a .fits6) (c .before .before .before .if1 .left) (not-false (a .fits3) (c .before .before .if2 .left)) (not-false (a .fits6) (c .before .if3 .left))
+    ∙ basis-looked-at (a .basis .now) (a .fits3) (a .fits6) (c .before .before .before .if1 .left)
+    (not-false (a .fits3) (c .before .before .if2 .left)) (not-false (a .fits6) (c .before .if3 .left))
 
 pub checked-spec : {M : Type 1} → statement M
 checked-spec = tie.close (tie.spec returns returns-2 returns-3 checked-basis-requires returns-4)

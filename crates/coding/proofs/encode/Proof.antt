@@ -1,4 +1,5 @@
--- `coding::encode` meets its contract: where all checks pass the values are filled in, else nothing is written. Assumes nothing.
+-- `coding::encode` meets its contract: where all checks pass the values are filled in, else nothing is
+-- written. Assumes nothing.
 use mathlib.Core.Path.{_≡_, _∙_}
 use Prim.Native.Nat.{_^_}
 use lib.ListN.{length}
@@ -26,7 +27,10 @@ fill-values-requires c κs =
     let done : c .before .before .before .checked .result ≡ Done = search needs in
     let a = c .before .before .before .before .before .before .before .before .args in
     let size = 2 ^ length (a .basis .now) in
-    let all = passed (a .basis .now) (leb (length (a .coefficients .now)) size) (eqb (length (a .values .now)) size) (answered-by-size (a .basis .now) (leb (length (a .coefficients .now))) (eqb (length (a .values .now))) (c .before .before .before .before .size-of .result) (c .before .before .before .checked .result) (c .before .before .before .before .size-of .ensures) (c .before .before .before .checked .ensures) ∙ done) in
+    let all = passed (a .basis .now) (leb (length (a .coefficients .now)) size) (eqb (length (a .values .now)) size)
+    (answered-by-size (a .basis .now) (leb (length (a .coefficients .now))) (eqb (length (a .values .now)))
+    (c .before .before .before .before .size-of .result) (c .before .before .before .checked .result)
+    (c .before .before .before .before .size-of .ensures) (c .before .before .before .checked .ensures) ∙ done) in
     (all .small, equal-of-test (length (a .values .now)) size (all .list6))
 
 enum-known-outcome : tie.Need-enum-known-outcome
@@ -39,15 +43,25 @@ returns : tie.Need-returns
 returns c =
     let done : c .before .before .before .before .before .before .checked .result ≡ Done = search needs in
     let a = c .before .before .before .before .before .before .before .before .before .before .before .args in
-    done-both (encodeOutcome (a .basis .now) (a .coefficients .now) (a .values .now)) (encoded (a .offset .0) (a .basis .now) (a .coefficients .now)) (a .values .now) (c .before .before .fill-values .last .1 .1 .1 .0)
-    (answered-by-size (a .basis .now) (leb (length (a .coefficients .now))) (eqb (length (a .values .now))) (c .before .before .before .before .before .before .before .size-of .result) (c .before .before .before .before .before .before .checked .result) (c .before .before .before .before .before .before .before .size-of .ensures) (c .before .before .before .before .before .before .checked .ensures) ∙ done)
+    done-both (encodeOutcome (a .basis .now) (a .coefficients .now) (a .values .now))
+    (encoded (a .offset .0) (a .basis .now) (a .coefficients .now)) (a .values .now)
+    (c .before .before .fill-values .last .1 .1 .1 .0)
+    (answered-by-size (a .basis .now) (leb (length (a .coefficients .now)))
+    (eqb (length (a .values .now))) (c .before .before .before .before .before .before .before .size-of .result)
+    (c .before .before .before .before .before .before .checked .result)
+    (c .before .before .before .before .before .before .before .size-of .ensures)
+    (c .before .before .before .before .before .before .checked .ensures) ∙ done)
     (c .before .before .fill-values .ensures)
 
 returns-2 : tie.Need-returns-2
 returns-2 c =
     let a = c .before .before .before .before .before .before .before .before .args in
-    refused-both (encodeOutcome (a .basis .now) (a .coefficients .now) (a .values .now)) (c .before .outcome .given .0 .0) (encoded (a .offset .0) (a .basis .now) (a .coefficients .now)) (a .values .now)
-    (answered-by-size (a .basis .now) (leb (length (a .coefficients .now))) (eqb (length (a .values .now))) (c .before .before .before .before .size-of .result) (c .before .before .before .checked .result) (c .before .before .before .before .size-of .ensures) (c .before .before .before .checked .ensures) ∙ c .before .outcome .given .1)
+    refused-both (encodeOutcome (a .basis .now) (a .coefficients .now) (a .values .now))
+    (c .before .outcome .given .0 .0) (encoded (a .offset .0) (a .basis .now) (a .coefficients .now)) (a .values .now)
+    (answered-by-size (a .basis .now) (leb (length (a .coefficients .now))) (eqb (length (a .values .now)))
+    (c .before .before .before .before .size-of .result) (c .before .before .before .checked .result)
+    (c .before .before .before .before .size-of .ensures) (c .before .before .before .checked .ensures)
+    ∙ c .before .outcome .given .1)
 
 pub encode-spec : {M : Type 1} → statement M
 encode-spec =

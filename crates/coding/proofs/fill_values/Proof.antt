@@ -1,5 +1,5 @@
--- `coding::fill_values` meets its contract. The loop's invariant: j values are filled in, the others as they were, and x is point j.
--- Assumes nothing.
+-- `coding::fill_values` meets its contract. The loop's invariant: j values are filled in, the others as they were,
+-- and x is point j. Assumes nothing.
 use mathlib.Core.Path.{_≡_, refl, sym, ap, _∙_}
 use mathlib.Core.List.{List}
 use Prim.Native.Nat.{ℕ, _+_, _-_, _≤_, _<_}
@@ -21,7 +21,8 @@ use Rattle.coding.proofs.fill_values.Tie as tie
 
 abbrev Inv-loop : tie.InvT-loop
 Inv-loop basis coefficients values₀ sums x₀ j₀ values x j =
-    (j ≤ length values₀) × (values ≡ filled (encoded (x₀ .0) basis coefficients) values₀ j) × (length values ≡ length values₀)
+    (j ≤ length values₀) × (values ≡ filled (encoded (x₀ .0) basis coefficients) values₀ j)
+    × (length values ≡ length values₀)
     × (j < length values₀ → x .0 ≡ point (x₀ .0) basis j)
 
 abbrev μ-loop : tie.MeasureT-loop
@@ -68,14 +69,18 @@ loop-again c =
     let inside : l .j < length (a .values .now) = omega (arith, l .inv .2) in (
       search needs,
       ap (λ (held : List ℕ). set held (l .j) (c .before .before .evaluate .result .0)) (l .inv .1)
-          ∙ filled-next (encoded (a .offset .0) (a .basis .now) (a .coefficients .now)) (a .values .now) (l .j) (c .before .before .evaluate .result .0) inside
+          ∙ filled-next (encoded (a .offset .0) (a .basis .now) (a .coefficients .now)) (a .values .now) (l .j)
+          (c .before .before .evaluate .result .0) inside
           (length-encoded (a .offset .0) (a .basis .now) (a .coefficients .now) ∙ sym (start .pre .1))
           (c .before .before .evaluate .ensures ∙ ap (evaluate gf64 (a .coefficients .now)) (l .inv .3 inside)
-          ∙ sym (encoded-getD (a .offset .0) (a .basis .now) (a .coefficients .now) (l .j) (omega (arith, start .pre .1)))),
+          ∙ sym
+          (encoded-getD (a .offset .0) (a .basis .now) (a .coefficients .now) (l .j) (omega (arith, start .pre .1)))),
       length-set (l .values) (l .j) (c .before .before .evaluate .result .0) ∙ l .inv .2,
       λ h. c .stepped .ensures
-          ∙ ap (λ (sums : List ℕ). sum (l .x .0) (getD sums (trailingZeros 64 (l .j + 1)) 0)) (c .before .before .before .before .before .prefix-sums .ensures)
-          ∙ point-stepped (a .offset .0) (a .basis .now) (l .j) (l .x .0) (omega (arith, start .pre .0)) (l .inv .3 inside) (omega (arith, start .pre .1)),
+          ∙ ap (λ (sums : List ℕ). sum (l .x .0) (getD sums (trailingZeros 64 (l .j + 1)) 0))
+          (c .before .before .before .before .before .prefix-sums .ensures)
+          ∙ point-stepped (a .offset .0) (a .basis .now) (l .j) (l .x .0) (omega (arith, start .pre .0))
+          (l .inv .3 inside) (omega (arith, start .pre .1)),
     )
 
 same-length : tie.Need-same-length Inv-loop μ-loop
@@ -87,7 +92,8 @@ returns c =
     let a = start .args in
     let l = c .before .loop in
     l .inv .1
-    ∙ filled-all (encoded (a .offset .0) (a .basis .now) (a .coefficients .now)) (a .values .now) (l .j) (omega (arith, l .inv .2))
+    ∙ filled-all (encoded (a .offset .0) (a .basis .now) (a .coefficients .now)) (a .values .now) (l .j)
+    (omega (arith, l .inv .2))
     (length-encoded (a .offset .0) (a .basis .now) (a .coefficients .now) ∙ sym (start .pre .1))
 
 pub fill-values-spec : {M : Type 1} → statement M

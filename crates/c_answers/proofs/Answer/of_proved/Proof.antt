@@ -17,15 +17,28 @@ returns c =
     let o = c .before .before .before .args .outcome in
     let same = c .before .before .of-outcome .ensures in
     same
-    ∙ ap (λ (t : Bool). record { number = numberOfOutcome o; place = orNone (placeOfOutcome o); round = orNone (roundOfOutcome o); reads = 0; value = cond t (orNone (placeOfOutcome o)) none })
+    ∙ ap (λ (t : Bool). record {
+      number = numberOfOutcome o;
+      place = orNone (placeOfOutcome o);
+      round = orNone (roundOfOutcome o);
+      reads = 0;
+      value = cond t (orNone (placeOfOutcome o)) none;
+    })
     (sym (ne-eqb (numberOfOutcome o) 12 (λ e. c .if1 .taken (ap (λ (x : Answer). x .number) same ∙ e))))
 
 returns-2 : tie.Need-returns-2
 returns-2 c =
     let o = c .before .before .before .args .outcome in
     let same = c .before .before .of-outcome .ensures in
-    ap (λ (x : Answer). record { number = x .number; place = x .place; round = x .round; reads = x .reads; value = x .place }) same
-    ∙ ap (λ (t : Bool). record { number = numberOfOutcome o; place = orNone (placeOfOutcome o); round = orNone (roundOfOutcome o); reads = 0; value = cond t (orNone (placeOfOutcome o)) none })
+    ap (λ (x : Answer).
+    record { number = x .number; place = x .place; round = x .round; reads = x .reads; value = x .place }) same
+    ∙ ap (λ (t : Bool). record {
+      number = numberOfOutcome o;
+      place = orNone (placeOfOutcome o);
+      round = orNone (roundOfOutcome o);
+      reads = 0;
+      value = cond t (orNone (placeOfOutcome o)) none;
+    })
     (sym (eq-eqb (numberOfOutcome o) 12 (sym (ap (λ (x : Answer). x .number) same) ∙ c .if1 .left)))
 
 pub of-proved-spec : {M : Type 1} → statement M

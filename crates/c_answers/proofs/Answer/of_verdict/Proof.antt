@@ -22,11 +22,16 @@ of-cause-requires c κs = search needs
 returns : tie.Need-returns
 returns c =
     let accepted : c .before .before .before .args .verdict .answer ≡ answers.Accepted = search needs in
-    c .of-value .ensures ∙ ap (λ (x : judged.Answer). answerOfVerdict (record { answer = x; reads = c .before .before .before .args .verdict .reads })) (sym accepted)
+    c .of-value .ensures
+    ∙ ap (λ (x : judged.Answer).
+    answerOfVerdict (record { answer = x; reads = c .before .before .before .args .verdict .reads })) (sym accepted)
 
 returns-2 : tie.Need-returns-2
 returns-2 c =
-    c .of-cause .ensures ∙ ap (λ (x : judged.Answer). answerOfVerdict (record { answer = x; reads = c .before .before .before .before .args .verdict .reads })) (sym (c .before .before .answer .given .1))
+    c .of-cause .ensures
+    ∙ ap (λ (x : judged.Answer).
+    answerOfVerdict (record { answer = x; reads = c .before .before .before .before .args .verdict .reads }))
+    (sym (c .before .before .answer .given .1))
 
 pub of-verdict-spec : {M : Type 1} → statement M
 of-verdict-spec =

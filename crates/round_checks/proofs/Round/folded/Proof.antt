@@ -101,7 +101,8 @@ returns c =
     let size = size-is (a .step) (start .pre .1) in
     let first = c .before .before .before .before .sum in
     c .value-at .ensures
-    ∙ ap (λ (r : Coset). valueAt inverses (map (sum x) (numbers (r .points))) (numbers (r .entries))) (c .before .before .read .ensures)
+    ∙ ap (λ (r : Coset). valueAt inverses (map (sum x) (numbers (r .points))) (numbers (r .entries)))
+    (c .before .before .read .ensures)
     ∙ value-read inverses x (take (sizeOf (a .step)) (a .self .span)) (first .result .0) (a .part .now)
     (points-fit start) (at-most-eight start)
     ∙ ap₂ (λ (p n : ℕ). valueAt inverses (map (sum (sum x p)) (take n (a .self .span))) (a .part .now))
