@@ -14,9 +14,9 @@ abbrev pub wideOf : (w : Wide) → ℕ
 wideOf w = w .high * 2 ^ 64 + w .low
 
 -- entry n is n · a, for the sixteen polynomials n of four bits
-pub record Multiples (a : ℕ) (t : List ℕ) : Type 0 where
+pub record Multiples (a : ℕ) (table : List ℕ) : Type 0 where
   pub short : a < 2 ^ 32
-  pub at : (n : ℕ) → n < 2 ^ 4 → getD t n 0 ≡ carryless n a
+  pub at : (n : ℕ) → n < 2 ^ 4 → getD table n 0 ≡ carryless n a
 
 -- the sums of the products of x and y by a₀ and a₁
 pub record Sums (a₀ a₁ x y : ℕ) (p : Products) : Type 0 where
@@ -25,8 +25,9 @@ pub record Sums (a₀ a₁ x y : ℕ) (p : Products) : Type 0 where
   pub high : p .high ≡ carryless x a₁
 
 -- what is answered from two tables of multiples
-abbrev pub ProductsBy : (t u : List ℕ) (x y : ℕ) (p : Products) → Type 0
-ProductsBy t u x y p = (a₀ a₁ : ℕ) → Multiples a₀ t → Multiples a₁ u → Sums a₀ a₁ x y p
+abbrev pub ProductsBy : (table₀ table₁ : List ℕ) (x y : ℕ) (p : Products) → Type 0
+ProductsBy table₀ table₁ x y p =
+    (a₀ a₁ : ℕ) → Multiples a₀ table₀ → Multiples a₁ table₁ → Sums a₀ a₁ x y p
 
 -- v shifted up in 64 bits, and w
 abbrev pub shiftedSum : (v shift w : ℕ) → ℕ
