@@ -23,16 +23,16 @@ abbrev pub none : ℕ
 none = 2 ^ 64 - 1
 
 -- a place or a round is far below 2^64 - 1, being a small number, a degree or an index of a list
-abbrev pub orNone : Position → ℕ
+abbrev pub orNone : (position : Position) → ℕ
 orNone (At n) = n
 orNone Absent = none
 
 -- it went well: `value` where the operation gives one, which may be any number, and `none` where it gives none
-abbrev pub answerOfValue : ℕ → ℕ → Answer
+abbrev pub answerOfValue : (reads value : ℕ) → Answer
 answerOfValue reads value = record { number = 0; place = none; round = none; reads = reads; value = value }
 
 -- it was refused: `reads` is 0 unless a round check failed
-abbrev pub answerOfCause : Cause → ℕ → Answer
+abbrev pub answerOfCause : (cause : Cause) (reads : ℕ) → Answer
 answerOfCause cause reads =
     record {
       number = numberOf cause;
@@ -43,12 +43,12 @@ answerOfCause cause reads =
     }
 
 -- the answer of an inversion, which reads nothing
-abbrev pub answerOfInverted : Inverted → Answer
+abbrev pub answerOfInverted : (inverted : Inverted) → Answer
 answerOfInverted (Value x) = answerOfValue 0 (x .0)
 answerOfInverted (Refused cause) = answerOfCause cause 0
 
 -- the answer of a fold, whose value is the next offset; only a judge counts reads
-abbrev pub answerOfFolded : Folded → Answer
+abbrev pub answerOfFolded : (folded : Folded) → Answer
 answerOfFolded folded =
     record {
       number = numberOfFolded folded;
@@ -59,7 +59,7 @@ answerOfFolded folded =
     }
 
 -- the answer of an operation that reads nothing and gives no value
-abbrev pub answerOfOutcome : Outcome → Answer
+abbrev pub answerOfOutcome : (outcome : Outcome) → Answer
 answerOfOutcome outcome =
     record {
       number = numberOfOutcome outcome;
@@ -70,7 +70,7 @@ answerOfOutcome outcome =
     }
 
 -- the answer of the prover: the degree that number 12 tells is its value too
-abbrev pub answerOfProved : Outcome → Answer
+abbrev pub answerOfProved : (outcome : Outcome) → Answer
 answerOfProved outcome =
     record {
       number = numberOfOutcome outcome;
@@ -81,11 +81,11 @@ answerOfProved outcome =
     }
 
 -- the answer of the layer lookup: where the part begins and how long it is
-abbrev pub answerOfPart : Part → Answer
+abbrev pub answerOfPart : (part : Part) → Answer
 answerOfPart part = record { number = 0; place = part .start; round = none; reads = 0; value = part .length }
 
 -- the answer of a judging, with the entries read
-abbrev pub answerOfVerdict : Verdict → Answer
+abbrev pub answerOfVerdict : (verdict : Verdict) → Answer
 answerOfVerdict verdict =
     record {
       number = numberOfAnswer (verdict .answer);
@@ -96,14 +96,14 @@ answerOfVerdict verdict =
     }
 
 -- number, place, round, reads, value
-abbrev pub numbersOf : Answer → List ℕ
+abbrev pub numbersOf : (a : Answer) → List ℕ
 numbersOf a = a .number ∷ a .place ∷ a .round ∷ a .reads ∷ a .value ∷ []
 
 -- what the lent list holds afterwards: the five numbers, or what it held where its length is not 5
-abbrev pub answered : Answer → List ℕ → List ℕ
+abbrev pub answered : (a : Answer) (lent : List ℕ) → List ℕ
 answered a lent = cond (eqb (length lent) 5) (numbersOf a) lent
 
 -- what another lent list holds afterwards: what the operation leaves there, or what it held where the answer's list
 -- has not length 5
-abbrev pub whereAnswered : List ℕ → List ℕ → List ℕ → List ℕ
+abbrev pub whereAnswered : (lent left held : List ℕ) → List ℕ
 whereAnswered lent left held = cond (eqb (length lent) 5) left held

@@ -11,8 +11,8 @@ use Rattle.fri.specs.declared.Answer.the-variants as answers
 use Rattle.fri.specs.Lookup.{layerPart}
 use Rattle.layout.specs.declared.Parameters.{Parameters}
 use Rattle.layout.specs.Parts.{partOf}
-use Rattle.c_answers.specs.Answers.{none, numbersOf, answerOfFolded}
-use Rattle.c_answers.specs.Answers.{answerOfProved, answerOfPart, answerOfVerdict}
+use Rattle.c_answers.specs.Answers.{none, numbersOf, answerOfFolded, answerOfProved, answerOfPart}
+use Rattle.c_answers.specs.Answers.{answerOfVerdict}
 
 pub record FoldNumbers : Type 0 where
   pub done : numbersOf (answerOfFolded (NextOffset (record { 0 = 0x48 }))) ≡ 0 ∷ none ∷ none ∷ 0 ∷ 0x48 ∷ []
@@ -32,6 +32,5 @@ pub record RunNumbers : Type 0 where
       ≡ 11 ∷ 1 ∷ 0 ∷ 4 ∷ none ∷ []
   -- as many entries as the value says, from the place on, are what the lookup hands back
   pub part : (p : Parameters) (store : List ℕ) (i : ℕ)
-      → take (answerOfPart (partOf p (length store) i) .value)
-      (drop (answerOfPart (partOf p (length store) i) .place) store)
+      → (let answer = answerOfPart (partOf p (length store) i) in take (answer .value) (drop (answer .place) store))
       ≡ layerPart (p .k) (p .rate) (p .step) store i

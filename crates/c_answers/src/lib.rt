@@ -8,9 +8,9 @@ use refusal::Outcome;
 use refusal::Position;
 ghost use mathlib.Core.Path.{_≡_};
 ghost use lib.ListN.{length};
-ghost use Rattle.c_answers.specs.Answers.{orNone, answerOfValue, answerOfCause, answerOfInverted};
-ghost use Rattle.c_answers.specs.Answers.{answerOfFolded, answerOfOutcome, answerOfProved};
-ghost use Rattle.c_answers.specs.Answers.{answerOfPart, answerOfVerdict, numbersOf};
+ghost use Rattle.c_answers.specs.Answers.{orNone, answerOfValue, answerOfCause, answerOfInverted, answerOfFolded};
+ghost use Rattle.c_answers.specs.Answers.{answerOfOutcome, answerOfProved, answerOfPart, answerOfVerdict};
+ghost use Rattle.c_answers.specs.Answers.{numbersOf};
 
 // The five numbers of an answer.
 pub struct Answer {
@@ -24,8 +24,8 @@ pub struct Answer {
 // Number 12, which tells a degree.
 const DEGREE_TOO_LARGE: u64 = 12;
 
-// Stands for a place, a round or a value that there is none of.
-const NONE: u64 = 18446744073709551615;
+// Stands for a place, a round or a value that there is none of: 2^64 - 1.
+const NONE: u64 = 0xffffffffffffffff;
 
 fn or_none(p: Position) -> u64
     ensures { λ r. ⌜ r ≡ orNone p ⌝ }

@@ -21,17 +21,17 @@ of-cause-requires c κs = search needs
 
 returns : tie.Need-returns
 returns c =
-    let accepted : c .before .before .before .args .verdict .answer ≡ answers.Accepted = search needs in
+    let verdict = c .before .before .before .args .verdict in
+    let accepted : verdict .answer ≡ answers.Accepted = search needs in
     c .of-value .ensures
-    ∙ ap (λ (x : judged.Answer).
-    answerOfVerdict (record { answer = x; reads = c .before .before .before .args .verdict .reads })) (sym accepted)
+    ∙ ap (λ (x : judged.Answer). answerOfVerdict (record { answer = x; reads = verdict .reads })) (sym accepted)
 
 returns-2 : tie.Need-returns-2
 returns-2 c =
+    let verdict = c .before .before .before .before .args .verdict in
+    let refused = c .before .before .answer .given .1 in
     c .of-cause .ensures
-    ∙ ap (λ (x : judged.Answer).
-    answerOfVerdict (record { answer = x; reads = c .before .before .before .before .args .verdict .reads }))
-    (sym (c .before .before .answer .given .1))
+    ∙ ap (λ (x : judged.Answer). answerOfVerdict (record { answer = x; reads = verdict .reads })) (sym refused)
 
 pub of-verdict-spec : {M : Type 1} → statement M
 of-verdict-spec =
