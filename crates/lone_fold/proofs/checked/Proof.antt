@@ -1,6 +1,7 @@
 -- `lone_fold::checked` meets its contract: the checks are made in the definition's order. Assumes nothing.
 use mathlib.Core.Path.{_≡_, sym, _∙_}
 use lib.ListN.{length}
+use Rattle.refusal.specs.declared.Outcome.{Outcome}
 use Rattle.refusal.specs.declared.Outcome.the-variants.{Done}
 use Rattle.refusal.specs.Checks.{andThen}
 use Rattle.refusal.proofs.Checks.{then-passed, then-refused}
@@ -11,6 +12,42 @@ use native.Mathlib.Omega.{arith}
 use Rattle.lone_fold.proofs.checked.Statement.{statement}
 use Rattle.lone_fold.proofs.checked.Tie as tie
 
+-- where the list is known
+abbrev start-of : tie.After-checked-ranges → tie.Start
+start-of c = c .before .before
+
+-- what the checks of ranges, lengths and bases give
+abbrev ranges-of : tie.After-checked-ranges → Outcome
+ranges-of c = let a = start-of c .args in foldRangesOutcome (a .k) (a .step)
+
+abbrev lengths-of : tie.After-checked-ranges → Outcome
+lengths-of c =
+    let a = start-of c .args in
+    foldLengthsOutcome (a .k) (a .step) (length (a .basis .now)) (a .length3) (a .length6) (a .length7)
+
+abbrev bases-of : tie.After-checked-ranges → Outcome
+bases-of c = let a = start-of c .args in foldBasesOutcome (a .step) (a .basis .now)
+
+-- k and the step are in range
+abbrev RangesPass : tie.After-enum-told → Type 0
+RangesPass c = ranges-of (c .before .before) ≡ Done
+
+ranges-pass : (c : tie.After-enum-told) → RangesPass c
+ranges-pass c =
+    let ranges = c .before .before .checked-ranges in
+    let done : ranges .result ≡ Done = search needs in
+    sym (ranges .ensures) ∙ done
+
+-- the lists have the lengths due
+abbrev LengthsPass : tie.After-enum-told2 → Type 0
+LengthsPass c = lengths-of (c .before .before .before .before .before) ≡ Done
+
+lengths-pass : (c : tie.After-enum-told2) → LengthsPass c
+lengths-pass c =
+    let lengths = c .before .before .checked-lengths in
+    let done : lengths .result ≡ Done = search needs in
+    sym (lengths .ensures) ∙ done
+
 checked-ranges-requires : tie.Need-checked-ranges-requires
 checked-ranges-requires c κs = search needs
 
@@ -19,9 +56,8 @@ enum-told c = search needs
 
 checked-lengths-requires : tie.Need-checked-lengths-requires
 checked-lengths-requires c κs =
-    let a = c .before .before .before .before .args in
-    let done : c .before .before .checked-ranges .result ≡ Done = search needs in
-    let ranges = in-range (a .k) (a .step) (sym (c .before .before .checked-ranges .ensures) ∙ done) in
+    let a = start-of (c .before .before) .args in
+    let ranges = in-range (a .k) (a .step) (ranges-pass c) in
     (ranges .at-most-20, ranges .step-fits)
 
 enum-told-2 : tie.Need-enum-told-2
@@ -29,15 +65,11 @@ enum-told-2 c = search needs
 
 checked-bases-requires : tie.Need-checked-bases-requires
 checked-bases-requires c κs =
-    let a = c .before .before .before .before .before .before .before .args in
-    let done : c .before .before .before .before .before .checked-ranges .result ≡ Done = search needs in
-    let fit : c .before .before .checked-lengths .result ≡ Done = search needs in
-    let ranges =
-    in-range (a .k) (a .step) (sym (c .before .before .before .before .before .checked-ranges .ensures) ∙ done)
-    in
+    let told = c .before .before .before in
+    let a = start-of (told .before .before) .args in
+    let ranges = in-range (a .k) (a .step) (ranges-pass told) in
     let lengths =
-    fitting (a .k) (a .step) (length (a .basis .now)) (a .length3) (a .length6) (a .length7)
-    (sym (c .before .before .checked-lengths .ensures) ∙ fit)
+    fitting (a .k) (a .step) (length (a .basis .now)) (a .length3) (a .length6) (a .length7) (lengths-pass c)
     in (
       ranges .step-at-most-3,
       omega (arith, ranges .step-fits, lengths .list1-fits),
@@ -52,35 +84,27 @@ enum-known-ranges c = search needs
 
 returns : tie.Need-returns
 returns c =
-    let a = c .before .before .before .before .before .before .before .before .args in
-    let done : c .before .before .before .before .before .before .checked-ranges .result ≡ Done = search needs in
-    let fit : c .before .before .before .checked-lengths .result ≡ Done = search needs in
-    let lengths = foldLengthsOutcome (a .k) (a .step) (length (a .basis .now)) (a .length3) (a .length6) (a .length7) in
-    let bases = foldBasesOutcome (a .step) (a .basis .now) in
+    let told = c .before .before .before .before in
+    let first = told .before .before in
     c .checked-bases .ensures
-    ∙ then-passed lengths bases (sym (c .before .before .before .checked-lengths .ensures) ∙ fit)
-    ∙ then-passed (foldRangesOutcome (a .k) (a .step)) (andThen lengths bases)
-    (sym (c .before .before .before .before .before .before .checked-ranges .ensures) ∙ done)
+    ∙ then-passed (lengths-of first) (bases-of first) (lengths-pass (c .before))
+    ∙ then-passed (ranges-of first) (andThen (lengths-of first) (bases-of first)) (ranges-pass told)
 
 returns-2 : tie.Need-returns-2
 returns-2 c =
-    let a = c .before .before .before .before .before .before .before .before .args in
-    let done : c .before .before .before .before .before .before .checked-ranges .result ≡ Done = search needs in
-    let lengths = foldLengthsOutcome (a .k) (a .step) (length (a .basis .now)) (a .length3) (a .length6) (a .length7) in
-    let bases = foldBasesOutcome (a .step) (a .basis .now) in
-    then-refused lengths bases (c .before .lengths .given .0 .0)
-    (sym (c .before .before .before .checked-lengths .ensures) ∙ c .before .lengths .given .1)
-    ∙ then-passed (foldRangesOutcome (a .k) (a .step)) (andThen lengths bases)
-    (sym (c .before .before .before .before .before .before .checked-ranges .ensures) ∙ done)
+    let told = c .before .before .before .before in
+    let first = told .before .before in
+    let refused = c .before .lengths .given in
+    then-refused (lengths-of first) (bases-of first) (refused .0 .0)
+    (sym (c .before .before .before .checked-lengths .ensures) ∙ refused .1)
+    ∙ then-passed (ranges-of first) (andThen (lengths-of first) (bases-of first)) (ranges-pass told)
 
 returns-3 : tie.Need-returns-3
 returns-3 c =
-    let a = c .before .before .before .before .before .args in
-    then-refused (foldRangesOutcome (a .k) (a .step))
-    (andThen (foldLengthsOutcome (a .k) (a .step) (length (a .basis .now)) (a .length3) (a .length6) (a .length7))
-    (foldBasesOutcome (a .step) (a .basis .now)))
-    (c .before .ranges .given .0 .0)
-    (sym (c .before .before .before .checked-ranges .ensures) ∙ c .before .ranges .given .1)
+    let first = c .before .before .before in
+    let refused = c .before .ranges .given in
+    then-refused (ranges-of first) (andThen (lengths-of first) (bases-of first)) (refused .0 .0)
+    (sym (first .checked-ranges .ensures) ∙ refused .1)
 
 pub checked-spec : {M : Type 1} → statement M
 checked-spec =

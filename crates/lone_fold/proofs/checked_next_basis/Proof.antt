@@ -7,12 +7,28 @@ use Rattle.poly.proofs.Filling.{padded-taken}
 use Rattle.refusal.specs.declared.Position.the-variants.{Absent}
 use lib.Seq.{length-take-le}
 use lib.ListN.{length}
-use Prim.Native.Nat.{_-_}
+use Prim.Native.Nat.{_-_, _≤_}
 use mathlib.Core.Path.{_≡_, sym, ap, _∙_}
 use borrow.Author.Needs.{needs}
 use native.Mathlib.Omega.{arith}
 use Rattle.lone_fold.proofs.checked_next_basis.Statement.{statement}
 use Rattle.lone_fold.proofs.checked_next_basis.Tie as tie
+
+-- what was found is the first dependent element of the next basis
+abbrev FirstIs : tie.After-first-dependent → Type 0
+FirstIs c =
+    let a = c .before .before .before .before .args in
+    c .first-dependent .result ≡ firstDependent (nextBasis (a .step) (a .basis .now))
+
+first-is : (c : tie.After-first-dependent) → FirstIs c
+first-is c =
+    let a = c .before .before .before .before .args in
+    let basis = a .basis .now in
+    let next = c .before .before .next-basis in
+    c .first-dependent .ensures
+    ∙ ap firstDependent
+    (padded-taken 20 (length basis - a .step) (nextBasis (a .step) basis) (next .result) (next .ensures)
+    (length-nextBasis (a .step) basis))
 
 sub-count : tie.Need-sub-count
 sub-count c = search needs
@@ -26,9 +42,12 @@ array-share-prefix-next c = search needs
 slice-aggregate-first-dependent : tie.Need-slice-aggregate-first-dependent
 slice-aggregate-first-dependent c =
     let start = c .before .before .before in
-    let twenty : length (c .before .next-basis .result) ≡ 20 = search needs in
-    sym (length-take-le (length (start .args .basis .now) - start .args .step) (c .before .next-basis .result)
-    (omega (arith, twenty, start .pre .2)))
+    let next = c .before .next-basis .result in
+    let twenty : length next ≡ 20 = search needs in
+    let fits : length (start .args .basis .now) - start .args .step ≤ length next =
+    omega (arith, twenty, start .pre .2)
+    in
+    sym (length-take-le (length (start .args .basis .now) - start .args .step) next fits)
 
 first-dependent-requires : tie.Need-first-dependent-requires
 first-dependent-requires c κs = search needs
@@ -40,26 +59,13 @@ enum-told-2 : tie.Need-enum-told-2
 enum-told-2 c = search needs
 
 returns : tie.Need-returns
-returns c =
-    let a = c .before .before .before .before .before .before .args in
-    let next =
-    padded-taken 20 (length (a .basis .now) - a .step) (nextBasis (a .step) (a .basis .now))
-    (c .before .before .before .before .next-basis .result) (c .before .before .before .before .next-basis .ensures)
-    (length-nextBasis (a .step) (a .basis .now))
-    in
-    ap outcomeOfNextBasis
-    (sym (c .enum-told .given .1) ∙ c .before .before .first-dependent .ensures ∙ ap firstDependent next)
+returns c = ap outcomeOfNextBasis (sym (c .enum-told .given .1) ∙ first-is (c .before .before))
 
 returns-2 : tie.Need-returns-2
 returns-2 c =
-    let a = c .before .before .before .before .before .before .args in
-    let next =
-    padded-taken 20 (length (a .basis .now) - a .step) (nextBasis (a .step) (a .basis .now))
-    (c .before .before .before .before .next-basis .result) (c .before .before .before .before .next-basis .ensures)
-    (length-nextBasis (a .step) (a .basis .now))
-    in
-    let absent : c .before .before .first-dependent .result ≡ Absent = search needs in
-    ap outcomeOfNextBasis (sym absent ∙ c .before .before .first-dependent .ensures ∙ ap firstDependent next)
+    let found = c .before .before in
+    let absent : found .first-dependent .result ≡ Absent = search needs in
+    ap outcomeOfNextBasis (sym absent ∙ first-is found)
 
 pub checked-next-basis-spec : {M : Type 1} → statement M
 checked-next-basis-spec =
