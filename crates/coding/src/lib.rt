@@ -8,14 +8,15 @@ ghost use Prim.Native.Nat.{_^_, _≤_};
 ghost use lib.Dec.{leb};
 ghost use lib.ListN.{length};
 ghost use Rattle.reed_solomon.specs.Codes.{encoded};
-ghost use Rattle.reed_solomon.specs.Answers.{checked, encodeOutcome, interpolateOutcome};
-ghost use Rattle.reed_solomon.specs.Answers.{valuesAfter, coefficientsAfter};
+ghost use Rattle.reed_solomon.specs.Answers.{checked, encodeOutcome, interpolateOutcome, valuesAfter};
+ghost use Rattle.reed_solomon.specs.Answers.{coefficientsAfter};
 
-// The polynomial's values at all 2^k points, in point order; k is the length of the basis, and coefficients that
-// are left off are zero. Refused, in this order: k over 12 (4); over 2^k coefficients or other than 2^k values (13,
-// list 3 or 6); a dependent basis (8). A refusal leaves the values as they were.
+// The polynomial's values at all 2^k points, in point order; k is the length of the basis, and coefficients that are
+// left off are zero. Refused, in this order: k over 12 (4); over 2^k coefficients or other than 2^k values (13, list
+// 3 or 6); a dependent basis (8). A refusal leaves the values as they were.
 pub fn encode(offset: Element, basis: &[u64], coefficients: &[u64], values: &mut [u64]) -> Outcome
-    ensures answer { λ r. ⌜ r ≡ encodeOutcome (now (basis .entry)) (now (coefficients .entry)) (now (values .entry)) ⌝ }
+    ensures answer { λ r.
+        ⌜ r ≡ encodeOutcome (now (basis .entry)) (now (coefficients .entry)) (now (values .entry)) ⌝ }
     ensures output { λ _. ⌜ now (values .exit)
         ≡ valuesAfter (offset .0) (now (basis .entry)) (now (coefficients .entry)) (now (values .entry)) ⌝ }
 {
@@ -30,9 +31,9 @@ pub fn encode(offset: Element, basis: &[u64], coefficients: &[u64], values: &mut
     }
 }
 
-// The 2^k coefficients of the one polynomial of degree below 2^k that has the word's values at the points,
-// in point order. Refused as encoding is, where list 3 is the word and list 6 the coefficients, each of length 2^k.
-// A refusal leaves the coefficients as they were.
+// The 2^k coefficients of the one polynomial of degree below 2^k that has the word's values at the points, in point
+// order. Refused as encoding is, where list 3 is the word and list 6 the coefficients, each of length 2^k. A refusal
+// leaves the coefficients as they were.
 pub fn interpolate(
     offset: Element,
     basis: &[u64],

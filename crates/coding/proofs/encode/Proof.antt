@@ -1,17 +1,35 @@
--- `coding::encode` meets its contract: where all checks pass the values are filled in, else nothing is
--- written. Assumes nothing.
+-- `coding::encode` meets its contract: where all checks pass the values are filled in, else nothing is written. Assumes
+-- nothing.
 use mathlib.Core.Path.{_≡_, _∙_}
-use Prim.Native.Nat.{_^_}
+use mathlib.Core.List.{List}
+use Prim.Native.Nat.{ℕ, _^_}
 use lib.ListN.{length}
 use lib.Dec.{leb, eqb}
+use Rattle.refusal.specs.declared.Outcome.{Outcome}
 use Rattle.refusal.specs.declared.Outcome.the-variants.{Done}
+use Rattle.refusal.proofs.Checks.{equal-of-test}
 use Rattle.reed_solomon.specs.Codes.{encoded}
 use Rattle.reed_solomon.specs.Answers.{encodeOutcome}
 use Rattle.reed_solomon.proofs.Checks.{passed, answered-by-size, done-both, refused-both}
-use Rattle.refusal.proofs.Checks.{equal-of-test}
 use borrow.Author.Needs.{needs}
 use Rattle.coding.proofs.encode.Statement.{statement}
 use Rattle.coding.proofs.encode.Tie as tie
+
+abbrev startOf : tie.After-checked → tie.Start
+startOf c = c .before .before .before .before .before
+
+-- the outcome, and what is to be written where all checks pass
+abbrev due : tie.Start → Outcome
+due c = encodeOutcome (c .args .basis .now) (c .args .coefficients .now) (c .args .values .now)
+
+abbrev wanted : tie.Start → List ℕ
+wanted c = encoded (c .args .offset .0) (c .args .basis .now) (c .args .coefficients .now)
+
+answered : (c : tie.After-checked) → due (startOf c) ≡ c .checked .result
+answered c =
+    let a = startOf c .args in
+    answered-by-size (a .basis .now) (leb (length (a .coefficients .now))) (eqb (length (a .values .now)))
+    (c .before .size-of .result) (c .checked .result) (c .before .size-of .ensures) (c .checked .ensures)
 
 size-of-requires : tie.Need-size-of-requires
 size-of-requires c κs = search needs
@@ -24,13 +42,12 @@ enum-told c = search needs
 
 fill-values-requires : tie.Need-fill-values-requires
 fill-values-requires c κs =
-    let done : c .before .before .before .checked .result ≡ Done = search needs in
-    let a = c .before .before .before .before .before .before .before .before .args in
+    let checks = c .before .before .before in
+    let done : checks .checked .result ≡ Done = search needs in
+    let a = startOf checks .args in
     let size = 2 ^ length (a .basis .now) in
-    let all = passed (a .basis .now) (leb (length (a .coefficients .now)) size) (eqb (length (a .values .now)) size)
-    (answered-by-size (a .basis .now) (leb (length (a .coefficients .now))) (eqb (length (a .values .now)))
-    (c .before .before .before .before .size-of .result) (c .before .before .before .checked .result)
-    (c .before .before .before .before .size-of .ensures) (c .before .before .before .checked .ensures) ∙ done) in
+    let count = length (a .coefficients .now) in
+    let all = passed (a .basis .now) (leb count size) (eqb (length (a .values .now)) size) (answered checks ∙ done) in
     (all .small, equal-of-test (length (a .values .now)) size (all .list6))
 
 enum-known-outcome : tie.Need-enum-known-outcome
@@ -41,27 +58,19 @@ same-length c = search needs
 
 returns : tie.Need-returns
 returns c =
-    let done : c .before .before .before .before .before .before .checked .result ≡ Done = search needs in
-    let a = c .before .before .before .before .before .before .before .before .before .before .before .args in
-    done-both (encodeOutcome (a .basis .now) (a .coefficients .now) (a .values .now))
-    (encoded (a .offset .0) (a .basis .now) (a .coefficients .now)) (a .values .now)
-    (c .before .before .fill-values .last .1 .1 .1 .0)
-    (answered-by-size (a .basis .now) (leb (length (a .coefficients .now)))
-    (eqb (length (a .values .now))) (c .before .before .before .before .before .before .before .size-of .result)
-    (c .before .before .before .before .before .before .checked .result)
-    (c .before .before .before .before .before .before .before .size-of .ensures)
-    (c .before .before .before .before .before .before .checked .ensures) ∙ done)
-    (c .before .before .fill-values .ensures)
+    let checks = c .before .before .before .before .before .before in
+    let done : checks .checked .result ≡ Done = search needs in
+    let start = startOf checks in
+    let filled = c .before .before .fill-values in
+    done-both (due start) (wanted start) (start .args .values .now) (filled .last .1 .1 .1 .0)
+    (answered checks ∙ done) (filled .ensures)
 
 returns-2 : tie.Need-returns-2
 returns-2 c =
-    let a = c .before .before .before .before .before .before .before .before .args in
-    refused-both (encodeOutcome (a .basis .now) (a .coefficients .now) (a .values .now))
-    (c .before .outcome .given .0 .0) (encoded (a .offset .0) (a .basis .now) (a .coefficients .now)) (a .values .now)
-    (answered-by-size (a .basis .now) (leb (length (a .coefficients .now))) (eqb (length (a .values .now)))
-    (c .before .before .before .before .size-of .result) (c .before .before .before .checked .result)
-    (c .before .before .before .before .size-of .ensures) (c .before .before .before .checked .ensures)
-    ∙ c .before .outcome .given .1)
+    let checks = c .before .before .before in
+    let start = startOf checks in
+    let refused = c .before .outcome .given in
+    refused-both (due start) (refused .0 .0) (wanted start) (start .args .values .now) (answered checks ∙ refused .1)
 
 pub encode-spec : {M : Type 1} → statement M
 encode-spec =

@@ -28,6 +28,17 @@ Inv-loop basis coefficients values₀ sums x₀ j₀ values x j =
 abbrev μ-loop : tie.MeasureT-loop
 μ-loop basis coefficients values₀ sums x₀ j₀ values x j = length values₀ - j
 
+abbrev startOf : tie.At-loop Inv-loop μ-loop → tie.Start Inv-loop μ-loop
+startOf c = c .before .before .before .before .before
+
+-- the values that are due, one for each place
+abbrev valuesDue : tie.Start Inv-loop μ-loop → List ℕ
+valuesDue c = encoded (c .args .offset .0) (c .args .basis .now) (c .args .coefficients .now)
+
+as-many : (c : tie.Start Inv-loop μ-loop) → length (valuesDue c) ≡ length (c .args .values .now)
+as-many c =
+    length-encoded (c .args .offset .0) (c .args .basis .now) (c .args .coefficients .now) ∙ sym (c .pre .1)
+
 prefix-sums-requires : tie.Need-prefix-sums-requires Inv-loop μ-loop
 prefix-sums-requires c κs = search needs
 
@@ -63,24 +74,26 @@ loop-less c = search needs
 
 loop-again : tie.Need-loop-again Inv-loop μ-loop
 loop-again c =
-    let start = c .before .before .before .before .before .before .before .before .before in
+    let at = c .before .before .before .before in
+    let start = startOf at in
     let a = start .args in
-    let l = c .before .before .before .before .loop in
-    let inside : l .j < length (a .values .now) = omega (arith, l .inv .2) in (
+    let l = at .loop in
+    let inside : l .j < length (a .values .now) = omega (arith, l .inv .2) in
+    let value = c .before .before .evaluate in
+    let stored : value .result .0 ≡ getD (valuesDue start) (l .j) 0 =
+    value .ensures ∙ ap (evaluate gf64 (a .coefficients .now)) (l .inv .3 inside)
+    ∙ sym (encoded-getD (a .offset .0) (a .basis .now) (a .coefficients .now) (l .j) (omega (arith, start .pre .1)))
+    in (
       search needs,
-      ap (λ (held : List ℕ). set held (l .j) (c .before .before .evaluate .result .0)) (l .inv .1)
-          ∙ filled-next (encoded (a .offset .0) (a .basis .now) (a .coefficients .now)) (a .values .now) (l .j)
-          (c .before .before .evaluate .result .0) inside
-          (length-encoded (a .offset .0) (a .basis .now) (a .coefficients .now) ∙ sym (start .pre .1))
-          (c .before .before .evaluate .ensures ∙ ap (evaluate gf64 (a .coefficients .now)) (l .inv .3 inside)
-          ∙ sym
-          (encoded-getD (a .offset .0) (a .basis .now) (a .coefficients .now) (l .j) (omega (arith, start .pre .1)))),
-      length-set (l .values) (l .j) (c .before .before .evaluate .result .0) ∙ l .inv .2,
+      ap (λ (held : List ℕ). set held (l .j) (value .result .0)) (l .inv .1)
+          ∙ filled-next (valuesDue start) (a .values .now) (l .j) (value .result .0) inside (as-many start) stored,
+      length-set (l .values) (l .j) (value .result .0) ∙ l .inv .2,
       λ h. c .stepped .ensures
           ∙ ap (λ (sums : List ℕ). sum (l .x .0) (getD sums (trailingZeros 64 (l .j + 1)) 0))
-          (c .before .before .before .before .before .prefix-sums .ensures)
+          (at .before .prefix-sums .ensures)
           ∙ point-stepped (a .offset .0) (a .basis .now) (l .j) (l .x .0) (omega (arith, start .pre .0))
-          (l .inv .3 inside) (omega (arith, start .pre .1)),
+          (l .inv .3 inside)
+          (omega (arith, start .pre .1)),
     )
 
 same-length : tie.Need-same-length Inv-loop μ-loop
@@ -88,13 +101,10 @@ same-length c = search needs
 
 returns : tie.Need-returns Inv-loop μ-loop
 returns c =
-    let start = c .before .before .before .before .before .before in
-    let a = start .args in
+    let start = startOf (c .before) in
     let l = c .before .loop in
-    l .inv .1
-    ∙ filled-all (encoded (a .offset .0) (a .basis .now) (a .coefficients .now)) (a .values .now) (l .j)
-    (omega (arith, l .inv .2))
-    (length-encoded (a .offset .0) (a .basis .now) (a .coefficients .now) ∙ sym (start .pre .1))
+    l .inv .1 ∙ filled-all (valuesDue start) (start .args .values .now) (l .j) (omega (arith, l .inv .2))
+    (as-many start)
 
 pub fill-values-spec : {M : Type 1} → statement M
 fill-values-spec =
