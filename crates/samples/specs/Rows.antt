@@ -1,176 +1,593 @@
 -- The samples, as the reference prints them.
 use mathlib.Core.List.{List, [], _∷_}
 use Rattle.refusal.specs.declared.Position.the-variants.{At, Absent}
-use Rattle.samples.specs.Samples.{LayoutSample, IndexSample, CosetSample, LookupSample, JudgedSample, ProvedSample}
+use Rattle.samples.specs.Samples.{LayoutSample, IndexSample, CosetSample, LookupSample}
+use Rattle.samples.specs.Samples.{JudgedSample, ProvedSample}
 
 abbrev pub layouts : List LayoutSample
 layouts =
-    record { k = 2; rate = 1; step = 1; rounds = 1; lastCount = 1; storeLength = 0; dimensions = 2 ∷ 1 ∷ []; starts = [] } ∷
-    record { k = 3; rate = 1; step = 1; rounds = 2; lastCount = 1; storeLength = 4; dimensions = 3 ∷ 2 ∷ 1 ∷ []; starts = 0 ∷ [] } ∷
-    record { k = 3; rate = 1; step = 2; rounds = 1; lastCount = 1; storeLength = 0; dimensions = 3 ∷ 1 ∷ []; starts = [] } ∷
-    record { k = 3; rate = 2; step = 1; rounds = 1; lastCount = 1; storeLength = 0; dimensions = 3 ∷ 2 ∷ []; starts = [] } ∷
-    record { k = 4; rate = 1; step = 1; rounds = 3; lastCount = 1; storeLength = 12; dimensions = 4 ∷ 3 ∷ 2 ∷ 1 ∷ []; starts = 0 ∷ 8 ∷ [] } ∷
-    record { k = 4; rate = 1; step = 2; rounds = 1; lastCount = 2; storeLength = 0; dimensions = 4 ∷ 2 ∷ []; starts = [] } ∷
-    record { k = 4; rate = 1; step = 3; rounds = 1; lastCount = 1; storeLength = 0; dimensions = 4 ∷ 1 ∷ []; starts = [] } ∷
-    record { k = 4; rate = 2; step = 1; rounds = 2; lastCount = 1; storeLength = 8; dimensions = 4 ∷ 3 ∷ 2 ∷ []; starts = 0 ∷ [] } ∷
-    record { k = 4; rate = 2; step = 2; rounds = 1; lastCount = 1; storeLength = 0; dimensions = 4 ∷ 2 ∷ []; starts = [] } ∷
-    record { k = 4; rate = 3; step = 1; rounds = 1; lastCount = 1; storeLength = 0; dimensions = 4 ∷ 3 ∷ []; starts = [] } ∷
-    record { k = 5; rate = 1; step = 1; rounds = 4; lastCount = 1; storeLength = 28; dimensions = 5 ∷ 4 ∷ 3 ∷ 2 ∷ 1 ∷ []; starts = 0 ∷ 16 ∷ 24 ∷ [] } ∷
-    record { k = 5; rate = 1; step = 2; rounds = 2; lastCount = 1; storeLength = 8; dimensions = 5 ∷ 3 ∷ 1 ∷ []; starts = 0 ∷ [] } ∷
-    record { k = 5; rate = 1; step = 3; rounds = 1; lastCount = 2; storeLength = 0; dimensions = 5 ∷ 2 ∷ []; starts = [] } ∷
-    record { k = 5; rate = 2; step = 1; rounds = 3; lastCount = 1; storeLength = 24; dimensions = 5 ∷ 4 ∷ 3 ∷ 2 ∷ []; starts = 0 ∷ 16 ∷ [] } ∷
-    record { k = 5; rate = 2; step = 2; rounds = 1; lastCount = 2; storeLength = 0; dimensions = 5 ∷ 3 ∷ []; starts = [] } ∷
-    record { k = 5; rate = 2; step = 3; rounds = 1; lastCount = 1; storeLength = 0; dimensions = 5 ∷ 2 ∷ []; starts = [] } ∷
-    record { k = 5; rate = 3; step = 1; rounds = 2; lastCount = 1; storeLength = 16; dimensions = 5 ∷ 4 ∷ 3 ∷ []; starts = 0 ∷ [] } ∷
-    record { k = 5; rate = 3; step = 2; rounds = 1; lastCount = 1; storeLength = 0; dimensions = 5 ∷ 3 ∷ []; starts = [] } ∷
-    record { k = 5; rate = 4; step = 1; rounds = 1; lastCount = 1; storeLength = 0; dimensions = 5 ∷ 4 ∷ []; starts = [] } ∷
-    record { k = 6; rate = 1; step = 1; rounds = 5; lastCount = 1; storeLength = 60; dimensions = 6 ∷ 5 ∷ 4 ∷ 3 ∷ 2 ∷ 1 ∷ []; starts = 0 ∷ 32 ∷ 48 ∷ 56 ∷ [] } ∷
-    record { k = 6; rate = 1; step = 2; rounds = 2; lastCount = 2; storeLength = 16; dimensions = 6 ∷ 4 ∷ 2 ∷ []; starts = 0 ∷ [] } ∷
-    record { k = 6; rate = 1; step = 3; rounds = 1; lastCount = 4; storeLength = 0; dimensions = 6 ∷ 3 ∷ []; starts = [] } ∷
-    record { k = 6; rate = 2; step = 1; rounds = 4; lastCount = 1; storeLength = 56; dimensions = 6 ∷ 5 ∷ 4 ∷ 3 ∷ 2 ∷ []; starts = 0 ∷ 32 ∷ 48 ∷ [] } ∷
-    record { k = 6; rate = 2; step = 2; rounds = 2; lastCount = 1; storeLength = 16; dimensions = 6 ∷ 4 ∷ 2 ∷ []; starts = 0 ∷ [] } ∷
-    record { k = 6; rate = 2; step = 3; rounds = 1; lastCount = 2; storeLength = 0; dimensions = 6 ∷ 3 ∷ []; starts = [] } ∷
-    record { k = 6; rate = 3; step = 1; rounds = 3; lastCount = 1; storeLength = 48; dimensions = 6 ∷ 5 ∷ 4 ∷ 3 ∷ []; starts = 0 ∷ 32 ∷ [] } ∷
-    record { k = 6; rate = 3; step = 2; rounds = 1; lastCount = 2; storeLength = 0; dimensions = 6 ∷ 4 ∷ []; starts = [] } ∷
-    record { k = 6; rate = 3; step = 3; rounds = 1; lastCount = 1; storeLength = 0; dimensions = 6 ∷ 3 ∷ []; starts = [] } ∷
-    record { k = 6; rate = 4; step = 1; rounds = 2; lastCount = 1; storeLength = 32; dimensions = 6 ∷ 5 ∷ 4 ∷ []; starts = 0 ∷ [] } ∷
-    record { k = 6; rate = 4; step = 2; rounds = 1; lastCount = 1; storeLength = 0; dimensions = 6 ∷ 4 ∷ []; starts = [] } ∷
-    record { k = 6; rate = 5; step = 1; rounds = 1; lastCount = 1; storeLength = 0; dimensions = 6 ∷ 5 ∷ []; starts = [] } ∷
+    record {
+      k = 2;
+      rate = 1;
+      step = 1;
+      rounds = 1;
+      lastCount = 1;
+      storeLength = 0;
+      dimensions = 2 ∷ 1 ∷ [];
+      starts = [];
+    } ∷
+    record {
+      k = 3;
+      rate = 1;
+      step = 1;
+      rounds = 2;
+      lastCount = 1;
+      storeLength = 4;
+      dimensions = 3 ∷ 2 ∷ 1 ∷ [];
+      starts = 0 ∷ [];
+    } ∷
+    record {
+      k = 3;
+      rate = 1;
+      step = 2;
+      rounds = 1;
+      lastCount = 1;
+      storeLength = 0;
+      dimensions = 3 ∷ 1 ∷ [];
+      starts = [];
+    } ∷
+    record {
+      k = 3;
+      rate = 2;
+      step = 1;
+      rounds = 1;
+      lastCount = 1;
+      storeLength = 0;
+      dimensions = 3 ∷ 2 ∷ [];
+      starts = [];
+    } ∷
+    record {
+      k = 4;
+      rate = 1;
+      step = 1;
+      rounds = 3;
+      lastCount = 1;
+      storeLength = 12;
+      dimensions = 4 ∷ 3 ∷ 2 ∷ 1 ∷ [];
+      starts = 0 ∷ 8 ∷ [];
+    } ∷
+    record {
+      k = 4;
+      rate = 1;
+      step = 2;
+      rounds = 1;
+      lastCount = 2;
+      storeLength = 0;
+      dimensions = 4 ∷ 2 ∷ [];
+      starts = [];
+    } ∷
+    record {
+      k = 4;
+      rate = 1;
+      step = 3;
+      rounds = 1;
+      lastCount = 1;
+      storeLength = 0;
+      dimensions = 4 ∷ 1 ∷ [];
+      starts = [];
+    } ∷
+    record {
+      k = 4;
+      rate = 2;
+      step = 1;
+      rounds = 2;
+      lastCount = 1;
+      storeLength = 8;
+      dimensions = 4 ∷ 3 ∷ 2 ∷ [];
+      starts = 0 ∷ [];
+    } ∷
+    record {
+      k = 4;
+      rate = 2;
+      step = 2;
+      rounds = 1;
+      lastCount = 1;
+      storeLength = 0;
+      dimensions = 4 ∷ 2 ∷ [];
+      starts = [];
+    } ∷
+    record {
+      k = 4;
+      rate = 3;
+      step = 1;
+      rounds = 1;
+      lastCount = 1;
+      storeLength = 0;
+      dimensions = 4 ∷ 3 ∷ [];
+      starts = [];
+    } ∷
+    record {
+      k = 5;
+      rate = 1;
+      step = 1;
+      rounds = 4;
+      lastCount = 1;
+      storeLength = 28;
+      dimensions = 5 ∷ 4 ∷ 3 ∷ 2 ∷ 1 ∷ [];
+      starts = 0 ∷ 16 ∷ 24 ∷ [];
+    } ∷
+    record {
+      k = 5;
+      rate = 1;
+      step = 2;
+      rounds = 2;
+      lastCount = 1;
+      storeLength = 8;
+      dimensions = 5 ∷ 3 ∷ 1 ∷ [];
+      starts = 0 ∷ [];
+    } ∷
+    record {
+      k = 5;
+      rate = 1;
+      step = 3;
+      rounds = 1;
+      lastCount = 2;
+      storeLength = 0;
+      dimensions = 5 ∷ 2 ∷ [];
+      starts = [];
+    } ∷
+    record {
+      k = 5;
+      rate = 2;
+      step = 1;
+      rounds = 3;
+      lastCount = 1;
+      storeLength = 24;
+      dimensions = 5 ∷ 4 ∷ 3 ∷ 2 ∷ [];
+      starts = 0 ∷ 16 ∷ [];
+    } ∷
+    record {
+      k = 5;
+      rate = 2;
+      step = 2;
+      rounds = 1;
+      lastCount = 2;
+      storeLength = 0;
+      dimensions = 5 ∷ 3 ∷ [];
+      starts = [];
+    } ∷
+    record {
+      k = 5;
+      rate = 2;
+      step = 3;
+      rounds = 1;
+      lastCount = 1;
+      storeLength = 0;
+      dimensions = 5 ∷ 2 ∷ [];
+      starts = [];
+    } ∷
+    record {
+      k = 5;
+      rate = 3;
+      step = 1;
+      rounds = 2;
+      lastCount = 1;
+      storeLength = 16;
+      dimensions = 5 ∷ 4 ∷ 3 ∷ [];
+      starts = 0 ∷ [];
+    } ∷
+    record {
+      k = 5;
+      rate = 3;
+      step = 2;
+      rounds = 1;
+      lastCount = 1;
+      storeLength = 0;
+      dimensions = 5 ∷ 3 ∷ [];
+      starts = [];
+    } ∷
+    record {
+      k = 5;
+      rate = 4;
+      step = 1;
+      rounds = 1;
+      lastCount = 1;
+      storeLength = 0;
+      dimensions = 5 ∷ 4 ∷ [];
+      starts = [];
+    } ∷
+    record {
+      k = 6;
+      rate = 1;
+      step = 1;
+      rounds = 5;
+      lastCount = 1;
+      storeLength = 60;
+      dimensions = 6 ∷ 5 ∷ 4 ∷ 3 ∷ 2 ∷ 1 ∷ [];
+      starts = 0 ∷ 32 ∷ 48 ∷ 56 ∷ [];
+    } ∷
+    record {
+      k = 6;
+      rate = 1;
+      step = 2;
+      rounds = 2;
+      lastCount = 2;
+      storeLength = 16;
+      dimensions = 6 ∷ 4 ∷ 2 ∷ [];
+      starts = 0 ∷ [];
+    } ∷
+    record {
+      k = 6;
+      rate = 1;
+      step = 3;
+      rounds = 1;
+      lastCount = 4;
+      storeLength = 0;
+      dimensions = 6 ∷ 3 ∷ [];
+      starts = [];
+    } ∷
+    record {
+      k = 6;
+      rate = 2;
+      step = 1;
+      rounds = 4;
+      lastCount = 1;
+      storeLength = 56;
+      dimensions = 6 ∷ 5 ∷ 4 ∷ 3 ∷ 2 ∷ [];
+      starts = 0 ∷ 32 ∷ 48 ∷ [];
+    } ∷
+    record {
+      k = 6;
+      rate = 2;
+      step = 2;
+      rounds = 2;
+      lastCount = 1;
+      storeLength = 16;
+      dimensions = 6 ∷ 4 ∷ 2 ∷ [];
+      starts = 0 ∷ [];
+    } ∷
+    record {
+      k = 6;
+      rate = 2;
+      step = 3;
+      rounds = 1;
+      lastCount = 2;
+      storeLength = 0;
+      dimensions = 6 ∷ 3 ∷ [];
+      starts = [];
+    } ∷
+    record {
+      k = 6;
+      rate = 3;
+      step = 1;
+      rounds = 3;
+      lastCount = 1;
+      storeLength = 48;
+      dimensions = 6 ∷ 5 ∷ 4 ∷ 3 ∷ [];
+      starts = 0 ∷ 32 ∷ [];
+    } ∷
+    record {
+      k = 6;
+      rate = 3;
+      step = 2;
+      rounds = 1;
+      lastCount = 2;
+      storeLength = 0;
+      dimensions = 6 ∷ 4 ∷ [];
+      starts = [];
+    } ∷
+    record {
+      k = 6;
+      rate = 3;
+      step = 3;
+      rounds = 1;
+      lastCount = 1;
+      storeLength = 0;
+      dimensions = 6 ∷ 3 ∷ [];
+      starts = [];
+    } ∷
+    record {
+      k = 6;
+      rate = 4;
+      step = 1;
+      rounds = 2;
+      lastCount = 1;
+      storeLength = 32;
+      dimensions = 6 ∷ 5 ∷ 4 ∷ [];
+      starts = 0 ∷ [];
+    } ∷
+    record {
+      k = 6;
+      rate = 4;
+      step = 2;
+      rounds = 1;
+      lastCount = 1;
+      storeLength = 0;
+      dimensions = 6 ∷ 4 ∷ [];
+      starts = [];
+    } ∷
+    record {
+      k = 6;
+      rate = 5;
+      step = 1;
+      rounds = 1;
+      lastCount = 1;
+      storeLength = 0;
+      dimensions = 6 ∷ 5 ∷ [];
+      starts = [];
+    } ∷
     []
 
 abbrev pub indices : List IndexSample
 indices =
-    record { k = 2; rate = 1; step = 1; query = 3; indices = 3 ∷ 1 ∷ [] } ∷
-    record { k = 2; rate = 1; step = 1; query = 0; indices = 0 ∷ 0 ∷ [] } ∷
+    record { k = 2; rate = 1; step = 1; query = 2; indices = 2 ∷ 1 ∷ [] } ∷
     record { k = 2; rate = 1; step = 1; query = 3; indices = 3 ∷ 1 ∷ [] } ∷
     record { k = 3; rate = 1; step = 1; query = 6; indices = 6 ∷ 3 ∷ 1 ∷ [] } ∷
-    record { k = 3; rate = 1; step = 1; query = 4; indices = 4 ∷ 2 ∷ 1 ∷ [] } ∷
     record { k = 3; rate = 1; step = 1; query = 7; indices = 7 ∷ 3 ∷ 1 ∷ [] } ∷
-    record { k = 3; rate = 1; step = 2; query = 3; indices = 3 ∷ 0 ∷ [] } ∷
-    record { k = 3; rate = 1; step = 2; query = 5; indices = 5 ∷ 1 ∷ [] } ∷
+    record { k = 3; rate = 1; step = 2; query = 1; indices = 1 ∷ 0 ∷ [] } ∷
     record { k = 3; rate = 1; step = 2; query = 7; indices = 7 ∷ 1 ∷ [] } ∷
-    record { k = 3; rate = 2; step = 1; query = 7; indices = 7 ∷ 3 ∷ [] } ∷
     record { k = 3; rate = 2; step = 1; query = 6; indices = 6 ∷ 3 ∷ [] } ∷
     record { k = 3; rate = 2; step = 1; query = 7; indices = 7 ∷ 3 ∷ [] } ∷
-    record { k = 4; rate = 1; step = 1; query = 14; indices = 14 ∷ 7 ∷ 3 ∷ 1 ∷ [] } ∷
-    record { k = 4; rate = 1; step = 1; query = 12; indices = 12 ∷ 6 ∷ 3 ∷ 1 ∷ [] } ∷
+    record { k = 4; rate = 1; step = 1; query = 1; indices = 1 ∷ 0 ∷ 0 ∷ 0 ∷ [] } ∷
     record { k = 4; rate = 1; step = 1; query = 15; indices = 15 ∷ 7 ∷ 3 ∷ 1 ∷ [] } ∷
-    record { k = 4; rate = 1; step = 2; query = 3; indices = 3 ∷ 0 ∷ [] } ∷
-    record { k = 4; rate = 1; step = 2; query = 9; indices = 9 ∷ 2 ∷ [] } ∷
+    record { k = 4; rate = 1; step = 2; query = 7; indices = 7 ∷ 1 ∷ [] } ∷
     record { k = 4; rate = 1; step = 2; query = 15; indices = 15 ∷ 3 ∷ [] } ∷
-    record { k = 4; rate = 1; step = 3; query = 6; indices = 6 ∷ 0 ∷ [] } ∷
-    record { k = 4; rate = 1; step = 3; query = 0; indices = 0 ∷ 0 ∷ [] } ∷
+    record { k = 4; rate = 1; step = 3; query = 13; indices = 13 ∷ 1 ∷ [] } ∷
     record { k = 4; rate = 1; step = 3; query = 15; indices = 15 ∷ 1 ∷ [] } ∷
-    record { k = 4; rate = 2; step = 1; query = 8; indices = 8 ∷ 4 ∷ 2 ∷ [] } ∷
-    record { k = 4; rate = 2; step = 1; query = 14; indices = 14 ∷ 7 ∷ 3 ∷ [] } ∷
+    record { k = 4; rate = 2; step = 1; query = 10; indices = 10 ∷ 5 ∷ 2 ∷ [] } ∷
     record { k = 4; rate = 2; step = 1; query = 15; indices = 15 ∷ 7 ∷ 3 ∷ [] } ∷
-    record { k = 4; rate = 2; step = 2; query = 7; indices = 7 ∷ 1 ∷ [] } ∷
-    record { k = 4; rate = 2; step = 2; query = 9; indices = 9 ∷ 2 ∷ [] } ∷
+    record { k = 4; rate = 2; step = 2; query = 10; indices = 10 ∷ 2 ∷ [] } ∷
     record { k = 4; rate = 2; step = 2; query = 15; indices = 15 ∷ 3 ∷ [] } ∷
-    record { k = 4; rate = 3; step = 1; query = 5; indices = 5 ∷ 2 ∷ [] } ∷
+    record { k = 4; rate = 3; step = 1; query = 11; indices = 11 ∷ 5 ∷ [] } ∷
     record { k = 4; rate = 3; step = 1; query = 15; indices = 15 ∷ 7 ∷ [] } ∷
-    record { k = 4; rate = 3; step = 1; query = 15; indices = 15 ∷ 7 ∷ [] } ∷
-    record { k = 5; rate = 1; step = 1; query = 6; indices = 6 ∷ 3 ∷ 1 ∷ 0 ∷ 0 ∷ [] } ∷
-    record { k = 5; rate = 1; step = 1; query = 17; indices = 17 ∷ 8 ∷ 4 ∷ 2 ∷ 1 ∷ [] } ∷
+    record { k = 5; rate = 1; step = 1; query = 8; indices = 8 ∷ 4 ∷ 2 ∷ 1 ∷ 0 ∷ [] } ∷
     record { k = 5; rate = 1; step = 1; query = 31; indices = 31 ∷ 15 ∷ 7 ∷ 3 ∷ 1 ∷ [] } ∷
-    record { k = 5; rate = 1; step = 2; query = 2; indices = 2 ∷ 0 ∷ 0 ∷ [] } ∷
-    record { k = 5; rate = 1; step = 2; query = 17; indices = 17 ∷ 4 ∷ 1 ∷ [] } ∷
+    record { k = 5; rate = 1; step = 2; query = 6; indices = 6 ∷ 1 ∷ 0 ∷ [] } ∷
     record { k = 5; rate = 1; step = 2; query = 31; indices = 31 ∷ 7 ∷ 1 ∷ [] } ∷
-    record { k = 5; rate = 1; step = 3; query = 26; indices = 26 ∷ 3 ∷ [] } ∷
-    record { k = 5; rate = 1; step = 3; query = 3; indices = 3 ∷ 0 ∷ [] } ∷
+    record { k = 5; rate = 1; step = 3; query = 1; indices = 1 ∷ 0 ∷ [] } ∷
     record { k = 5; rate = 1; step = 3; query = 31; indices = 31 ∷ 3 ∷ [] } ∷
-    record { k = 5; rate = 2; step = 1; query = 2; indices = 2 ∷ 1 ∷ 0 ∷ 0 ∷ [] } ∷
-    record { k = 5; rate = 2; step = 1; query = 27; indices = 27 ∷ 13 ∷ 6 ∷ 3 ∷ [] } ∷
+    record { k = 5; rate = 2; step = 1; query = 17; indices = 17 ∷ 8 ∷ 4 ∷ 2 ∷ [] } ∷
     record { k = 5; rate = 2; step = 1; query = 31; indices = 31 ∷ 15 ∷ 7 ∷ 3 ∷ [] } ∷
-    record { k = 5; rate = 2; step = 2; query = 28; indices = 28 ∷ 7 ∷ [] } ∷
     record { k = 5; rate = 2; step = 2; query = 8; indices = 8 ∷ 2 ∷ [] } ∷
     record { k = 5; rate = 2; step = 2; query = 31; indices = 31 ∷ 7 ∷ [] } ∷
-    record { k = 5; rate = 2; step = 3; query = 18; indices = 18 ∷ 2 ∷ [] } ∷
-    record { k = 5; rate = 2; step = 3; query = 4; indices = 4 ∷ 0 ∷ [] } ∷
+    record { k = 5; rate = 2; step = 3; query = 19; indices = 19 ∷ 2 ∷ [] } ∷
     record { k = 5; rate = 2; step = 3; query = 31; indices = 31 ∷ 3 ∷ [] } ∷
-    record { k = 5; rate = 3; step = 1; query = 4; indices = 4 ∷ 2 ∷ 1 ∷ [] } ∷
-    record { k = 5; rate = 3; step = 1; query = 13; indices = 13 ∷ 6 ∷ 3 ∷ [] } ∷
+    record { k = 5; rate = 3; step = 1; query = 25; indices = 25 ∷ 12 ∷ 6 ∷ [] } ∷
     record { k = 5; rate = 3; step = 1; query = 31; indices = 31 ∷ 15 ∷ 7 ∷ [] } ∷
-    record { k = 5; rate = 3; step = 2; query = 13; indices = 13 ∷ 3 ∷ [] } ∷
-    record { k = 5; rate = 3; step = 2; query = 27; indices = 27 ∷ 6 ∷ [] } ∷
+    record { k = 5; rate = 3; step = 2; query = 28; indices = 28 ∷ 7 ∷ [] } ∷
     record { k = 5; rate = 3; step = 2; query = 31; indices = 31 ∷ 7 ∷ [] } ∷
-    record { k = 5; rate = 4; step = 1; query = 13; indices = 13 ∷ 6 ∷ [] } ∷
-    record { k = 5; rate = 4; step = 1; query = 30; indices = 30 ∷ 15 ∷ [] } ∷
+    record { k = 5; rate = 4; step = 1; query = 14; indices = 14 ∷ 7 ∷ [] } ∷
     record { k = 5; rate = 4; step = 1; query = 31; indices = 31 ∷ 15 ∷ [] } ∷
-    record { k = 6; rate = 1; step = 1; query = 59; indices = 59 ∷ 29 ∷ 14 ∷ 7 ∷ 3 ∷ 1 ∷ [] } ∷
-    record { k = 6; rate = 1; step = 1; query = 42; indices = 42 ∷ 21 ∷ 10 ∷ 5 ∷ 2 ∷ 1 ∷ [] } ∷
+    record { k = 6; rate = 1; step = 1; query = 49; indices = 49 ∷ 24 ∷ 12 ∷ 6 ∷ 3 ∷ 1 ∷ [] } ∷
     record { k = 6; rate = 1; step = 1; query = 63; indices = 63 ∷ 31 ∷ 15 ∷ 7 ∷ 3 ∷ 1 ∷ [] } ∷
-    record { k = 6; rate = 1; step = 2; query = 47; indices = 47 ∷ 11 ∷ 2 ∷ [] } ∷
-    record { k = 6; rate = 1; step = 2; query = 30; indices = 30 ∷ 7 ∷ 1 ∷ [] } ∷
+    record { k = 6; rate = 1; step = 2; query = 8; indices = 8 ∷ 2 ∷ 0 ∷ [] } ∷
     record { k = 6; rate = 1; step = 2; query = 63; indices = 63 ∷ 15 ∷ 3 ∷ [] } ∷
-    record { k = 6; rate = 1; step = 3; query = 31; indices = 31 ∷ 3 ∷ [] } ∷
-    record { k = 6; rate = 1; step = 3; query = 34; indices = 34 ∷ 4 ∷ [] } ∷
+    record { k = 6; rate = 1; step = 3; query = 46; indices = 46 ∷ 5 ∷ [] } ∷
     record { k = 6; rate = 1; step = 3; query = 63; indices = 63 ∷ 7 ∷ [] } ∷
-    record { k = 6; rate = 2; step = 1; query = 57; indices = 57 ∷ 28 ∷ 14 ∷ 7 ∷ 3 ∷ [] } ∷
-    record { k = 6; rate = 2; step = 1; query = 2; indices = 2 ∷ 1 ∷ 0 ∷ 0 ∷ 0 ∷ [] } ∷
+    record { k = 6; rate = 2; step = 1; query = 6; indices = 6 ∷ 3 ∷ 1 ∷ 0 ∷ 0 ∷ [] } ∷
     record { k = 6; rate = 2; step = 1; query = 63; indices = 63 ∷ 31 ∷ 15 ∷ 7 ∷ 3 ∷ [] } ∷
-    record { k = 6; rate = 2; step = 2; query = 59; indices = 59 ∷ 14 ∷ 3 ∷ [] } ∷
-    record { k = 6; rate = 2; step = 2; query = 19; indices = 19 ∷ 4 ∷ 1 ∷ [] } ∷
+    record { k = 6; rate = 2; step = 2; query = 50; indices = 50 ∷ 12 ∷ 3 ∷ [] } ∷
     record { k = 6; rate = 2; step = 2; query = 63; indices = 63 ∷ 15 ∷ 3 ∷ [] } ∷
-    record { k = 6; rate = 2; step = 3; query = 10; indices = 10 ∷ 1 ∷ [] } ∷
-    record { k = 6; rate = 2; step = 3; query = 62; indices = 62 ∷ 7 ∷ [] } ∷
+    record { k = 6; rate = 2; step = 3; query = 3; indices = 3 ∷ 0 ∷ [] } ∷
     record { k = 6; rate = 2; step = 3; query = 63; indices = 63 ∷ 7 ∷ [] } ∷
-    record { k = 6; rate = 3; step = 1; query = 49; indices = 49 ∷ 24 ∷ 12 ∷ 6 ∷ [] } ∷
-    record { k = 6; rate = 3; step = 1; query = 54; indices = 54 ∷ 27 ∷ 13 ∷ 6 ∷ [] } ∷
+    record { k = 6; rate = 3; step = 1; query = 37; indices = 37 ∷ 18 ∷ 9 ∷ 4 ∷ [] } ∷
     record { k = 6; rate = 3; step = 1; query = 63; indices = 63 ∷ 31 ∷ 15 ∷ 7 ∷ [] } ∷
-    record { k = 6; rate = 3; step = 2; query = 13; indices = 13 ∷ 3 ∷ [] } ∷
-    record { k = 6; rate = 3; step = 2; query = 6; indices = 6 ∷ 1 ∷ [] } ∷
+    record { k = 6; rate = 3; step = 2; query = 48; indices = 48 ∷ 12 ∷ [] } ∷
     record { k = 6; rate = 3; step = 2; query = 63; indices = 63 ∷ 15 ∷ [] } ∷
-    record { k = 6; rate = 3; step = 3; query = 50; indices = 50 ∷ 6 ∷ [] } ∷
-    record { k = 6; rate = 3; step = 3; query = 24; indices = 24 ∷ 3 ∷ [] } ∷
+    record { k = 6; rate = 3; step = 3; query = 9; indices = 9 ∷ 1 ∷ [] } ∷
     record { k = 6; rate = 3; step = 3; query = 63; indices = 63 ∷ 7 ∷ [] } ∷
-    record { k = 6; rate = 4; step = 1; query = 54; indices = 54 ∷ 27 ∷ 13 ∷ [] } ∷
-    record { k = 6; rate = 4; step = 1; query = 23; indices = 23 ∷ 11 ∷ 5 ∷ [] } ∷
+    record { k = 6; rate = 4; step = 1; query = 50; indices = 50 ∷ 25 ∷ 12 ∷ [] } ∷
     record { k = 6; rate = 4; step = 1; query = 63; indices = 63 ∷ 31 ∷ 15 ∷ [] } ∷
-    record { k = 6; rate = 4; step = 2; query = 21; indices = 21 ∷ 5 ∷ [] } ∷
-    record { k = 6; rate = 4; step = 2; query = 54; indices = 54 ∷ 13 ∷ [] } ∷
+    record { k = 6; rate = 4; step = 2; query = 2; indices = 2 ∷ 0 ∷ [] } ∷
     record { k = 6; rate = 4; step = 2; query = 63; indices = 63 ∷ 15 ∷ [] } ∷
-    record { k = 6; rate = 5; step = 1; query = 40; indices = 40 ∷ 20 ∷ [] } ∷
-    record { k = 6; rate = 5; step = 1; query = 57; indices = 57 ∷ 28 ∷ [] } ∷
+    record { k = 6; rate = 5; step = 1; query = 53; indices = 53 ∷ 26 ∷ [] } ∷
     record { k = 6; rate = 5; step = 1; query = 63; indices = 63 ∷ 31 ∷ [] } ∷
     []
 
 abbrev pub cosets : List CosetSample
 cosets =
-    record { k = 3; rate = 1; step = 1; offset = 611605116459699413; basis = 3410857715756635602 ∷ 306070658226402631 ∷ 8231388949437901407 ∷ []; offsets = 611605116459699413 ∷ 13151079648654125282 ∷ 13399026422291395053 ∷ []; bases = (3410857715756635602 ∷ 306070658226402631 ∷ 8231388949437901407 ∷ []) ∷ (246056456438505676 ∷ 16134801571029572616 ∷ []) ∷ (15985652239552751811 ∷ []) ∷ [] } ∷
-    record { k = 3; rate = 1; step = 2; offset = 8539339419458300430; basis = 16660088004692958806 ∷ 11113277421870350160 ∷ 13447230523198868877 ∷ []; offsets = 8539339419458300430 ∷ 11357330221034380605 ∷ []; bases = (16660088004692958806 ∷ 11113277421870350160 ∷ 13447230523198868877 ∷ []) ∷ (10847635899384191913 ∷ []) ∷ [] } ∷
-    record { k = 4; rate = 1; step = 1; offset = 14924490292565032708; basis = 1 ∷ 2 ∷ 4 ∷ 8 ∷ []; offsets = 14924490292565032708 ∷ 13262376876418585230 ∷ 7061497059733106439 ∷ 3290274021043286151 ∷ []; bases = (1 ∷ 2 ∷ 4 ∷ 8 ∷ []) ∷ (6 ∷ 20 ∷ 72 ∷ []) ∷ (360 ∷ 4592 ∷ []) ∷ (18245760 ∷ []) ∷ [] } ∷
-    record { k = 4; rate = 1; step = 3; offset = 16492154180405937549; basis = 10970522332794729720 ∷ 12701153734158973458 ∷ 2094936049597183712 ∷ 9813247149905334531 ∷ []; offsets = 16492154180405937549 ∷ 275934335740122004 ∷ []; bases = (10970522332794729720 ∷ 12701153734158973458 ∷ 2094936049597183712 ∷ 9813247149905334531 ∷ []) ∷ (11976928751885202785 ∷ []) ∷ [] } ∷
-    record { k = 5; rate = 1; step = 1; offset = 8787407018713216096; basis = 15889132572421162314 ∷ 6451080223790904393 ∷ 6946729191690192951 ∷ 8811922944221034512 ∷ 17703809425344173837 ∷ []; offsets = 8787407018713216096 ∷ 9743671484081907887 ∷ 6718384271556519261 ∷ 14703745487307959831 ∷ 15756345119963990124 ∷ []; bases = (15889132572421162314 ∷ 6451080223790904393 ∷ 6946729191690192951 ∷ 8811922944221034512 ∷ 17703809425344173837 ∷ []) ∷ (7493720062899888686 ∷ 12303591170499788062 ∷ 5161545124020263733 ∷ 5968702020605870992 ∷ []) ∷ (984521951180816000 ∷ 18181865085554013423 ∷ 15283944315658272005 ∷ []) ∷ (2006800642546037614 ∷ 6184350560626124738 ∷ []) ∷ (2667504376540631726 ∷ []) ∷ [] } ∷
-    record { k = 5; rate = 1; step = 2; offset = 6062807649613956863; basis = 10334151155255664937 ∷ 10231089733674654148 ∷ 5008874557550799436 ∷ 11162425147154677980 ∷ 5935912577426360207 ∷ []; offsets = 6062807649613956863 ∷ 16109912205854544630 ∷ 13981871104141129724 ∷ []; bases = (10334151155255664937 ∷ 10231089733674654148 ∷ 5008874557550799436 ∷ 11162425147154677980 ∷ 5935912577426360207 ∷ []) ∷ (126647418143505547 ∷ 13381333742053515834 ∷ 13733431473858804799 ∷ []) ∷ (12704428369779755483 ∷ []) ∷ [] } ∷
-    record { k = 6; rate = 2; step = 2; offset = 0; basis = 3539432194613318008 ∷ 11669548144855334815 ∷ 4241334446337804183 ∷ 1653203801066216301 ∷ 3688829127483351960 ∷ 2233647670652796736 ∷ []; offsets = 0 ∷ 0 ∷ 0 ∷ []; bases = (3539432194613318008 ∷ 11669548144855334815 ∷ 4241334446337804183 ∷ 1653203801066216301 ∷ 3688829127483351960 ∷ 2233647670652796736 ∷ []) ∷ (12311988302295329016 ∷ 6073334523262801861 ∷ 363880646878864694 ∷ 6481920911890695960 ∷ []) ∷ (17516443480523575847 ∷ 1494647733484884681 ∷ []) ∷ [] } ∷
-    record { k = 6; rate = 3; step = 3; offset = 17342589664522098320; basis = 9327859165981926616 ∷ 3927689136963067224 ∷ 3959622345527760905 ∷ 16009195861855625408 ∷ 8180615579630095528 ∷ 3090082992939284155 ∷ []; offsets = 17342589664522098320 ∷ 15609639504099493587 ∷ []; bases = (9327859165981926616 ∷ 3927689136963067224 ∷ 3959622345527760905 ∷ 16009195861855625408 ∷ 8180615579630095528 ∷ 3090082992939284155 ∷ []) ∷ (17090741667073065009 ∷ 13534056711971915005 ∷ 8250053946551171233 ∷ []) ∷ [] } ∷
+    record {
+      k = 3;
+      rate = 1;
+      step = 1;
+      offset = 611605116459699413;
+      basis = 3410857715756635602 ∷ 306070658226402631 ∷ 8231388949437901407 ∷ [];
+      offsets = 611605116459699413 ∷ 13151079648654125282 ∷ 13399026422291395053 ∷ [];
+      bases =
+          (3410857715756635602 ∷ 306070658226402631 ∷ 8231388949437901407 ∷ [])
+          ∷ (246056456438505676 ∷ 16134801571029572616 ∷ []) ∷ (15985652239552751811 ∷ []) ∷ [];
+    } ∷
+    record {
+      k = 4;
+      rate = 1;
+      step = 1;
+      offset = 8539339419458300430;
+      basis = 1 ∷ 2 ∷ 4 ∷ 8 ∷ [];
+      offsets = 8539339419458300430 ∷ 11824767860800580842 ∷ 8428488340637388687 ∷ 3204032589401056433 ∷ [];
+      bases = (1 ∷ 2 ∷ 4 ∷ 8 ∷ []) ∷ (6 ∷ 20 ∷ 72 ∷ []) ∷ (360 ∷ 4592 ∷ []) ∷ (18245760 ∷ []) ∷ [];
+    } ∷
+    record {
+      k = 5;
+      rate = 1;
+      step = 2;
+      offset = 0;
+      basis = 1 ∷ 2 ∷ 4 ∷ 8 ∷ 16 ∷ [];
+      offsets = 0 ∷ 0 ∷ 0 ∷ [];
+      bases = (1 ∷ 2 ∷ 4 ∷ 8 ∷ 16 ∷ []) ∷ (360 ∷ 4592 ∷ 67424 ∷ []) ∷ (78274681211224091 ∷ []) ∷ [];
+    } ∷
+    record {
+      k = 4;
+      rate = 1;
+      step = 3;
+      offset = 12701153734158973458;
+      basis = 1 ∷ 2 ∷ 4 ∷ 8 ∷ [];
+      offsets = 12701153734158973458 ∷ 16964067669784207619 ∷ [];
+      bases = (1 ∷ 2 ∷ 4 ∷ 8 ∷ []) ∷ (18245760 ∷ []) ∷ [];
+    } ∷
     []
 
 abbrev pub lookups : List LookupSample
 lookups =
     record { k = 3; rate = 1; step = 1; store = 11 ∷ 12 ∷ 13 ∷ 14 ∷ []; layer = 1; part = 11 ∷ 12 ∷ 13 ∷ 14 ∷ [] } ∷
-    record { k = 4; rate = 2; step = 1; store = 11 ∷ 12 ∷ 13 ∷ 14 ∷ 15 ∷ 16 ∷ 17 ∷ 18 ∷ []; layer = 1; part = 11 ∷ 12 ∷ 13 ∷ 14 ∷ 15 ∷ 16 ∷ 17 ∷ 18 ∷ [] } ∷
-    record { k = 5; rate = 1; step = 2; store = 11 ∷ 12 ∷ 13 ∷ 14 ∷ 15 ∷ 16 ∷ 17 ∷ 18 ∷ []; layer = 1; part = 11 ∷ 12 ∷ 13 ∷ 14 ∷ 15 ∷ 16 ∷ 17 ∷ 18 ∷ [] } ∷
-    record { k = 4; rate = 1; step = 1; store = 11 ∷ 12 ∷ 13 ∷ 14 ∷ 15 ∷ 16 ∷ 17 ∷ 18 ∷ 19 ∷ 20 ∷ 21 ∷ 22 ∷ []; layer = 1; part = 11 ∷ 12 ∷ 13 ∷ 14 ∷ 15 ∷ 16 ∷ 17 ∷ 18 ∷ [] } ∷
-    record { k = 4; rate = 1; step = 1; store = 11 ∷ 12 ∷ 13 ∷ 14 ∷ 15 ∷ 16 ∷ 17 ∷ 18 ∷ 19 ∷ 20 ∷ 21 ∷ 22 ∷ []; layer = 2; part = 19 ∷ 20 ∷ 21 ∷ 22 ∷ [] } ∷
-    record { k = 5; rate = 2; step = 1; store = 11 ∷ 12 ∷ 13 ∷ 14 ∷ 15 ∷ 16 ∷ 17 ∷ 18 ∷ 19 ∷ 20 ∷ 21 ∷ 22 ∷ 23 ∷ 24 ∷ 25 ∷ 26 ∷ 27 ∷ 28 ∷ 29 ∷ 30 ∷ 31 ∷ 32 ∷ 33 ∷ 34 ∷ []; layer = 1; part = 11 ∷ 12 ∷ 13 ∷ 14 ∷ 15 ∷ 16 ∷ 17 ∷ 18 ∷ 19 ∷ 20 ∷ 21 ∷ 22 ∷ 23 ∷ 24 ∷ 25 ∷ 26 ∷ [] } ∷
-    record { k = 5; rate = 2; step = 1; store = 11 ∷ 12 ∷ 13 ∷ 14 ∷ 15 ∷ 16 ∷ 17 ∷ 18 ∷ 19 ∷ 20 ∷ 21 ∷ 22 ∷ 23 ∷ 24 ∷ 25 ∷ 26 ∷ 27 ∷ 28 ∷ 29 ∷ 30 ∷ 31 ∷ 32 ∷ 33 ∷ 34 ∷ []; layer = 2; part = 27 ∷ 28 ∷ 29 ∷ 30 ∷ 31 ∷ 32 ∷ 33 ∷ 34 ∷ [] } ∷
-    record { k = 5; rate = 1; step = 1; store = 11 ∷ 12 ∷ 13 ∷ 14 ∷ 15 ∷ 16 ∷ 17 ∷ 18 ∷ 19 ∷ 20 ∷ 21 ∷ 22 ∷ 23 ∷ 24 ∷ 25 ∷ 26 ∷ 27 ∷ 28 ∷ 29 ∷ 30 ∷ 31 ∷ 32 ∷ 33 ∷ 34 ∷ 35 ∷ 36 ∷ 37 ∷ 38 ∷ []; layer = 1; part = 11 ∷ 12 ∷ 13 ∷ 14 ∷ 15 ∷ 16 ∷ 17 ∷ 18 ∷ 19 ∷ 20 ∷ 21 ∷ 22 ∷ 23 ∷ 24 ∷ 25 ∷ 26 ∷ [] } ∷
-    record { k = 5; rate = 1; step = 1; store = 11 ∷ 12 ∷ 13 ∷ 14 ∷ 15 ∷ 16 ∷ 17 ∷ 18 ∷ 19 ∷ 20 ∷ 21 ∷ 22 ∷ 23 ∷ 24 ∷ 25 ∷ 26 ∷ 27 ∷ 28 ∷ 29 ∷ 30 ∷ 31 ∷ 32 ∷ 33 ∷ 34 ∷ 35 ∷ 36 ∷ 37 ∷ 38 ∷ []; layer = 2; part = 27 ∷ 28 ∷ 29 ∷ 30 ∷ 31 ∷ 32 ∷ 33 ∷ 34 ∷ [] } ∷
-    record { k = 5; rate = 1; step = 1; store = 11 ∷ 12 ∷ 13 ∷ 14 ∷ 15 ∷ 16 ∷ 17 ∷ 18 ∷ 19 ∷ 20 ∷ 21 ∷ 22 ∷ 23 ∷ 24 ∷ 25 ∷ 26 ∷ 27 ∷ 28 ∷ 29 ∷ 30 ∷ 31 ∷ 32 ∷ 33 ∷ 34 ∷ 35 ∷ 36 ∷ 37 ∷ 38 ∷ []; layer = 3; part = 35 ∷ 36 ∷ 37 ∷ 38 ∷ [] } ∷
-    record { k = 4; rate = 1; step = 1; store = 11 ∷ 12 ∷ 13 ∷ 14 ∷ 15 ∷ 16 ∷ 17 ∷ 18 ∷ 19 ∷ 20 ∷ 21 ∷ 22 ∷ []; layer = 0; part = [] } ∷
-    record { k = 4; rate = 1; step = 1; store = 11 ∷ 12 ∷ 13 ∷ 14 ∷ 15 ∷ 16 ∷ 17 ∷ 18 ∷ 19 ∷ 20 ∷ 21 ∷ 22 ∷ []; layer = 3; part = [] } ∷
-    record { k = 4; rate = 1; step = 1; store = 11 ∷ 12 ∷ 13 ∷ 14 ∷ 15 ∷ 16 ∷ 17 ∷ 18 ∷ 19 ∷ 20 ∷ 21 ∷ 22 ∷ []; layer = 4; part = [] } ∷
-    record { k = 4; rate = 1; step = 1; store = 11 ∷ 12 ∷ 13 ∷ 14 ∷ 15 ∷ 16 ∷ 17 ∷ 18 ∷ 19 ∷ 20 ∷ 21 ∷ []; layer = 1; part = [] } ∷
-    record { k = 4; rate = 1; step = 1; store = 11 ∷ 12 ∷ 13 ∷ 14 ∷ 15 ∷ 16 ∷ 17 ∷ 18 ∷ 19 ∷ 20 ∷ 21 ∷ 22 ∷ 23 ∷ []; layer = 2; part = [] } ∷
+    record {
+      k = 4;
+      rate = 2;
+      step = 1;
+      store = 11 ∷ 12 ∷ 13 ∷ 14 ∷ 15 ∷ 16 ∷ 17 ∷ 18 ∷ [];
+      layer = 1;
+      part = 11 ∷ 12 ∷ 13 ∷ 14 ∷ 15 ∷ 16 ∷ 17 ∷ 18 ∷ [];
+    } ∷
+    record {
+      k = 5;
+      rate = 1;
+      step = 2;
+      store = 11 ∷ 12 ∷ 13 ∷ 14 ∷ 15 ∷ 16 ∷ 17 ∷ 18 ∷ [];
+      layer = 1;
+      part = 11 ∷ 12 ∷ 13 ∷ 14 ∷ 15 ∷ 16 ∷ 17 ∷ 18 ∷ [];
+    } ∷
+    record {
+      k = 4;
+      rate = 1;
+      step = 1;
+      store = 11 ∷ 12 ∷ 13 ∷ 14 ∷ 15 ∷ 16 ∷ 17 ∷ 18 ∷ 19 ∷ 20 ∷ 21 ∷ 22 ∷ [];
+      layer = 1;
+      part = 11 ∷ 12 ∷ 13 ∷ 14 ∷ 15 ∷ 16 ∷ 17 ∷ 18 ∷ [];
+    } ∷
+    record {
+      k = 4;
+      rate = 1;
+      step = 1;
+      store = 11 ∷ 12 ∷ 13 ∷ 14 ∷ 15 ∷ 16 ∷ 17 ∷ 18 ∷ 19 ∷ 20 ∷ 21 ∷ 22 ∷ [];
+      layer = 2;
+      part = 19 ∷ 20 ∷ 21 ∷ 22 ∷ [];
+    } ∷
+    record {
+      k = 5;
+      rate = 2;
+      step = 1;
+      store =
+          11 ∷ 12 ∷ 13 ∷ 14 ∷ 15 ∷ 16 ∷ 17 ∷ 18 ∷ 19 ∷ 20 ∷ 21 ∷ 22 ∷ 23 ∷ 24 ∷ 25 ∷ 26 ∷ 27 ∷ 28 ∷ 29 ∷ 30 ∷ 31 ∷ 32
+          ∷ 33 ∷ 34 ∷ [];
+      layer = 1;
+      part = 11 ∷ 12 ∷ 13 ∷ 14 ∷ 15 ∷ 16 ∷ 17 ∷ 18 ∷ 19 ∷ 20 ∷ 21 ∷ 22 ∷ 23 ∷ 24 ∷ 25 ∷ 26 ∷ [];
+    } ∷
+    record {
+      k = 5;
+      rate = 2;
+      step = 1;
+      store =
+          11 ∷ 12 ∷ 13 ∷ 14 ∷ 15 ∷ 16 ∷ 17 ∷ 18 ∷ 19 ∷ 20 ∷ 21 ∷ 22 ∷ 23 ∷ 24 ∷ 25 ∷ 26 ∷ 27 ∷ 28 ∷ 29 ∷ 30 ∷ 31 ∷ 32
+          ∷ 33 ∷ 34 ∷ [];
+      layer = 2;
+      part = 27 ∷ 28 ∷ 29 ∷ 30 ∷ 31 ∷ 32 ∷ 33 ∷ 34 ∷ [];
+    } ∷
+    record {
+      k = 5;
+      rate = 1;
+      step = 1;
+      store =
+          11 ∷ 12 ∷ 13 ∷ 14 ∷ 15 ∷ 16 ∷ 17 ∷ 18 ∷ 19 ∷ 20 ∷ 21 ∷ 22 ∷ 23 ∷ 24 ∷ 25 ∷ 26 ∷ 27 ∷ 28 ∷ 29 ∷ 30 ∷ 31 ∷ 32
+          ∷ 33 ∷ 34 ∷ 35 ∷ 36 ∷ 37 ∷ 38 ∷ [];
+      layer = 1;
+      part = 11 ∷ 12 ∷ 13 ∷ 14 ∷ 15 ∷ 16 ∷ 17 ∷ 18 ∷ 19 ∷ 20 ∷ 21 ∷ 22 ∷ 23 ∷ 24 ∷ 25 ∷ 26 ∷ [];
+    } ∷
+    record {
+      k = 5;
+      rate = 1;
+      step = 1;
+      store =
+          11 ∷ 12 ∷ 13 ∷ 14 ∷ 15 ∷ 16 ∷ 17 ∷ 18 ∷ 19 ∷ 20 ∷ 21 ∷ 22 ∷ 23 ∷ 24 ∷ 25 ∷ 26 ∷ 27 ∷ 28 ∷ 29 ∷ 30 ∷ 31 ∷ 32
+          ∷ 33 ∷ 34 ∷ 35 ∷ 36 ∷ 37 ∷ 38 ∷ [];
+      layer = 2;
+      part = 27 ∷ 28 ∷ 29 ∷ 30 ∷ 31 ∷ 32 ∷ 33 ∷ 34 ∷ [];
+    } ∷
+    record {
+      k = 5;
+      rate = 1;
+      step = 1;
+      store =
+          11 ∷ 12 ∷ 13 ∷ 14 ∷ 15 ∷ 16 ∷ 17 ∷ 18 ∷ 19 ∷ 20 ∷ 21 ∷ 22 ∷ 23 ∷ 24 ∷ 25 ∷ 26 ∷ 27 ∷ 28 ∷ 29 ∷ 30 ∷ 31 ∷ 32
+          ∷ 33 ∷ 34 ∷ 35 ∷ 36 ∷ 37 ∷ 38 ∷ [];
+      layer = 3;
+      part = 35 ∷ 36 ∷ 37 ∷ 38 ∷ [];
+    } ∷
+    record {
+      k = 4;
+      rate = 1;
+      step = 1;
+      store = 11 ∷ 12 ∷ 13 ∷ 14 ∷ 15 ∷ 16 ∷ 17 ∷ 18 ∷ 19 ∷ 20 ∷ 21 ∷ 22 ∷ [];
+      layer = 0;
+      part = [];
+    } ∷
+    record {
+      k = 4;
+      rate = 1;
+      step = 1;
+      store = 11 ∷ 12 ∷ 13 ∷ 14 ∷ 15 ∷ 16 ∷ 17 ∷ 18 ∷ 19 ∷ 20 ∷ 21 ∷ 22 ∷ [];
+      layer = 3;
+      part = [];
+    } ∷
+    record {
+      k = 4;
+      rate = 1;
+      step = 1;
+      store = 11 ∷ 12 ∷ 13 ∷ 14 ∷ 15 ∷ 16 ∷ 17 ∷ 18 ∷ 19 ∷ 20 ∷ 21 ∷ 22 ∷ [];
+      layer = 4;
+      part = [];
+    } ∷
+    record {
+      k = 4;
+      rate = 1;
+      step = 1;
+      store = 11 ∷ 12 ∷ 13 ∷ 14 ∷ 15 ∷ 16 ∷ 17 ∷ 18 ∷ 19 ∷ 20 ∷ 21 ∷ [];
+      layer = 1;
+      part = [];
+    } ∷
+    record {
+      k = 4;
+      rate = 1;
+      step = 1;
+      store = 11 ∷ 12 ∷ 13 ∷ 14 ∷ 15 ∷ 16 ∷ 17 ∷ 18 ∷ 19 ∷ 20 ∷ 21 ∷ 22 ∷ 23 ∷ [];
+      layer = 2;
+      part = [];
+    } ∷
     record { k = 4; rate = 1; step = 1; store = []; layer = 1; part = [] } ∷
     record { k = 1; rate = 1; step = 1; store = 11 ∷ 12 ∷ 13 ∷ 14 ∷ []; layer = 1; part = [] } ∷
     record { k = 21; rate = 6; step = 3; store = 11 ∷ 12 ∷ 13 ∷ 14 ∷ []; layer = 1; part = [] } ∷
     record { k = 3; rate = 0; step = 1; store = 11 ∷ 12 ∷ 13 ∷ 14 ∷ 15 ∷ 16 ∷ []; layer = 1; part = [] } ∷
-    record { k = 9; rate = 7; step = 1; store = 11 ∷ 12 ∷ 13 ∷ 14 ∷ 15 ∷ 16 ∷ 17 ∷ 18 ∷ 19 ∷ 20 ∷ 21 ∷ 22 ∷ 23 ∷ 24 ∷ 25 ∷ 26 ∷ 27 ∷ 28 ∷ 29 ∷ 30 ∷ 31 ∷ 32 ∷ 33 ∷ 34 ∷ 35 ∷ 36 ∷ 37 ∷ 38 ∷ 39 ∷ 40 ∷ 41 ∷ 42 ∷ 43 ∷ 44 ∷ 45 ∷ 46 ∷ 47 ∷ 48 ∷ 49 ∷ 50 ∷ 51 ∷ 52 ∷ 53 ∷ 54 ∷ 55 ∷ 56 ∷ 57 ∷ 58 ∷ 59 ∷ 60 ∷ 61 ∷ 62 ∷ 63 ∷ 64 ∷ 65 ∷ 66 ∷ 67 ∷ 68 ∷ 69 ∷ 70 ∷ 71 ∷ 72 ∷ 73 ∷ 74 ∷ 75 ∷ 76 ∷ 77 ∷ 78 ∷ 79 ∷ 80 ∷ 81 ∷ 82 ∷ 83 ∷ 84 ∷ 85 ∷ 86 ∷ 87 ∷ 88 ∷ 89 ∷ 90 ∷ 91 ∷ 92 ∷ 93 ∷ 94 ∷ 95 ∷ 96 ∷ 97 ∷ 98 ∷ 99 ∷ 100 ∷ 101 ∷ 102 ∷ 103 ∷ 104 ∷ 105 ∷ 106 ∷ 107 ∷ 108 ∷ 109 ∷ 110 ∷ 111 ∷ 112 ∷ 113 ∷ 114 ∷ 115 ∷ 116 ∷ 117 ∷ 118 ∷ 119 ∷ 120 ∷ 121 ∷ 122 ∷ 123 ∷ 124 ∷ 125 ∷ 126 ∷ 127 ∷ 128 ∷ 129 ∷ 130 ∷ 131 ∷ 132 ∷ 133 ∷ 134 ∷ 135 ∷ 136 ∷ 137 ∷ 138 ∷ 139 ∷ 140 ∷ 141 ∷ 142 ∷ 143 ∷ 144 ∷ 145 ∷ 146 ∷ 147 ∷ 148 ∷ 149 ∷ 150 ∷ 151 ∷ 152 ∷ 153 ∷ 154 ∷ 155 ∷ 156 ∷ 157 ∷ 158 ∷ 159 ∷ 160 ∷ 161 ∷ 162 ∷ 163 ∷ 164 ∷ 165 ∷ 166 ∷ 167 ∷ 168 ∷ 169 ∷ 170 ∷ 171 ∷ 172 ∷ 173 ∷ 174 ∷ 175 ∷ 176 ∷ 177 ∷ 178 ∷ 179 ∷ 180 ∷ 181 ∷ 182 ∷ 183 ∷ 184 ∷ 185 ∷ 186 ∷ 187 ∷ 188 ∷ 189 ∷ 190 ∷ 191 ∷ 192 ∷ 193 ∷ 194 ∷ 195 ∷ 196 ∷ 197 ∷ 198 ∷ 199 ∷ 200 ∷ 201 ∷ 202 ∷ 203 ∷ 204 ∷ 205 ∷ 206 ∷ 207 ∷ 208 ∷ 209 ∷ 210 ∷ 211 ∷ 212 ∷ 213 ∷ 214 ∷ 215 ∷ 216 ∷ 217 ∷ 218 ∷ 219 ∷ 220 ∷ 221 ∷ 222 ∷ 223 ∷ 224 ∷ 225 ∷ 226 ∷ 227 ∷ 228 ∷ 229 ∷ 230 ∷ 231 ∷ 232 ∷ 233 ∷ 234 ∷ 235 ∷ 236 ∷ 237 ∷ 238 ∷ 239 ∷ 240 ∷ 241 ∷ 242 ∷ 243 ∷ 244 ∷ 245 ∷ 246 ∷ 247 ∷ 248 ∷ 249 ∷ 250 ∷ 251 ∷ 252 ∷ 253 ∷ 254 ∷ 255 ∷ 256 ∷ 257 ∷ 258 ∷ 259 ∷ 260 ∷ 261 ∷ 262 ∷ 263 ∷ 264 ∷ 265 ∷ 266 ∷ []; layer = 1; part = [] } ∷
+    record {
+      k = 9;
+      rate = 7;
+      step = 1;
+      store =
+          11 ∷ 12 ∷ 13 ∷ 14 ∷ 15 ∷ 16 ∷ 17 ∷ 18 ∷ 19 ∷ 20 ∷ 21 ∷ 22 ∷ 23 ∷ 24 ∷ 25 ∷ 26 ∷ 27 ∷ 28 ∷ 29 ∷ 30 ∷ 31 ∷ 32
+          ∷ 33 ∷ 34 ∷ 35 ∷ 36 ∷ 37 ∷ 38 ∷ 39 ∷ 40 ∷ 41 ∷ 42 ∷ 43 ∷ 44 ∷ 45 ∷ 46 ∷ 47 ∷ 48 ∷ 49 ∷ 50 ∷ 51 ∷ 52 ∷ 53
+          ∷ 54 ∷ 55 ∷ 56 ∷ 57 ∷ 58 ∷ 59 ∷ 60 ∷ 61 ∷ 62 ∷ 63 ∷ 64 ∷ 65 ∷ 66 ∷ 67 ∷ 68 ∷ 69 ∷ 70 ∷ 71 ∷ 72 ∷ 73 ∷ 74
+          ∷ 75 ∷ 76 ∷ 77 ∷ 78 ∷ 79 ∷ 80 ∷ 81 ∷ 82 ∷ 83 ∷ 84 ∷ 85 ∷ 86 ∷ 87 ∷ 88 ∷ 89 ∷ 90 ∷ 91 ∷ 92 ∷ 93 ∷ 94 ∷ 95
+          ∷ 96 ∷ 97 ∷ 98 ∷ 99 ∷ 100 ∷ 101 ∷ 102 ∷ 103 ∷ 104 ∷ 105 ∷ 106 ∷ 107 ∷ 108 ∷ 109 ∷ 110 ∷ 111 ∷ 112 ∷ 113
+          ∷ 114 ∷ 115 ∷ 116 ∷ 117 ∷ 118 ∷ 119 ∷ 120 ∷ 121 ∷ 122 ∷ 123 ∷ 124 ∷ 125 ∷ 126 ∷ 127 ∷ 128 ∷ 129 ∷ 130 ∷ 131
+          ∷ 132 ∷ 133 ∷ 134 ∷ 135 ∷ 136 ∷ 137 ∷ 138 ∷ 139 ∷ 140 ∷ 141 ∷ 142 ∷ 143 ∷ 144 ∷ 145 ∷ 146 ∷ 147 ∷ 148 ∷ 149
+          ∷ 150 ∷ 151 ∷ 152 ∷ 153 ∷ 154 ∷ 155 ∷ 156 ∷ 157 ∷ 158 ∷ 159 ∷ 160 ∷ 161 ∷ 162 ∷ 163 ∷ 164 ∷ 165 ∷ 166 ∷ 167
+          ∷ 168 ∷ 169 ∷ 170 ∷ 171 ∷ 172 ∷ 173 ∷ 174 ∷ 175 ∷ 176 ∷ 177 ∷ 178 ∷ 179 ∷ 180 ∷ 181 ∷ 182 ∷ 183 ∷ 184 ∷ 185
+          ∷ 186 ∷ 187 ∷ 188 ∷ 189 ∷ 190 ∷ 191 ∷ 192 ∷ 193 ∷ 194 ∷ 195 ∷ 196 ∷ 197 ∷ 198 ∷ 199 ∷ 200 ∷ 201 ∷ 202 ∷ 203
+          ∷ 204 ∷ 205 ∷ 206 ∷ 207 ∷ 208 ∷ 209 ∷ 210 ∷ 211 ∷ 212 ∷ 213 ∷ 214 ∷ 215 ∷ 216 ∷ 217 ∷ 218 ∷ 219 ∷ 220 ∷ 221
+          ∷ 222 ∷ 223 ∷ 224 ∷ 225 ∷ 226 ∷ 227 ∷ 228 ∷ 229 ∷ 230 ∷ 231 ∷ 232 ∷ 233 ∷ 234 ∷ 235 ∷ 236 ∷ 237 ∷ 238 ∷ 239
+          ∷ 240 ∷ 241 ∷ 242 ∷ 243 ∷ 244 ∷ 245 ∷ 246 ∷ 247 ∷ 248 ∷ 249 ∷ 250 ∷ 251 ∷ 252 ∷ 253 ∷ 254 ∷ 255 ∷ 256 ∷ 257
+          ∷ 258 ∷ 259 ∷ 260 ∷ 261 ∷ 262 ∷ 263 ∷ 264 ∷ 265 ∷ 266 ∷ [];
+      layer = 1;
+      part = [];
+    } ∷
     record { k = 3; rate = 1; step = 0; store = 11 ∷ 12 ∷ 13 ∷ 14 ∷ 15 ∷ 16 ∷ 17 ∷ 18 ∷ []; layer = 1; part = [] } ∷
-    record { k = 9; rate = 1; step = 4; store = 11 ∷ 12 ∷ 13 ∷ 14 ∷ 15 ∷ 16 ∷ 17 ∷ 18 ∷ 19 ∷ 20 ∷ 21 ∷ 22 ∷ 23 ∷ 24 ∷ 25 ∷ 26 ∷ 27 ∷ 28 ∷ 29 ∷ 30 ∷ 31 ∷ 32 ∷ 33 ∷ 34 ∷ 35 ∷ 36 ∷ 37 ∷ 38 ∷ 39 ∷ 40 ∷ 41 ∷ 42 ∷ []; layer = 1; part = [] } ∷
+    record {
+      k = 9;
+      rate = 1;
+      step = 4;
+      store =
+          11 ∷ 12 ∷ 13 ∷ 14 ∷ 15 ∷ 16 ∷ 17 ∷ 18 ∷ 19 ∷ 20 ∷ 21 ∷ 22 ∷ 23 ∷ 24 ∷ 25 ∷ 26 ∷ 27 ∷ 28 ∷ 29 ∷ 30 ∷ 31 ∷ 32
+          ∷ 33 ∷ 34 ∷ 35 ∷ 36 ∷ 37 ∷ 38 ∷ 39 ∷ 40 ∷ 41 ∷ 42 ∷ [];
+      layer = 1;
+      part = [];
+    } ∷
     record { k = 3; rate = 2; step = 2; store = 11 ∷ 12 ∷ []; layer = 1; part = [] } ∷
     record { k = 2; rate = 3; step = 1; store = 11 ∷ 12 ∷ []; layer = 1; part = [] } ∷
     record { k = 2; rate = 1; step = 1; store = []; layer = 1; part = [] } ∷
@@ -179,85 +596,851 @@ lookups =
 
 abbrev pub judgedOfTableA : List JudgedSample
 judgedOfTableA =
-    record { run = record { k = 2; rate = 1; step = 1; offset = 0; basis = 1 ∷ 2 ∷ []; challenges = 4 ∷ []; word = 7 ∷ 4 ∷ 1 ∷ 2 ∷ []; store = []; last = 11 ∷ [] }; queries = 0 ∷ 3 ∷ []; number = 0; place = Absent; round = Absent; reads = 4 } ∷
-    record { run = record { k = 2; rate = 1; step = 1; offset = 0; basis = 1 ∷ 2 ∷ []; challenges = 4 ∷ []; word = 7 ∷ 4 ∷ 1 ∷ 3 ∷ []; store = []; last = 11 ∷ [] }; queries = 0 ∷ 3 ∷ []; number = 11; place = At 1; round = At 0; reads = 4 } ∷
-    record { run = record { k = 2; rate = 1; step = 1; offset = 0; basis = 1 ∷ 2 ∷ []; challenges = 4 ∷ []; word = 7 ∷ 4 ∷ 1 ∷ 3 ∷ []; store = []; last = 11 ∷ [] }; queries = 0 ∷ []; number = 0; place = Absent; round = Absent; reads = 2 } ∷
-    record { run = record { k = 2; rate = 1; step = 1; offset = 0; basis = 1 ∷ 2 ∷ []; challenges = 2 ∷ []; word = 0 ∷ 0 ∷ 0 ∷ 1 ∷ []; store = []; last = 0 ∷ [] }; queries = 0 ∷ 1 ∷ 2 ∷ 3 ∷ []; number = 0; place = Absent; round = Absent; reads = 8 } ∷
+    record {
+      run = record {
+        k = 2;
+        rate = 1;
+        step = 1;
+        offset = 0;
+        basis = 1 ∷ 2 ∷ [];
+        challenges = 4 ∷ [];
+        word = 7 ∷ 4 ∷ 1 ∷ 2 ∷ [];
+        store = [];
+        last = 11 ∷ [];
+      };
+      queries = 0 ∷ 3 ∷ [];
+      number = 0;
+      place = Absent;
+      round = Absent;
+      reads = 4;
+    } ∷
+    record {
+      run = record {
+        k = 2;
+        rate = 1;
+        step = 1;
+        offset = 0;
+        basis = 1 ∷ 2 ∷ [];
+        challenges = 4 ∷ [];
+        word = 7 ∷ 4 ∷ 1 ∷ 3 ∷ [];
+        store = [];
+        last = 11 ∷ [];
+      };
+      queries = 0 ∷ 3 ∷ [];
+      number = 11;
+      place = At 1;
+      round = At 0;
+      reads = 4;
+    } ∷
+    record {
+      run = record {
+        k = 2;
+        rate = 1;
+        step = 1;
+        offset = 0;
+        basis = 1 ∷ 2 ∷ [];
+        challenges = 4 ∷ [];
+        word = 7 ∷ 4 ∷ 1 ∷ 3 ∷ [];
+        store = [];
+        last = 11 ∷ [];
+      };
+      queries = 0 ∷ [];
+      number = 0;
+      place = Absent;
+      round = Absent;
+      reads = 2;
+    } ∷
+    record {
+      run = record {
+        k = 2;
+        rate = 1;
+        step = 1;
+        offset = 0;
+        basis = 1 ∷ 2 ∷ [];
+        challenges = 2 ∷ [];
+        word = 0 ∷ 0 ∷ 0 ∷ 1 ∷ [];
+        store = [];
+        last = 0 ∷ [];
+      };
+      queries = 0 ∷ 1 ∷ 2 ∷ 3 ∷ [];
+      number = 0;
+      place = Absent;
+      round = Absent;
+      reads = 8;
+    } ∷
     []
 
 abbrev pub judgedAccepted : List JudgedSample
 judgedAccepted =
-    record { run = record { k = 3; rate = 1; step = 1; offset = 3226361114114826101; basis = 1 ∷ 1858076378458151938 ∷ 8461232653914558766 ∷ []; challenges = 3240989352377495306 ∷ 17024442266068328083 ∷ []; word = 2622177792724763228 ∷ 10462881099288570658 ∷ 10366192861743541394 ∷ 942152963148494928 ∷ 16194426238029645917 ∷ 9087178826479972317 ∷ 15664360389573345992 ∷ 8097358447150586100 ∷ []; store = 9526980720114104386 ∷ 11213389003510340893 ∷ 14305434037481297991 ∷ 15648966267950267672 ∷ []; last = 2542810680635074257 ∷ [] }; queries = 5 ∷ 0 ∷ 5 ∷ []; number = 0; place = Absent; round = Absent; reads = 12 } ∷
-    record { run = record { k = 4; rate = 2; step = 1; offset = 13180291639922876638; basis = 1 ∷ 1858076378458151939 ∷ 15033404561207802588 ∷ 17567990583358736137 ∷ []; challenges = 15968822638491253363 ∷ 11202099735051351246 ∷ []; word = 14656654467972341449 ∷ 3954716027891896505 ∷ 5252964487912896027 ∷ 8254161463260524710 ∷ 10156735181167026944 ∷ 6641093937845304448 ∷ 9325570455693668575 ∷ 10834812349427869586 ∷ 5371020430368871255 ∷ 18188197626558194909 ∷ 4826950908903754857 ∷ 3743043432513401646 ∷ 10453344566583335273 ∷ 769122980020059923 ∷ 1692376348283895130 ∷ 5416903433198228461 ∷ []; store = 11905362568672621933 ∷ 6974156543729060995 ∷ 13655861322502384545 ∷ 8679047559468634703 ∷ 7285363704980055528 ∷ 11595566107679087622 ∷ 9052738931374340900 ∷ 13281322391418684106 ∷ []; last = 12205571254458739021 ∷ [] }; queries = 9 ∷ []; number = 0; place = Absent; round = Absent; reads = 4 } ∷
-    record { run = record { k = 4; rate = 1; step = 1; offset = 14965222434551893468; basis = 1 ∷ 1858076378458151938 ∷ 11637837820279650197 ∷ 10400649308031691499 ∷ []; challenges = 17651095054025344213 ∷ 12195548477057075125 ∷ 3505469800306153242 ∷ []; word = 9125910936381998161 ∷ 3745864274668719067 ∷ 13878123541958096167 ∷ 11173558504660092295 ∷ 10287330579898381356 ∷ 8504914972515626796 ∷ 3781676491295302016 ∷ 1311121919230371482 ∷ 17212855358688869711 ∷ 13160715385986443321 ∷ 7974311636709109503 ∷ 3796368442307046664 ∷ 16698043406050346223 ∷ 3899407029749432501 ∷ 15974957082491524876 ∷ 14271573903828002535 ∷ []; store = 16274397997579544769 ∷ 14431009899132799592 ∷ 7211261888689723085 ∷ 17211953634665657140 ∷ 2737340004855637226 ∷ 13030910593736571893 ∷ 2170759912945427095 ∷ 3195906122368416472 ∷ 14546200615240383227 ∷ 13058048428743505721 ∷ 3383899750322684274 ∷ 5917724806272666800 ∷ []; last = 11448340577940026794 ∷ [] }; queries = 2 ∷ 13 ∷ []; number = 0; place = Absent; round = Absent; reads = 12 } ∷
+    record {
+      run = record {
+        k = 3;
+        rate = 1;
+        step = 1;
+        offset = 117;
+        basis = 1 ∷ 1858076378458151938 ∷ 2 ∷ [];
+        challenges = 188 ∷ 10 ∷ [];
+        word =
+            61924759 ∷ 62438310 ∷ 9950774006114901225 ∷ 9950774006114353789 ∷ 60875613 ∷ 61390514
+            ∷ 4753940040940500910 ∷ 4753940040941038308 ∷ [];
+        store = 96657134 ∷ 96638245 ∷ 96691796 ∷ 96677279 ∷ [];
+        last = 189612 ∷ [];
+      };
+      queries = 5 ∷ 5 ∷ [];
+      number = 0;
+      place = Absent;
+      round = Absent;
+      reads = 8;
+    } ∷
+    record {
+      run = record {
+        k = 4;
+        rate = 1;
+        step = 1;
+        offset = 147;
+        basis = 1 ∷ 1858076378458151938 ∷ 13279093613986655127 ∷ 2 ∷ [];
+        challenges = 220 ∷ 45 ∷ 226 ∷ [];
+        word =
+            120937963746221032 ∷ 121203769025518498 ∷ 14825982602877065791 ∷ 14826776778467589360
+            ∷ 9011390730305443117 ∷ 13968803912608538764 ∷ 7114037116258600197 ∷ 16028291445161154287
+            ∷ 120431129035621048 ∷ 119601659904493516 ∷ 4036524396708302881 ∷ 4037389017883852460
+            ∷ 13169764564720124473 ∷ 15050119373692795066 ∷ 16545882832971602501 ∷ 9477381237628374001 ∷ [];
+        store =
+            103923308507515598 ∷ 103917505793372335 ∷ 16805355277259844447 ∷ 16805349474685947051 ∷ 103909783362069692
+            ∷ 103913455329082535 ∷ 15483920482452709366 ∷ 15483914817462557304 ∷ 146533025115349 ∷ 146533024577542
+            ∷ 146533018044483 ∷ 146533017541776 ∷ [];
+        last = 119816821 ∷ [];
+      };
+      queries = 13 ∷ [];
+      number = 0;
+      place = Absent;
+      round = Absent;
+      reads = 6;
+    } ∷
     []
 
 abbrev pub judgedFailingInTwoRounds : List JudgedSample
 judgedFailingInTwoRounds =
-    record { run = record { k = 3; rate = 1; step = 1; offset = 4307452315275329895; basis = 1 ∷ 1858076378458151938 ∷ 16026945671033763189 ∷ []; challenges = 3568139200343240802 ∷ 5265235106512877441 ∷ []; word = 18220025110132983055 ∷ 18380453330736787731 ∷ 1467271700641135769 ∷ 12233080421191374262 ∷ 4049562381777945148 ∷ 13008439569658565006 ∷ 9894831826445502610 ∷ 13525069308451145235 ∷ []; store = 4736160490157285179 ∷ 9750350719840355628 ∷ 6482115337284924288 ∷ 11465906268659853718 ∷ []; last = 4038897319021100053 ∷ [] }; queries = 6 ∷ 3 ∷ []; number = 11; place = At 1; round = At 0; reads = 8 } ∷
-    record { run = record { k = 3; rate = 1; step = 1; offset = 4307452315275329895; basis = 1 ∷ 1858076378458151938 ∷ 16026945671033763189 ∷ []; challenges = 3568139200343240802 ∷ 5265235106512877441 ∷ []; word = 18220025110132983055 ∷ 18380453330736787731 ∷ 1467271700641135769 ∷ 12233080421191374262 ∷ 4049562381777945148 ∷ 13008439569658565006 ∷ 9894831826445502610 ∷ 13525069308451145235 ∷ []; store = 4736160490157285179 ∷ 9750350719840355628 ∷ 6482115337284924288 ∷ 11465906268659853718 ∷ []; last = 4038897319021100053 ∷ [] }; queries = 6 ∷ 4 ∷ 1 ∷ []; number = 11; place = At 2; round = At 1; reads = 12 } ∷
-    record { run = record { k = 3; rate = 1; step = 1; offset = 4307452315275329895; basis = 1 ∷ 1858076378458151938 ∷ 16026945671033763189 ∷ []; challenges = 3568139200343240802 ∷ 5265235106512877441 ∷ []; word = 18220025110132983055 ∷ 18380453330736787731 ∷ 1467271700641135769 ∷ 12233080421191374262 ∷ 4049562381777945148 ∷ 13008439569658565006 ∷ 9894831826445502610 ∷ 13525069308451145235 ∷ []; store = 4736160490157285179 ∷ 9750350719840355629 ∷ 6482115337284924288 ∷ 11465906268659853718 ∷ []; last = 13262269355875875861 ∷ [] }; queries = 2 ∷ []; number = 11; place = At 0; round = At 1; reads = 4 } ∷
+    record {
+      run = record {
+        k = 3;
+        rate = 1;
+        step = 1;
+        offset = 103;
+        basis = 1 ∷ 1858076378458151938 ∷ 2 ∷ [];
+        challenges = 51 ∷ 98 ∷ [];
+        word =
+            63819464 ∷ 63405261 ∷ 212428910018026524 ∷ 212428910018653843 ∷ 64490868 ∷ 64142413 ∷ 6156921021780708212
+            ∷ 6156921021780032199 ∷ [];
+        store = 31500236 ∷ 31506328 ∷ 31520306 ∷ 31518311 ∷ [];
+        last = 337564 ∷ [];
+      };
+      queries = 6 ∷ 3 ∷ [];
+      number = 11;
+      place = At 1;
+      round = At 0;
+      reads = 8;
+    } ∷
+    record {
+      run = record {
+        k = 3;
+        rate = 1;
+        step = 1;
+        offset = 103;
+        basis = 1 ∷ 1858076378458151938 ∷ 2 ∷ [];
+        challenges = 51 ∷ 98 ∷ [];
+        word =
+            63819464 ∷ 63405261 ∷ 212428910018026524 ∷ 212428910018653843 ∷ 64490868 ∷ 64142413 ∷ 6156921021780708212
+            ∷ 6156921021780032199 ∷ [];
+        store = 31500236 ∷ 31506328 ∷ 31520306 ∷ 31518311 ∷ [];
+        last = 337564 ∷ [];
+      };
+      queries = 1 ∷ 3 ∷ [];
+      number = 11;
+      place = At 0;
+      round = At 1;
+      reads = 4;
+    } ∷
     []
 
 abbrev pub judgedFailingInThreeRounds : List JudgedSample
 judgedFailingInThreeRounds =
-    record { run = record { k = 4; rate = 1; step = 1; offset = 14040738919231530821; basis = 1 ∷ 1858076378458151938 ∷ 13279093613986655127 ∷ 3449243424763349221 ∷ []; challenges = 17370606909518027653 ∷ 6775118934948781506 ∷ 8474456535142310972 ∷ []; word = 12776542054673739431 ∷ 6244324764071152713 ∷ 4992356779907691889 ∷ 3194538578954017353 ∷ 8701066619723761022 ∷ 11384850844275352645 ∷ 4973072062219179175 ∷ 1605953750657028270 ∷ 7247172220432456001 ∷ 15462142618732832153 ∷ 7034546924246309091 ∷ 1876797405575936932 ∷ 17925632142327877566 ∷ 16099623861670714318 ∷ 6527993858754364479 ∷ 10100932306947614518 ∷ []; store = 870150733122031554 ∷ 17357368481394715289 ∷ 1013261252408087167 ∷ 18105832517210749957 ∷ 5620678388409303883 ∷ 18327509470332080899 ∷ 12723075063000281655 ∷ 680077061479852382 ∷ 11138504142525094825 ∷ 9865068125738054018 ∷ 13761566632274864237 ∷ 12434102400092291654 ∷ []; last = 9326905399379166701 ∷ [] }; queries = 15 ∷ 7 ∷ []; number = 11; place = At 1; round = At 0; reads = 10 } ∷
-    record { run = record { k = 4; rate = 1; step = 1; offset = 14040738919231530821; basis = 1 ∷ 1858076378458151938 ∷ 13279093613986655127 ∷ 3449243424763349221 ∷ []; challenges = 17370606909518027653 ∷ 6775118934948781506 ∷ 8474456535142310972 ∷ []; word = 12776542054673739431 ∷ 6244324764071152713 ∷ 4992356779907691889 ∷ 3194538578954017353 ∷ 8701066619723761022 ∷ 11384850844275352645 ∷ 4973072062219179173 ∷ 1605953750657028270 ∷ 7247172220432456001 ∷ 15462142618732832153 ∷ 7034546924246309091 ∷ 1876797405575936932 ∷ 17925632142327877566 ∷ 16099623861670714318 ∷ 6527993858754364479 ∷ 10100932306947614518 ∷ []; store = 870150733122031554 ∷ 17357368481394715289 ∷ 1013261252408087167 ∷ 18105832517210749957 ∷ 5620678388409303883 ∷ 18327509470332080903 ∷ 12723075063000281655 ∷ 680077061479852382 ∷ 11138504142525094825 ∷ 9865068125738054018 ∷ 13761566632274864237 ∷ 12434102400092291654 ∷ []; last = 9326905399379166701 ∷ [] }; queries = 8 ∷ []; number = 11; place = At 0; round = At 1; reads = 6 } ∷
-    record { run = record { k = 4; rate = 1; step = 1; offset = 14040738919231530821; basis = 1 ∷ 1858076378458151938 ∷ 13279093613986655127 ∷ 3449243424763349221 ∷ []; challenges = 17370606909518027653 ∷ 6775118934948781506 ∷ 8474456535142310972 ∷ []; word = 12776542054673739431 ∷ 6244324764071152713 ∷ 4992356779907691889 ∷ 3194538578954017353 ∷ 8701066619723761022 ∷ 11384850844275352645 ∷ 4973072062219179173 ∷ 1605953750657028270 ∷ 7247172220432456001 ∷ 15462142618732832153 ∷ 7034546924246309091 ∷ 1876797405575936932 ∷ 17925632142327877566 ∷ 16099623861670714318 ∷ 6527993858754364479 ∷ 10100932306947614518 ∷ []; store = 870150733122031554 ∷ 17357368481394715289 ∷ 1013261252408087167 ∷ 18105832517210749957 ∷ 5620678388409303883 ∷ 18327509470332080899 ∷ 12723075063000281655 ∷ 680077061479852382 ∷ 11138504142525094825 ∷ 9865068125738054018 ∷ 13761566632274864229 ∷ 12434102400092291654 ∷ []; last = 9326905399379166701 ∷ [] }; queries = 12 ∷ []; number = 11; place = At 0; round = At 2; reads = 6 } ∷
-    record { run = record { k = 4; rate = 1; step = 1; offset = 14040738919231530821; basis = 1 ∷ 1858076378458151938 ∷ 13279093613986655127 ∷ 3449243424763349221 ∷ []; challenges = 17370606909518027653 ∷ 6775118934948781506 ∷ 8474456535142310972 ∷ []; word = 12776542054673739431 ∷ 6244324764071152713 ∷ 4992356779907691889 ∷ 3194538578954017353 ∷ 8701066619723761022 ∷ 11384850844275352645 ∷ 4973072062219179173 ∷ 1605953750657028270 ∷ 7247172220432456001 ∷ 15462142618732832153 ∷ 7034546924246309091 ∷ 1876797405575936932 ∷ 17925632142327877566 ∷ 16099623861670714318 ∷ 6527993858754364479 ∷ 10100932306947614518 ∷ []; store = 870150733122031554 ∷ 17357368481394715289 ∷ 1013261252408087167 ∷ 18105832517210749957 ∷ 5620678388409303883 ∷ 18327509470332080899 ∷ 12723075063000281655 ∷ 680077061479852382 ∷ 11138504142525094825 ∷ 9865068125738054018 ∷ 13761566632274864229 ∷ 12434102400092291654 ∷ []; last = 9326905399379166701 ∷ [] }; queries = 0 ∷ 8 ∷ []; number = 11; place = At 1; round = At 1; reads = 12 } ∷
-    record { run = record { k = 4; rate = 1; step = 1; offset = 14040738919231530821; basis = 1 ∷ 1858076378458151938 ∷ 13279093613986655127 ∷ 3449243424763349221 ∷ []; challenges = 17370606909518027653 ∷ 6775118934948781506 ∷ 8474456535142310972 ∷ []; word = 12776542054673739431 ∷ 6244324764071152713 ∷ 4992356779907691889 ∷ 3194538578954017353 ∷ 8701066619723761022 ∷ 11384850844275352645 ∷ 4973072062219179175 ∷ 1605953750657028270 ∷ 7247172220432456001 ∷ 15462142618732832153 ∷ 7034546924246309091 ∷ 1876797405575936932 ∷ 17925632142327877566 ∷ 16099623861670714318 ∷ 6527993858754364479 ∷ 10100932306947614518 ∷ []; store = 870150733122031554 ∷ 17357368481394715289 ∷ 1013261252408087167 ∷ 18105832517210749957 ∷ 5620678388409303883 ∷ 18327509470332080903 ∷ 12723075063000281655 ∷ 680077061479852382 ∷ 11138504142525094825 ∷ 9865068125738054018 ∷ 13761566632274864237 ∷ 12434102400092291654 ∷ []; last = 9326905399379166701 ∷ [] }; queries = 8 ∷ 6 ∷ []; number = 11; place = At 0; round = At 1; reads = 6 } ∷
+    record {
+      run = record {
+        k = 4;
+        rate = 1;
+        step = 1;
+        offset = 129;
+        basis = 1 ∷ 1858076378458151939 ∷ 13279093613986655127 ∷ 2 ∷ [];
+        challenges = 253 ∷ 230 ∷ 133 ∷ [];
+        word =
+            18445766872285101 ∷ 18310576270012983 ∷ 13180334357018320869 ∷ 13180190362129973933 ∷ 16820218104636565370
+            ∷ 16019585772767898960 ∷ 9340306188632649926 ∷ 13160368733662439965 ∷ 18159854134071695
+            ∷ 18015817501023749 ∷ 7220132728285529673 ∷ 7220278955470265155 ∷ 372016064628177785 ∷ 9021937900468277199
+            ∷ 5029381530216764725 ∷ 4455755217842352930 ∷ [];
+        store =
+            35472977725974901 ∷ 35474127166146356 ∷ 16251025236460640908 ∷ 16251024447797652339 ∷ 35468475813668739
+            ∷ 35469832486325598 ∷ 17604413261569759229 ∷ 17604414182302982814 ∷ 206585876780179 ∷ 206585876359851
+            ∷ 206585869732707 ∷ 206585870300507 ∷ [];
+        last = 99111499 ∷ [];
+      };
+      queries = 7 ∷ [];
+      number = 11;
+      place = At 0;
+      round = At 0;
+      reads = 4;
+    } ∷
+    record {
+      run = record {
+        k = 4;
+        rate = 1;
+        step = 1;
+        offset = 129;
+        basis = 1 ∷ 1858076378458151939 ∷ 13279093613986655127 ∷ 2 ∷ [];
+        challenges = 253 ∷ 230 ∷ 133 ∷ [];
+        word =
+            18445766872285101 ∷ 18310576270012983 ∷ 13180334357018320869 ∷ 13180190362129973933 ∷ 16820218104636565370
+            ∷ 16019585772767898960 ∷ 9340306188632649924 ∷ 13160368733662439965 ∷ 18159854134071695
+            ∷ 18015817501023749 ∷ 7220132728285529673 ∷ 7220278955470265155 ∷ 372016064628177785 ∷ 9021937900468277199
+            ∷ 5029381530216764725 ∷ 4455755217842352930 ∷ [];
+        store =
+            35472977725974901 ∷ 35474127166146356 ∷ 16251025236460640908 ∷ 16251024447797652339 ∷ 35468475813668739
+            ∷ 35469832486325598 ∷ 17604413261569759229 ∷ 17604414182302982814 ∷ 206585876780179 ∷ 206585876359851
+            ∷ 206585869732715 ∷ 206585870300507 ∷ [];
+        last = 99111499 ∷ [];
+      };
+      queries = 12 ∷ [];
+      number = 11;
+      place = At 0;
+      round = At 2;
+      reads = 6;
+    } ∷
     []
 
 abbrev pub judgedAtHighDegree : List JudgedSample
 judgedAtHighDegree =
-    record { run = record { k = 3; rate = 1; step = 1; offset = 3534694164934663623; basis = 1 ∷ 1858076378458151938 ∷ 15012773677868855009 ∷ []; challenges = 2349743090720164698 ∷ 17939788384541112768 ∷ []; word = 974174202341663122 ∷ 1592894219788196250 ∷ 13171808756331165974 ∷ 12497104396195721174 ∷ 7346699671972103640 ∷ 15868718345104316704 ∷ 6540871371280529507 ∷ 18250265912576462958 ∷ []; store = 273594596392886952 ∷ 1566729923620629172 ∷ 9585386006390210707 ∷ 41011973929300172 ∷ []; last = 742912468147611191 ∷ [] }; queries = 7 ∷ []; number = 11; place = At 0; round = At 1; reads = 4 } ∷
+    record {
+      run = record {
+        k = 3;
+        rate = 1;
+        step = 1;
+        offset = 194;
+        basis = 1 ∷ 1858076378458151939 ∷ 2 ∷ [];
+        challenges = 62 ∷ 110 ∷ [];
+        word =
+            133791181365049769 ∷ 133285485215038871 ∷ 2145154909256368667 ∷ 2145907089452295343 ∷ 134805086093072925
+            ∷ 134044328669021935 ∷ 9671883868775162948 ∷ 9672530448905638558 ∷ [];
+        store = 31094994130246657 ∷ 31095780763046629 ∷ 31098654738637633 ∷ 31100537159648167 ∷ [];
+        last = 498789 ∷ [];
+      };
+      queries = 7 ∷ [];
+      number = 11;
+      place = At 0;
+      round = At 1;
+      reads = 4;
+    } ∷
     []
 
 abbrev pub judgedRefused : List JudgedSample
 judgedRefused =
-    record { run = record { k = 1; rate = 7; step = 0; offset = 0; basis = 1 ∷ 2 ∷ []; challenges = 4 ∷ []; word = 7 ∷ 4 ∷ 1 ∷ 2 ∷ []; store = []; last = 11 ∷ [] }; queries = []; number = 4; place = Absent; round = Absent; reads = 0 } ∷
-    record { run = record { k = 21; rate = 1; step = 1; offset = 0; basis = 1 ∷ 2 ∷ []; challenges = 4 ∷ []; word = 7 ∷ 4 ∷ 1 ∷ 2 ∷ []; store = []; last = 11 ∷ [] }; queries = []; number = 4; place = Absent; round = Absent; reads = 0 } ∷
-    record { run = record { k = 2; rate = 0; step = 4; offset = 0; basis = 1 ∷ 2 ∷ []; challenges = 4 ∷ []; word = 7 ∷ 4 ∷ 1 ∷ 2 ∷ []; store = []; last = 11 ∷ [] }; queries = []; number = 5; place = Absent; round = Absent; reads = 0 } ∷
-    record { run = record { k = 2; rate = 6; step = 4; offset = 0; basis = 1 ∷ 2 ∷ []; challenges = 4 ∷ []; word = 7 ∷ 4 ∷ 1 ∷ 2 ∷ []; store = []; last = 11 ∷ [] }; queries = []; number = 6; place = Absent; round = Absent; reads = 0 } ∷
-    record { run = record { k = 4; rate = 2; step = 3; offset = 0; basis = 1 ∷ 2 ∷ []; challenges = 4 ∷ []; word = 7 ∷ 4 ∷ 1 ∷ 2 ∷ []; store = []; last = 11 ∷ [] }; queries = []; number = 7; place = Absent; round = Absent; reads = 0 } ∷
-    record { run = record { k = 3; rate = 1; step = 1; offset = 17793315617876840915; basis = 1 ∷ 1858076378458151939 ∷ 16480403430697042305 ∷ 7 ∷ []; challenges = 8251804566453308235 ∷ 15928144097318800023 ∷ []; word = 896784996767328339 ∷ 8718601428170163024 ∷ 17700128698453067663 ∷ 14799172624281756220 ∷ 1153918738989224376 ∷ 11492683135640041446 ∷ 12217359399211937866 ∷ 7692020197747529892 ∷ []; store = 985921105602750396 ∷ 6053681282049893025 ∷ 17161012247104758800 ∷ 13223805180636455181 ∷ []; last = 14122193262255281666 ∷ [] }; queries = 0 ∷ []; number = 13; place = At 1; round = Absent; reads = 0 } ∷
-    record { run = record { k = 3; rate = 1; step = 1; offset = 17793315617876840915; basis = 1 ∷ 1858076378458151939 ∷ 16480403430697042305 ∷ []; challenges = 8251804566453308235 ∷ 15928144097318800023 ∷ 7 ∷ []; word = 896784996767328339 ∷ 8718601428170163024 ∷ 17700128698453067663 ∷ 14799172624281756220 ∷ 1153918738989224376 ∷ 11492683135640041446 ∷ 12217359399211937866 ∷ 7692020197747529892 ∷ []; store = 985921105602750396 ∷ 6053681282049893025 ∷ 17161012247104758800 ∷ 13223805180636455181 ∷ []; last = 14122193262255281666 ∷ [] }; queries = 0 ∷ []; number = 13; place = At 2; round = Absent; reads = 0 } ∷
-    record { run = record { k = 3; rate = 1; step = 1; offset = 17793315617876840915; basis = 1 ∷ 1858076378458151939 ∷ 16480403430697042305 ∷ []; challenges = 8251804566453308235 ∷ 15928144097318800023 ∷ []; word = 896784996767328339 ∷ 8718601428170163024 ∷ 17700128698453067663 ∷ 14799172624281756220 ∷ 1153918738989224376 ∷ 11492683135640041446 ∷ 12217359399211937866 ∷ []; store = 985921105602750396 ∷ 6053681282049893025 ∷ 17161012247104758800 ∷ 13223805180636455181 ∷ []; last = 14122193262255281666 ∷ [] }; queries = 0 ∷ []; number = 13; place = At 3; round = Absent; reads = 0 } ∷
-    record { run = record { k = 3; rate = 1; step = 1; offset = 17793315617876840915; basis = 1 ∷ 1858076378458151939 ∷ 16480403430697042305 ∷ []; challenges = 8251804566453308235 ∷ 15928144097318800023 ∷ []; word = 896784996767328339 ∷ 8718601428170163024 ∷ 17700128698453067663 ∷ 14799172624281756220 ∷ 1153918738989224376 ∷ 11492683135640041446 ∷ 12217359399211937866 ∷ 7692020197747529892 ∷ []; store = 985921105602750396 ∷ 6053681282049893025 ∷ 17161012247104758800 ∷ []; last = 14122193262255281666 ∷ [] }; queries = 0 ∷ []; number = 13; place = At 4; round = Absent; reads = 0 } ∷
-    record { run = record { k = 3; rate = 1; step = 1; offset = 17793315617876840915; basis = 1 ∷ 1858076378458151939 ∷ 16480403430697042305 ∷ []; challenges = 8251804566453308235 ∷ 15928144097318800023 ∷ []; word = 896784996767328339 ∷ 8718601428170163024 ∷ 17700128698453067663 ∷ 14799172624281756220 ∷ 1153918738989224376 ∷ 11492683135640041446 ∷ 12217359399211937866 ∷ 7692020197747529892 ∷ []; store = 985921105602750396 ∷ 6053681282049893025 ∷ 17161012247104758800 ∷ 13223805180636455181 ∷ []; last = [] }; queries = 0 ∷ []; number = 13; place = At 5; round = Absent; reads = 0 } ∷
-    record { run = record { k = 4; rate = 1; step = 2; offset = 17246418938634431262; basis = 0 ∷ 0 ∷ 0 ∷ 0 ∷ []; challenges = 10429786445204570738 ∷ []; word = 198446631151547288 ∷ 18268196740595404593 ∷ 12262709243076693081 ∷ 17577519071253257022 ∷ 7338078928204561672 ∷ 4365619190752696352 ∷ 9528405345659528852 ∷ 16096566736094442974 ∷ 6956842270592350536 ∷ 584419301690851249 ∷ 3382272772920062325 ∷ 15779001994085546214 ∷ 6752378985680212475 ∷ 11229705438301380430 ∷ 16751826364466477712 ∷ 1592576440998602467 ∷ []; store = 0 ∷ []; last = 16868312072962929020 ∷ [] }; queries = 16 ∷ []; number = 13; place = At 4; round = Absent; reads = 0 } ∷
-    record { run = record { k = 3; rate = 1; step = 1; offset = 6346600917977132727; basis = 1 ∷ 1858076378458151939 ∷ 1858076378458151938 ∷ []; challenges = 6241871452199947076 ∷ 16251327801863713299 ∷ []; word = 14602025598104382215 ∷ 662029511095241952 ∷ 7027493439602470891 ∷ 8853558286523477517 ∷ 16302203814124294977 ∷ 2001344815579324368 ∷ 14259041469401627919 ∷ 16489126552620259231 ∷ []; store = 3021836158506775611 ∷ 17702525952309317576 ∷ 674316089133911503 ∷ 15355041204682470972 ∷ []; last = 14090790068025536162 ∷ [] }; queries = []; number = 8; place = At 2; round = Absent; reads = 0 } ∷
-    record { run = record { k = 4; rate = 1; step = 3; offset = 14275363974085613002; basis = 1 ∷ 1 ∷ 13279093613986655126 ∷ 0 ∷ []; challenges = 17172738540244717988 ∷ []; word = 243123650208888865 ∷ 415628698068454893 ∷ 12249368198477140102 ∷ 16284287252745330894 ∷ 5600291546916873583 ∷ 1280292889256860836 ∷ 14075639981798440873 ∷ 11751361690123830056 ∷ 10170513786216381535 ∷ 13367709525420618832 ∷ 13755023923391746213 ∷ 15391266219594209867 ∷ 8826575413670160142 ∷ 7237865249245030701 ∷ 13010263410084120813 ∷ 9798362601727542497 ∷ []; store = []; last = 4532007804311255098 ∷ [] }; queries = 16 ∷ []; number = 8; place = At 1; round = Absent; reads = 0 } ∷
-    record { run = record { k = 2; rate = 1; step = 1; offset = 7838419991721876074; basis = 1 ∷ 18299242775566391471 ∷ []; challenges = 4476901344531414741 ∷ []; word = 14722823440330451176 ∷ 4104528805108670989 ∷ 11226971285260841072 ∷ 8028220761105185429 ∷ []; store = []; last = 4546883049825291133 ∷ [] }; queries = []; number = 9; place = Absent; round = Absent; reads = 0 } ∷
-    record { run = record { k = 2; rate = 1; step = 1; offset = 7838419991721876074; basis = 1 ∷ 18299242775566391471 ∷ []; challenges = 4476901344531414741 ∷ []; word = 14722823440330451176 ∷ 4104528805108670989 ∷ 11226971285260841072 ∷ 8028220761105185429 ∷ []; store = []; last = 4546883049825291132 ∷ [] }; queries = 4 ∷ 4 ∷ 4 ∷ 4 ∷ 4 ∷ 4 ∷ 4 ∷ 4 ∷ 4 ∷ 4 ∷ 4 ∷ 4 ∷ 4 ∷ 4 ∷ 4 ∷ 4 ∷ 4 ∷ 4 ∷ 4 ∷ 4 ∷ 4 ∷ 4 ∷ 4 ∷ 4 ∷ 4 ∷ 4 ∷ 4 ∷ 4 ∷ 4 ∷ 4 ∷ 4 ∷ 4 ∷ 4 ∷ 4 ∷ 4 ∷ 4 ∷ 4 ∷ 4 ∷ 4 ∷ 4 ∷ 4 ∷ 4 ∷ 4 ∷ 4 ∷ 4 ∷ 4 ∷ 4 ∷ 4 ∷ 4 ∷ 4 ∷ 4 ∷ 4 ∷ 4 ∷ 4 ∷ 4 ∷ 4 ∷ 4 ∷ 4 ∷ 4 ∷ 4 ∷ 4 ∷ 4 ∷ 4 ∷ 4 ∷ 4 ∷ 4 ∷ 4 ∷ 4 ∷ 4 ∷ 4 ∷ 4 ∷ 4 ∷ 4 ∷ 4 ∷ 4 ∷ 4 ∷ 4 ∷ 4 ∷ 4 ∷ 4 ∷ 4 ∷ 4 ∷ 4 ∷ 4 ∷ 4 ∷ 4 ∷ 4 ∷ 4 ∷ 4 ∷ 4 ∷ 4 ∷ 4 ∷ 4 ∷ 4 ∷ 4 ∷ 4 ∷ 4 ∷ 4 ∷ 4 ∷ 4 ∷ 4 ∷ 4 ∷ 4 ∷ 4 ∷ 4 ∷ 4 ∷ 4 ∷ 4 ∷ 4 ∷ 4 ∷ 4 ∷ 4 ∷ 4 ∷ 4 ∷ 4 ∷ 4 ∷ 4 ∷ 4 ∷ 4 ∷ 4 ∷ 4 ∷ 4 ∷ 4 ∷ 4 ∷ 4 ∷ 4 ∷ 4 ∷ 4 ∷ 4 ∷ 4 ∷ 4 ∷ 4 ∷ 4 ∷ 4 ∷ 4 ∷ 4 ∷ 4 ∷ 4 ∷ 4 ∷ 4 ∷ 4 ∷ 4 ∷ 4 ∷ 4 ∷ 4 ∷ 4 ∷ 4 ∷ 4 ∷ 4 ∷ 4 ∷ 4 ∷ 4 ∷ 4 ∷ 4 ∷ 4 ∷ 4 ∷ 4 ∷ 4 ∷ 4 ∷ 4 ∷ 4 ∷ 4 ∷ 4 ∷ 4 ∷ 4 ∷ 4 ∷ 4 ∷ 4 ∷ 4 ∷ 4 ∷ 4 ∷ 4 ∷ 4 ∷ 4 ∷ 4 ∷ 4 ∷ 4 ∷ 4 ∷ 4 ∷ 4 ∷ 4 ∷ 4 ∷ 4 ∷ 4 ∷ 4 ∷ 4 ∷ 4 ∷ 4 ∷ 4 ∷ 4 ∷ 4 ∷ 4 ∷ 4 ∷ 4 ∷ 4 ∷ 4 ∷ 4 ∷ 4 ∷ 4 ∷ 4 ∷ 4 ∷ 4 ∷ 4 ∷ 4 ∷ 4 ∷ 4 ∷ 4 ∷ 4 ∷ 4 ∷ 4 ∷ 4 ∷ 4 ∷ 4 ∷ 4 ∷ 4 ∷ 4 ∷ 4 ∷ 4 ∷ 4 ∷ 4 ∷ 4 ∷ 4 ∷ 4 ∷ 4 ∷ 4 ∷ 4 ∷ 4 ∷ 4 ∷ 4 ∷ 4 ∷ 4 ∷ 4 ∷ 4 ∷ 4 ∷ 4 ∷ 4 ∷ 4 ∷ 4 ∷ 4 ∷ 4 ∷ 4 ∷ 4 ∷ 4 ∷ 4 ∷ 4 ∷ 4 ∷ 4 ∷ 4 ∷ 4 ∷ 4 ∷ 4 ∷ 4 ∷ 4 ∷ 4 ∷ 4 ∷ 4 ∷ 4 ∷ []; number = 9; place = Absent; round = Absent; reads = 0 } ∷
-    record { run = record { k = 2; rate = 1; step = 1; offset = 7838419991721876074; basis = 1 ∷ 18299242775566391471 ∷ []; challenges = 4476901344531414741 ∷ []; word = 14722823440330451176 ∷ 4104528805108670989 ∷ 11226971285260841072 ∷ 8028220761105185429 ∷ []; store = []; last = 4546883049825291133 ∷ [] }; queries = 0 ∷ 3 ∷ 4 ∷ 5 ∷ []; number = 10; place = At 2; round = Absent; reads = 0 } ∷
-    record { run = record { k = 2; rate = 1; step = 1; offset = 7838419991721876074; basis = 1 ∷ 18299242775566391471 ∷ []; challenges = 4476901344531414741 ∷ []; word = 14722823440330451176 ∷ 4104528805108670989 ∷ 11226971285260841072 ∷ 8028220761105185429 ∷ []; store = []; last = 4546883049825291132 ∷ [] }; queries = 18446744073709551615 ∷ 1 ∷ []; number = 10; place = At 0; round = Absent; reads = 0 } ∷
+    record {
+      run = record {
+        k = 1;
+        rate = 7;
+        step = 0;
+        offset = 0;
+        basis = 1 ∷ 2 ∷ [];
+        challenges = 4 ∷ [];
+        word = 7 ∷ 4 ∷ 1 ∷ 2 ∷ [];
+        store = [];
+        last = 11 ∷ [];
+      };
+      queries = [];
+      number = 4;
+      place = Absent;
+      round = Absent;
+      reads = 0;
+    } ∷
+    record {
+      run = record {
+        k = 21;
+        rate = 1;
+        step = 1;
+        offset = 0;
+        basis = 1 ∷ 2 ∷ [];
+        challenges = 4 ∷ [];
+        word = 7 ∷ 4 ∷ 1 ∷ 2 ∷ [];
+        store = [];
+        last = 11 ∷ [];
+      };
+      queries = [];
+      number = 4;
+      place = Absent;
+      round = Absent;
+      reads = 0;
+    } ∷
+    record {
+      run = record {
+        k = 2;
+        rate = 0;
+        step = 4;
+        offset = 0;
+        basis = 1 ∷ 2 ∷ [];
+        challenges = 4 ∷ [];
+        word = 7 ∷ 4 ∷ 1 ∷ 2 ∷ [];
+        store = [];
+        last = 11 ∷ [];
+      };
+      queries = [];
+      number = 5;
+      place = Absent;
+      round = Absent;
+      reads = 0;
+    } ∷
+    record {
+      run = record {
+        k = 2;
+        rate = 6;
+        step = 4;
+        offset = 0;
+        basis = 1 ∷ 2 ∷ [];
+        challenges = 4 ∷ [];
+        word = 7 ∷ 4 ∷ 1 ∷ 2 ∷ [];
+        store = [];
+        last = 11 ∷ [];
+      };
+      queries = [];
+      number = 6;
+      place = Absent;
+      round = Absent;
+      reads = 0;
+    } ∷
+    record {
+      run = record {
+        k = 4;
+        rate = 2;
+        step = 3;
+        offset = 0;
+        basis = 1 ∷ 2 ∷ [];
+        challenges = 4 ∷ [];
+        word = 7 ∷ 4 ∷ 1 ∷ 2 ∷ [];
+        store = [];
+        last = 11 ∷ [];
+      };
+      queries = [];
+      number = 7;
+      place = Absent;
+      round = Absent;
+      reads = 0;
+    } ∷
+    record {
+      run = record {
+        k = 3;
+        rate = 1;
+        step = 1;
+        offset = 211;
+        basis = 1 ∷ 1858076378458151939 ∷ 2 ∷ 7 ∷ [];
+        challenges = 176 ∷ 75 ∷ [];
+        word =
+            242196612 ∷ 242975841 ∷ 801140328721500450 ∷ 801140328722296198 ∷ 239555298 ∷ 240351105
+            ∷ 8216077638906376331 ∷ 8216077638907680169 ∷ [];
+        store = 165570635 ∷ 165561560 ∷ 165577505 ∷ 165588914 ∷ [];
+        last = 684476 ∷ [];
+      };
+      queries = 0 ∷ [];
+      number = 13;
+      place = At 1;
+      round = Absent;
+      reads = 0;
+    } ∷
+    record {
+      run = record {
+        k = 3;
+        rate = 1;
+        step = 1;
+        offset = 211;
+        basis = 1 ∷ 1858076378458151939 ∷ 2 ∷ [];
+        challenges = 176 ∷ 75 ∷ 7 ∷ [];
+        word =
+            242196612 ∷ 242975841 ∷ 801140328721500450 ∷ 801140328722296198 ∷ 239555298 ∷ 240351105
+            ∷ 8216077638906376331 ∷ 8216077638907680169 ∷ [];
+        store = 165570635 ∷ 165561560 ∷ 165577505 ∷ 165588914 ∷ [];
+        last = 684476 ∷ [];
+      };
+      queries = 0 ∷ [];
+      number = 13;
+      place = At 2;
+      round = Absent;
+      reads = 0;
+    } ∷
+    record {
+      run = record {
+        k = 3;
+        rate = 1;
+        step = 1;
+        offset = 211;
+        basis = 1 ∷ 1858076378458151939 ∷ 2 ∷ [];
+        challenges = 176 ∷ 75 ∷ [];
+        word =
+            242196612 ∷ 242975841 ∷ 801140328721500450 ∷ 801140328722296198 ∷ 239555298 ∷ 240351105
+            ∷ 8216077638906376331 ∷ [];
+        store = 165570635 ∷ 165561560 ∷ 165577505 ∷ 165588914 ∷ [];
+        last = 684476 ∷ [];
+      };
+      queries = 0 ∷ [];
+      number = 13;
+      place = At 3;
+      round = Absent;
+      reads = 0;
+    } ∷
+    record {
+      run = record {
+        k = 3;
+        rate = 1;
+        step = 1;
+        offset = 211;
+        basis = 1 ∷ 1858076378458151939 ∷ 2 ∷ [];
+        challenges = 176 ∷ 75 ∷ [];
+        word =
+            242196612 ∷ 242975841 ∷ 801140328721500450 ∷ 801140328722296198 ∷ 239555298 ∷ 240351105
+            ∷ 8216077638906376331 ∷ 8216077638907680169 ∷ [];
+        store = 165570635 ∷ 165561560 ∷ 165577505 ∷ [];
+        last = 684476 ∷ [];
+      };
+      queries = 0 ∷ [];
+      number = 13;
+      place = At 4;
+      round = Absent;
+      reads = 0;
+    } ∷
+    record {
+      run = record {
+        k = 3;
+        rate = 1;
+        step = 1;
+        offset = 211;
+        basis = 1 ∷ 1858076378458151939 ∷ 2 ∷ [];
+        challenges = 176 ∷ 75 ∷ [];
+        word =
+            242196612 ∷ 242975841 ∷ 801140328721500450 ∷ 801140328722296198 ∷ 239555298 ∷ 240351105
+            ∷ 8216077638906376331 ∷ 8216077638907680169 ∷ [];
+        store = 165570635 ∷ 165561560 ∷ 165577505 ∷ 165588914 ∷ [];
+        last = [];
+      };
+      queries = 0 ∷ [];
+      number = 13;
+      place = At 5;
+      round = Absent;
+      reads = 0;
+    } ∷
+    record {
+      run = record {
+        k = 4;
+        rate = 1;
+        step = 2;
+        offset = 151;
+        basis = 0 ∷ 0 ∷ 0 ∷ 0 ∷ [];
+        challenges = 190 ∷ [];
+        word =
+            63119223610302367 ∷ 63554709977008203 ∷ 16901469257581586770 ∷ 16901974832438607170 ∷ 64141001862543331
+            ∷ 63661462555399515 ∷ 2032012095240773209 ∷ 2031928404354349085 ∷ 65259811995315319 ∷ 64788870359386299
+            ∷ 2544158820856072795 ∷ 2544356383592861859 ∷ 64238485613239211 ∷ 64682933731846475 ∷ 11605383483528333586
+            ∷ 11605616310090154750 ∷ [];
+        store = 0 ∷ [];
+        last = 476847087 ∷ [];
+      };
+      queries = 16 ∷ [];
+      number = 13;
+      place = At 4;
+      round = Absent;
+      reads = 0;
+    } ∷
+    record {
+      run = record {
+        k = 3;
+        rate = 1;
+        step = 1;
+        offset = 183;
+        basis = 1 ∷ 1858076378458151939 ∷ 1858076378458151938 ∷ [];
+        challenges = 1 ∷ 68 ∷ [];
+        word =
+            197809930 ∷ 198933097 ∷ 15515498339606848924 ∷ 15515498339607824574 ∷ 199811264 ∷ 200920101
+            ∷ 12558701525368805785 ∷ 12558701525369795901 ∷ [];
+        store = 881552 ∷ 881574 ∷ 881444 ∷ 881426 ∷ [];
+        last = 3428 ∷ [];
+      };
+      queries = [];
+      number = 8;
+      place = At 2;
+      round = Absent;
+      reads = 0;
+    } ∷
+    record {
+      run = record {
+        k = 4;
+        rate = 1;
+        step = 3;
+        offset = 19;
+        basis = 1 ∷ 1 ∷ 11637837820279650196 ∷ 0 ∷ [];
+        challenges = 70 ∷ [];
+        word =
+            33925849005 ∷ 32661390132 ∷ 8040545314230484610 ∷ 8040545313502503430 ∷ 12139659771643845678
+            ∷ 7670846005688608165 ∷ 3752829453857231457 ∷ 17733019687468919693 ∷ 30275907769 ∷ 31967447098
+            ∷ 16366791397754277300 ∷ 16366791398249673342 ∷ 13799074395878856741 ∷ 10085544520714812462
+            ∷ 2901659674465557016 ∷ 2032214536642738464 ∷ [];
+        store = [];
+        last = 551498716389672 ∷ [];
+      };
+      queries = 16 ∷ [];
+      number = 8;
+      place = At 1;
+      round = Absent;
+      reads = 0;
+    } ∷
+    record {
+      run = record {
+        k = 2;
+        rate = 1;
+        step = 1;
+        offset = 106;
+        basis = 1 ∷ 2 ∷ [];
+        challenges = 229 ∷ [];
+        word = 2525 ∷ 2528 ∷ 2471 ∷ 2458 ∷ [];
+        store = [];
+        last = 5639 ∷ [];
+      };
+      queries = [];
+      number = 9;
+      place = Absent;
+      round = Absent;
+      reads = 0;
+    } ∷
+    record {
+      run = record {
+        k = 2;
+        rate = 1;
+        step = 1;
+        offset = 106;
+        basis = 1 ∷ 2 ∷ [];
+        challenges = 229 ∷ [];
+        word = 2525 ∷ 2528 ∷ 2471 ∷ 2458 ∷ [];
+        store = [];
+        last = 5638 ∷ [];
+      };
+      queries =
+          4 ∷ 4 ∷ 4 ∷ 4 ∷ 4 ∷ 4 ∷ 4 ∷ 4 ∷ 4 ∷ 4 ∷ 4 ∷ 4 ∷ 4 ∷ 4 ∷ 4 ∷ 4 ∷ 4 ∷ 4 ∷ 4 ∷ 4 ∷ 4 ∷ 4 ∷ 4 ∷ 4 ∷ 4 ∷ 4 ∷ 4
+          ∷ 4 ∷ 4 ∷ 4 ∷ 4 ∷ 4 ∷ 4 ∷ 4 ∷ 4 ∷ 4 ∷ 4 ∷ 4 ∷ 4 ∷ 4 ∷ 4 ∷ 4 ∷ 4 ∷ 4 ∷ 4 ∷ 4 ∷ 4 ∷ 4 ∷ 4 ∷ 4 ∷ 4 ∷ 4 ∷ 4 ∷ 4
+          ∷ 4 ∷ 4 ∷ 4 ∷ 4 ∷ 4 ∷ 4 ∷ 4 ∷ 4 ∷ 4 ∷ 4 ∷ 4 ∷ 4 ∷ 4 ∷ 4 ∷ 4 ∷ 4 ∷ 4 ∷ 4 ∷ 4 ∷ 4 ∷ 4 ∷ 4 ∷ 4 ∷ 4 ∷ 4 ∷ 4 ∷ 4
+          ∷ 4 ∷ 4 ∷ 4 ∷ 4 ∷ 4 ∷ 4 ∷ 4 ∷ 4 ∷ 4 ∷ 4 ∷ 4 ∷ 4 ∷ 4 ∷ 4 ∷ 4 ∷ 4 ∷ 4 ∷ 4 ∷ 4 ∷ 4 ∷ 4 ∷ 4 ∷ 4 ∷ 4 ∷ 4 ∷ 4 ∷ 4
+          ∷ 4 ∷ 4 ∷ 4 ∷ 4 ∷ 4 ∷ 4 ∷ 4 ∷ 4 ∷ 4 ∷ 4 ∷ 4 ∷ 4 ∷ 4 ∷ 4 ∷ 4 ∷ 4 ∷ 4 ∷ 4 ∷ 4 ∷ 4 ∷ 4 ∷ 4 ∷ 4 ∷ 4 ∷ 4 ∷ 4 ∷ 4
+          ∷ 4 ∷ 4 ∷ 4 ∷ 4 ∷ 4 ∷ 4 ∷ 4 ∷ 4 ∷ 4 ∷ 4 ∷ 4 ∷ 4 ∷ 4 ∷ 4 ∷ 4 ∷ 4 ∷ 4 ∷ 4 ∷ 4 ∷ 4 ∷ 4 ∷ 4 ∷ 4 ∷ 4 ∷ 4 ∷ 4 ∷ 4
+          ∷ 4 ∷ 4 ∷ 4 ∷ 4 ∷ 4 ∷ 4 ∷ 4 ∷ 4 ∷ 4 ∷ 4 ∷ 4 ∷ 4 ∷ 4 ∷ 4 ∷ 4 ∷ 4 ∷ 4 ∷ 4 ∷ 4 ∷ 4 ∷ 4 ∷ 4 ∷ 4 ∷ 4 ∷ 4 ∷ 4 ∷ 4
+          ∷ 4 ∷ 4 ∷ 4 ∷ 4 ∷ 4 ∷ 4 ∷ 4 ∷ 4 ∷ 4 ∷ 4 ∷ 4 ∷ 4 ∷ 4 ∷ 4 ∷ 4 ∷ 4 ∷ 4 ∷ 4 ∷ 4 ∷ 4 ∷ 4 ∷ 4 ∷ 4 ∷ 4 ∷ 4 ∷ 4 ∷ 4
+          ∷ 4 ∷ 4 ∷ 4 ∷ 4 ∷ 4 ∷ 4 ∷ 4 ∷ 4 ∷ 4 ∷ 4 ∷ 4 ∷ 4 ∷ 4 ∷ 4 ∷ 4 ∷ 4 ∷ 4 ∷ 4 ∷ 4 ∷ 4 ∷ 4 ∷ 4 ∷ 4 ∷ 4 ∷ 4 ∷ 4 ∷ 4
+          ∷ 4 ∷ 4 ∷ 4 ∷ 4 ∷ 4 ∷ 4 ∷ 4 ∷ 4 ∷ 4 ∷ 4 ∷ 4 ∷ 4 ∷ 4 ∷ 4 ∷ [];
+      number = 9;
+      place = Absent;
+      round = Absent;
+      reads = 0;
+    } ∷
+    record {
+      run = record {
+        k = 2;
+        rate = 1;
+        step = 1;
+        offset = 106;
+        basis = 1 ∷ 2 ∷ [];
+        challenges = 229 ∷ [];
+        word = 2525 ∷ 2528 ∷ 2471 ∷ 2458 ∷ [];
+        store = [];
+        last = 5639 ∷ [];
+      };
+      queries = 0 ∷ 3 ∷ 4 ∷ 5 ∷ [];
+      number = 10;
+      place = At 2;
+      round = Absent;
+      reads = 0;
+    } ∷
+    record {
+      run = record {
+        k = 2;
+        rate = 1;
+        step = 1;
+        offset = 106;
+        basis = 1 ∷ 2 ∷ [];
+        challenges = 229 ∷ [];
+        word = 2525 ∷ 2528 ∷ 2471 ∷ 2458 ∷ [];
+        store = [];
+        last = 5638 ∷ [];
+      };
+      queries = 18446744073709551615 ∷ 1 ∷ [];
+      number = 10;
+      place = At 0;
+      round = Absent;
+      reads = 0;
+    } ∷
     []
 
 abbrev pub provedWell : List ProvedSample
 provedWell =
-    record { run = record { k = 2; rate = 1; step = 1; offset = 0; basis = 1 ∷ 2 ∷ []; challenges = 4 ∷ []; word = 7 ∷ 4 ∷ 1 ∷ 2 ∷ []; store = []; last = 201 ∷ [] }; number = 0; place = Absent; store = []; last = 11 ∷ [] } ∷
-    record { run = record { k = 3; rate = 1; step = 1; offset = 3327539710283337442; basis = 1 ∷ 1858076378458151938 ∷ 13279093613986655127 ∷ []; challenges = 17124606239725502601 ∷ 18145666971549360198 ∷ []; word = 7498049631811839686 ∷ 10641363511175536626 ∷ 10761604681037200810 ∷ 5488449986106321441 ∷ 4357079269609895821 ∷ 15281528770179455216 ∷ 6401653367341303774 ∷ 10548404136605337116 ∷ []; store = 101 ∷ 102 ∷ 103 ∷ 104 ∷ []; last = 201 ∷ [] }; number = 0; place = Absent; store = 14793766907560570240 ∷ 13137902197961023412 ∷ 9849996294557070685 ∷ 17559261852085847913 ∷ []; last = 4331001576662580383 ∷ [] } ∷
-    record { run = record { k = 4; rate = 1; step = 1; offset = 4163790828029728805; basis = 1 ∷ 1858076378458151938 ∷ 11637837820279650197 ∷ 18174738647891815068 ∷ []; challenges = 16757992151453388561 ∷ 13385146130294042769 ∷ 15066616925297094622 ∷ []; word = 7076951900262743997 ∷ 12044964842354969664 ∷ 1623618175995965719 ∷ 13002320574739217471 ∷ 12526458623175318809 ∷ 15286270325976026685 ∷ 7819903957892274334 ∷ 14120178998198804169 ∷ 7289435546301626943 ∷ 6874571575028172441 ∷ 7898454207273747763 ∷ 14416528977534379965 ∷ 2226325788822184231 ∷ 14088788718146199480 ∷ 7128436646184477 ∷ 17571345019811958028 ∷ []; store = 101 ∷ 102 ∷ 103 ∷ 104 ∷ 105 ∷ 106 ∷ 107 ∷ 108 ∷ 109 ∷ 110 ∷ 111 ∷ 112 ∷ []; last = 201 ∷ [] }; number = 0; place = Absent; store = 14759181277754257781 ∷ 11981218000405173669 ∷ 9894460112706040778 ∷ 12533572684088852064 ∷ 6065500653381266800 ∷ 9070797155820150417 ∷ 18269468461095389278 ∷ 11128904979329323717 ∷ 6613044637518332313 ∷ 8803154768018846148 ∷ 12665059762121583113 ∷ 10245129852797590100 ∷ []; last = 5467062244517129981 ∷ [] } ∷
+    record {
+      run = record {
+        k = 4;
+        rate = 1;
+        step = 1;
+        offset = 226;
+        basis = 1 ∷ 1858076378458151938 ∷ 13279093613986655127 ∷ 16568903688902243998 ∷ [];
+        challenges = 41 ∷ 85 ∷ 99 ∷ [];
+        word =
+            95282961117641692 ∷ 94873324901707624 ∷ 26772361409263335 ∷ 26054920300260121 ∷ 7863591178664153639
+            ∷ 7451381928518527126 ∷ 8823551506664777975 ∷ 8086841725402553304 ∷ 13887492072740248337
+            ∷ 14533826335997837946 ∷ 17771153507867389352 ∷ 10589726711939763200 ∷ 15096380607731431999
+            ∷ 17028136259295641989 ∷ 9497704163634965231 ∷ 15239844534792972610 ∷ [];
+        store = 101 ∷ 102 ∷ 103 ∷ 104 ∷ 105 ∷ 106 ∷ 107 ∷ 108 ∷ 109 ∷ 110 ∷ 111 ∷ 112 ∷ [];
+        last = 201 ∷ [];
+      };
+      number = 0;
+      place = Absent;
+      store =
+          31478196432164000 ∷ 31477460159256300 ∷ 3224070253589737132 ∷ 3224070482624360555 ∷ 9608351324427147180
+          ∷ 8924285477556514158 ∷ 10458535652445244205 ∷ 8046516393476975972 ∷ 121211050846516 ∷ 121211051205819
+          ∷ 17291655384362920711 ∷ 17291655384362821256 ∷ [];
+      last = 24673227 ∷ [];
+    } ∷
     []
 
 abbrev pub provedAtHighDegree : List ProvedSample
 provedAtHighDegree =
-    record { run = record { k = 2; rate = 1; step = 1; offset = 9284159548060994846; basis = 1 ∷ 1858076378458151938 ∷ []; challenges = 12022449161693642885 ∷ []; word = 17078201526752591921 ∷ 10640476826920192230 ∷ 12162307133630423127 ∷ 13267680547636014039 ∷ []; store = []; last = 201 ∷ [] }; number = 12; place = At 1; store = []; last = 201 ∷ [] } ∷
-    record { run = record { k = 3; rate = 1; step = 1; offset = 15672475574385408129; basis = 1 ∷ 1858076378458151938 ∷ 11637837820279650196 ∷ []; challenges = 1979185455534243666 ∷ 2656212863387687966 ∷ []; word = 10749205362421883320 ∷ 7128282334310113130 ∷ 17398256064730478347 ∷ 8372788067826569751 ∷ 15786382544793057310 ∷ 7885671526084986535 ∷ 5604743414058313024 ∷ 9886112304267313207 ∷ []; store = 101 ∷ 102 ∷ 103 ∷ 104 ∷ []; last = 201 ∷ [] }; number = 12; place = At 1; store = 18408972270520904361 ∷ 5168448219666866309 ∷ 16983292923227917340 ∷ 6013163215028192816 ∷ []; last = 201 ∷ [] } ∷
+    record {
+      run = record {
+        k = 3;
+        rate = 1;
+        step = 1;
+        offset = 30;
+        basis = 1 ∷ 1858076378458151938 ∷ 13279093613986655127 ∷ [];
+        challenges = 155 ∷ 190 ∷ [];
+        word =
+            8757763 ∷ 8717282 ∷ 6405603295127112996 ∷ 6405603295127088192 ∷ 13646108950999169280 ∷ 2816461406371214810
+            ∷ 10990684422828400411 ∷ 211777141351912260 ∷ [];
+        store = 101 ∷ 102 ∷ 103 ∷ 104 ∷ [];
+        last = 201 ∷ [];
+      };
+      number = 12;
+      place = At 1;
+      store = 14120166 ∷ 14105411 ∷ 15619219892089641882 ∷ 15619219892089623615 ∷ [];
+      last = 201 ∷ [];
+    } ∷
     []
 
 abbrev pub provedRefused : List ProvedSample
 provedRefused =
-    record { run = record { k = 1; rate = 7; step = 0; offset = 842899596031786431; basis = 1 ∷ 1858076378458151939 ∷ 11637837820279650196 ∷ []; challenges = 5356121024325625251 ∷ 13596067325096309438 ∷ []; word = 16186684163193737768 ∷ 14462450269112435095 ∷ 13519004684770496968 ∷ 16920791009053563779 ∷ 11414878954349818817 ∷ 13149469901318572070 ∷ 16705250198296058978 ∷ 13157466602110353009 ∷ []; store = 101 ∷ 102 ∷ 103 ∷ 104 ∷ []; last = 201 ∷ [] }; number = 4; place = Absent; store = 101 ∷ 102 ∷ 103 ∷ 104 ∷ []; last = 201 ∷ [] } ∷
-    record { run = record { k = 21; rate = 1; step = 1; offset = 842899596031786431; basis = 1 ∷ 1858076378458151939 ∷ 11637837820279650196 ∷ []; challenges = 5356121024325625251 ∷ 13596067325096309438 ∷ []; word = 16186684163193737768 ∷ 14462450269112435095 ∷ 13519004684770496968 ∷ 16920791009053563779 ∷ 11414878954349818817 ∷ 13149469901318572070 ∷ 16705250198296058978 ∷ 13157466602110353009 ∷ []; store = 101 ∷ 102 ∷ 103 ∷ 104 ∷ []; last = 201 ∷ [] }; number = 4; place = Absent; store = 101 ∷ 102 ∷ 103 ∷ 104 ∷ []; last = 201 ∷ [] } ∷
-    record { run = record { k = 2; rate = 0; step = 4; offset = 842899596031786431; basis = 1 ∷ 1858076378458151939 ∷ 11637837820279650196 ∷ []; challenges = 5356121024325625251 ∷ 13596067325096309438 ∷ []; word = 16186684163193737768 ∷ 14462450269112435095 ∷ 13519004684770496968 ∷ 16920791009053563779 ∷ 11414878954349818817 ∷ 13149469901318572070 ∷ 16705250198296058978 ∷ 13157466602110353009 ∷ []; store = 101 ∷ 102 ∷ 103 ∷ 104 ∷ []; last = 201 ∷ [] }; number = 5; place = Absent; store = 101 ∷ 102 ∷ 103 ∷ 104 ∷ []; last = 201 ∷ [] } ∷
-    record { run = record { k = 2; rate = 6; step = 4; offset = 842899596031786431; basis = 1 ∷ 1858076378458151939 ∷ 11637837820279650196 ∷ []; challenges = 5356121024325625251 ∷ 13596067325096309438 ∷ []; word = 16186684163193737768 ∷ 14462450269112435095 ∷ 13519004684770496968 ∷ 16920791009053563779 ∷ 11414878954349818817 ∷ 13149469901318572070 ∷ 16705250198296058978 ∷ 13157466602110353009 ∷ []; store = 101 ∷ 102 ∷ 103 ∷ 104 ∷ []; last = 201 ∷ [] }; number = 6; place = Absent; store = 101 ∷ 102 ∷ 103 ∷ 104 ∷ []; last = 201 ∷ [] } ∷
-    record { run = record { k = 4; rate = 2; step = 3; offset = 842899596031786431; basis = 1 ∷ 1858076378458151939 ∷ 11637837820279650196 ∷ []; challenges = 5356121024325625251 ∷ 13596067325096309438 ∷ []; word = 16186684163193737768 ∷ 14462450269112435095 ∷ 13519004684770496968 ∷ 16920791009053563779 ∷ 11414878954349818817 ∷ 13149469901318572070 ∷ 16705250198296058978 ∷ 13157466602110353009 ∷ []; store = 101 ∷ 102 ∷ 103 ∷ 104 ∷ []; last = 201 ∷ [] }; number = 7; place = Absent; store = 101 ∷ 102 ∷ 103 ∷ 104 ∷ []; last = 201 ∷ [] } ∷
-    record { run = record { k = 3; rate = 1; step = 1; offset = 13333077730510297604; basis = 1 ∷ 1858076378458151939 ∷ 13279093613986655126 ∷ 7 ∷ []; challenges = 4264459986429868713 ∷ 1116363860837519029 ∷ []; word = 2073368794021622653 ∷ 7722774389822805154 ∷ 10289302584527401754 ∷ 17513192150543392821 ∷ 15762538809605909964 ∷ 921137760511951108 ∷ 8840562784478187881 ∷ 12030187419419068753 ∷ []; store = 101 ∷ 102 ∷ 103 ∷ 104 ∷ []; last = 201 ∷ [] }; number = 13; place = At 1; store = 101 ∷ 102 ∷ 103 ∷ 104 ∷ []; last = 201 ∷ [] } ∷
-    record { run = record { k = 3; rate = 1; step = 1; offset = 13333077730510297604; basis = 1 ∷ 1858076378458151939 ∷ 13279093613986655126 ∷ []; challenges = 4264459986429868713 ∷ 1116363860837519029 ∷ 7 ∷ []; word = 2073368794021622653 ∷ 7722774389822805154 ∷ 10289302584527401754 ∷ 17513192150543392821 ∷ 15762538809605909964 ∷ 921137760511951108 ∷ 8840562784478187881 ∷ 12030187419419068753 ∷ []; store = 101 ∷ 102 ∷ 103 ∷ 104 ∷ []; last = 201 ∷ [] }; number = 13; place = At 2; store = 101 ∷ 102 ∷ 103 ∷ 104 ∷ []; last = 201 ∷ [] } ∷
-    record { run = record { k = 3; rate = 1; step = 1; offset = 13333077730510297604; basis = 1 ∷ 1858076378458151939 ∷ 13279093613986655126 ∷ []; challenges = 4264459986429868713 ∷ 1116363860837519029 ∷ []; word = 2073368794021622653 ∷ 7722774389822805154 ∷ 10289302584527401754 ∷ 17513192150543392821 ∷ 15762538809605909964 ∷ 921137760511951108 ∷ 8840562784478187881 ∷ []; store = 101 ∷ 102 ∷ 103 ∷ 104 ∷ []; last = 201 ∷ [] }; number = 13; place = At 3; store = 101 ∷ 102 ∷ 103 ∷ 104 ∷ []; last = 201 ∷ [] } ∷
-    record { run = record { k = 3; rate = 1; step = 1; offset = 13333077730510297604; basis = 1 ∷ 1858076378458151939 ∷ 13279093613986655126 ∷ []; challenges = 4264459986429868713 ∷ 1116363860837519029 ∷ []; word = 2073368794021622653 ∷ 7722774389822805154 ∷ 10289302584527401754 ∷ 17513192150543392821 ∷ 15762538809605909964 ∷ 921137760511951108 ∷ 8840562784478187881 ∷ 12030187419419068753 ∷ []; store = 101 ∷ 102 ∷ 103 ∷ []; last = 201 ∷ [] }; number = 13; place = At 4; store = 101 ∷ 102 ∷ 103 ∷ []; last = 201 ∷ [] } ∷
-    record { run = record { k = 3; rate = 1; step = 1; offset = 13333077730510297604; basis = 1 ∷ 1858076378458151939 ∷ 13279093613986655126 ∷ []; challenges = 4264459986429868713 ∷ 1116363860837519029 ∷ []; word = 2073368794021622653 ∷ 7722774389822805154 ∷ 10289302584527401754 ∷ 17513192150543392821 ∷ 15762538809605909964 ∷ 921137760511951108 ∷ 8840562784478187881 ∷ 12030187419419068753 ∷ []; store = 101 ∷ 102 ∷ 103 ∷ 104 ∷ []; last = [] }; number = 13; place = At 5; store = 101 ∷ 102 ∷ 103 ∷ 104 ∷ []; last = [] } ∷
-    record { run = record { k = 3; rate = 1; step = 1; offset = 8730625479863251508; basis = 1 ∷ 1 ∷ 0 ∷ []; challenges = 423396846280084631 ∷ 16252328162091658659 ∷ []; word = 5570170477095891486 ∷ 5100952697152072446 ∷ 10780066851902228742 ∷ 15429058092836885399 ∷ 12682253408267240641 ∷ 1339654315447635189 ∷ 3943746648778300308 ∷ 15865751189909492177 ∷ []; store = 101 ∷ 102 ∷ 103 ∷ 104 ∷ []; last = 201 ∷ [] }; number = 8; place = At 1; store = 101 ∷ 102 ∷ 103 ∷ 104 ∷ []; last = 201 ∷ [] } ∷
+    record {
+      run = record {
+        k = 1;
+        rate = 7;
+        step = 0;
+        offset = 191;
+        basis = 1 ∷ 1858076378458151939 ∷ 11637837820279650196 ∷ [];
+        challenges = 163 ∷ 190 ∷ [];
+        word =
+            441345028 ∷ 443555737 ∷ 14966611560498993917 ∷ 14966611560501502356 ∷ 6901644026880152044
+            ∷ 828689395037576001 ∷ 11447168497333391549 ∷ 14599274888035506916 ∷ [];
+        store = 101 ∷ 102 ∷ 103 ∷ 104 ∷ [];
+        last = 201 ∷ [];
+      };
+      number = 4;
+      place = Absent;
+      store = 101 ∷ 102 ∷ 103 ∷ 104 ∷ [];
+      last = 201 ∷ [];
+    } ∷
+    record {
+      run = record {
+        k = 21;
+        rate = 1;
+        step = 1;
+        offset = 191;
+        basis = 1 ∷ 1858076378458151939 ∷ 11637837820279650196 ∷ [];
+        challenges = 163 ∷ 190 ∷ [];
+        word =
+            441345028 ∷ 443555737 ∷ 14966611560498993917 ∷ 14966611560501502356 ∷ 6901644026880152044
+            ∷ 828689395037576001 ∷ 11447168497333391549 ∷ 14599274888035506916 ∷ [];
+        store = 101 ∷ 102 ∷ 103 ∷ 104 ∷ [];
+        last = 201 ∷ [];
+      };
+      number = 4;
+      place = Absent;
+      store = 101 ∷ 102 ∷ 103 ∷ 104 ∷ [];
+      last = 201 ∷ [];
+    } ∷
+    record {
+      run = record {
+        k = 2;
+        rate = 0;
+        step = 4;
+        offset = 191;
+        basis = 1 ∷ 1858076378458151939 ∷ 11637837820279650196 ∷ [];
+        challenges = 163 ∷ 190 ∷ [];
+        word =
+            441345028 ∷ 443555737 ∷ 14966611560498993917 ∷ 14966611560501502356 ∷ 6901644026880152044
+            ∷ 828689395037576001 ∷ 11447168497333391549 ∷ 14599274888035506916 ∷ [];
+        store = 101 ∷ 102 ∷ 103 ∷ 104 ∷ [];
+        last = 201 ∷ [];
+      };
+      number = 5;
+      place = Absent;
+      store = 101 ∷ 102 ∷ 103 ∷ 104 ∷ [];
+      last = 201 ∷ [];
+    } ∷
+    record {
+      run = record {
+        k = 2;
+        rate = 6;
+        step = 4;
+        offset = 191;
+        basis = 1 ∷ 1858076378458151939 ∷ 11637837820279650196 ∷ [];
+        challenges = 163 ∷ 190 ∷ [];
+        word =
+            441345028 ∷ 443555737 ∷ 14966611560498993917 ∷ 14966611560501502356 ∷ 6901644026880152044
+            ∷ 828689395037576001 ∷ 11447168497333391549 ∷ 14599274888035506916 ∷ [];
+        store = 101 ∷ 102 ∷ 103 ∷ 104 ∷ [];
+        last = 201 ∷ [];
+      };
+      number = 6;
+      place = Absent;
+      store = 101 ∷ 102 ∷ 103 ∷ 104 ∷ [];
+      last = 201 ∷ [];
+    } ∷
+    record {
+      run = record {
+        k = 4;
+        rate = 2;
+        step = 3;
+        offset = 191;
+        basis = 1 ∷ 1858076378458151939 ∷ 11637837820279650196 ∷ [];
+        challenges = 163 ∷ 190 ∷ [];
+        word =
+            441345028 ∷ 443555737 ∷ 14966611560498993917 ∷ 14966611560501502356 ∷ 6901644026880152044
+            ∷ 828689395037576001 ∷ 11447168497333391549 ∷ 14599274888035506916 ∷ [];
+        store = 101 ∷ 102 ∷ 103 ∷ 104 ∷ [];
+        last = 201 ∷ [];
+      };
+      number = 7;
+      place = Absent;
+      store = 101 ∷ 102 ∷ 103 ∷ 104 ∷ [];
+      last = 201 ∷ [];
+    } ∷
+    record {
+      run = record {
+        k = 3;
+        rate = 1;
+        step = 1;
+        offset = 4;
+        basis = 1 ∷ 1858076378458151939 ∷ 13279093613986655126 ∷ 7 ∷ [];
+        challenges = 169 ∷ 181 ∷ [];
+        word =
+            15797 ∷ 12682 ∷ 8686978435587494159 ∷ 8686978435587497408 ∷ 5789871517824829582 ∷ 7150189212186609017
+            ∷ 11564963071910053134 ∷ 10600438811313489929 ∷ [];
+        store = 101 ∷ 102 ∷ 103 ∷ 104 ∷ [];
+        last = 201 ∷ [];
+      };
+      number = 13;
+      place = At 1;
+      store = 101 ∷ 102 ∷ 103 ∷ 104 ∷ [];
+      last = 201 ∷ [];
+    } ∷
+    record {
+      run = record {
+        k = 3;
+        rate = 1;
+        step = 1;
+        offset = 4;
+        basis = 1 ∷ 1858076378458151939 ∷ 13279093613986655126 ∷ [];
+        challenges = 169 ∷ 181 ∷ 7 ∷ [];
+        word =
+            15797 ∷ 12682 ∷ 8686978435587494159 ∷ 8686978435587497408 ∷ 5789871517824829582 ∷ 7150189212186609017
+            ∷ 11564963071910053134 ∷ 10600438811313489929 ∷ [];
+        store = 101 ∷ 102 ∷ 103 ∷ 104 ∷ [];
+        last = 201 ∷ [];
+      };
+      number = 13;
+      place = At 2;
+      store = 101 ∷ 102 ∷ 103 ∷ 104 ∷ [];
+      last = 201 ∷ [];
+    } ∷
+    record {
+      run = record {
+        k = 3;
+        rate = 1;
+        step = 1;
+        offset = 4;
+        basis = 1 ∷ 1858076378458151939 ∷ 13279093613986655126 ∷ [];
+        challenges = 169 ∷ 181 ∷ [];
+        word =
+            15797 ∷ 12682 ∷ 8686978435587494159 ∷ 8686978435587497408 ∷ 5789871517824829582 ∷ 7150189212186609017
+            ∷ 11564963071910053134 ∷ [];
+        store = 101 ∷ 102 ∷ 103 ∷ 104 ∷ [];
+        last = 201 ∷ [];
+      };
+      number = 13;
+      place = At 3;
+      store = 101 ∷ 102 ∷ 103 ∷ 104 ∷ [];
+      last = 201 ∷ [];
+    } ∷
+    record {
+      run = record {
+        k = 3;
+        rate = 1;
+        step = 1;
+        offset = 4;
+        basis = 1 ∷ 1858076378458151939 ∷ 13279093613986655126 ∷ [];
+        challenges = 169 ∷ 181 ∷ [];
+        word =
+            15797 ∷ 12682 ∷ 8686978435587494159 ∷ 8686978435587497408 ∷ 5789871517824829582 ∷ 7150189212186609017
+            ∷ 11564963071910053134 ∷ 10600438811313489929 ∷ [];
+        store = 101 ∷ 102 ∷ 103 ∷ [];
+        last = 201 ∷ [];
+      };
+      number = 13;
+      place = At 4;
+      store = 101 ∷ 102 ∷ 103 ∷ [];
+      last = 201 ∷ [];
+    } ∷
+    record {
+      run = record {
+        k = 3;
+        rate = 1;
+        step = 1;
+        offset = 4;
+        basis = 1 ∷ 1858076378458151939 ∷ 13279093613986655126 ∷ [];
+        challenges = 169 ∷ 181 ∷ [];
+        word =
+            15797 ∷ 12682 ∷ 8686978435587494159 ∷ 8686978435587497408 ∷ 5789871517824829582 ∷ 7150189212186609017
+            ∷ 11564963071910053134 ∷ 10600438811313489929 ∷ [];
+        store = 101 ∷ 102 ∷ 103 ∷ 104 ∷ [];
+        last = [];
+      };
+      number = 13;
+      place = At 5;
+      store = 101 ∷ 102 ∷ 103 ∷ 104 ∷ [];
+      last = [];
+    } ∷
+    record {
+      run = record {
+        k = 3;
+        rate = 1;
+        step = 1;
+        offset = 52;
+        basis = 1 ∷ 1 ∷ 0 ∷ [];
+        challenges = 151 ∷ 163 ∷ [];
+        word =
+            2882692 ∷ 2770506 ∷ 120371322542520887 ∷ 120371322542604424 ∷ 13698859630185281971 ∷ 8083129006362976243
+            ∷ 6227652221293814959 ∷ 10978715908333748894 ∷ [];
+        store = 101 ∷ 102 ∷ 103 ∷ 104 ∷ [];
+        last = 201 ∷ [];
+      };
+      number = 8;
+      place = At 1;
+      store = 101 ∷ 102 ∷ 103 ∷ 104 ∷ [];
+      last = 201 ∷ [];
+    } ∷
     []

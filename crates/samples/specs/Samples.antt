@@ -17,19 +17,19 @@ use Rattle.fri.specs.Judge.{verdictOf, numberOfAnswer, placeOfAnswer, roundOfAn
 use Rattle.fri.specs.Prover.{proveOutcome, storeAfter, lastAfter}
 
 -- the test passes in every row
-unfoldable pub every : {A : Type 0} → (A → Bool) → List A → Bool
+unfoldable pub every : {A : Type 0} (test : A → Bool) (rows : List A) → Bool
 every test [] = true
 every test (row ∷ rows) = test row && every test rows
 
 -- two lists are the same
-unfoldable pub same : List ℕ → List ℕ → Bool
+unfoldable pub same : (xs ys : List ℕ) → Bool
 same [] [] = true
 same [] (y ∷ ys) = false
 same (x ∷ xs) [] = false
 same (x ∷ xs) (y ∷ ys) = eqb x y && same xs ys
 
 -- two positions are the same
-abbrev pub samePosition : Position → Position → Bool
+abbrev pub samePosition : (found due : Position) → Bool
 samePosition Absent Absent = true
 samePosition Absent (At n) = false
 samePosition (At m) Absent = false
@@ -46,7 +46,7 @@ pub record LayoutSample : Type 0 where
   pub dimensions : List ℕ
   pub starts : List ℕ
 
-abbrev pub layoutAgrees : LayoutSample → Bool
+abbrev pub layoutAgrees : (row : LayoutSample) → Bool
 layoutAgrees row =
     let steps = stepsOf (row .k) (row .rate) (row .step) in
     eqb (length steps) (row .rounds) && eqb (lastCount (row .k) (row .rate) steps) (row .lastCount)
@@ -63,7 +63,7 @@ pub record IndexSample : Type 0 where
   pub query : ℕ
   pub indices : List ℕ
 
-abbrev pub indexAgrees : IndexSample → Bool
+abbrev pub indexAgrees : (row : IndexSample) → Bool
 indexAgrees row =
     let steps = stepsOf (row .k) (row .rate) (row .step) in
     same (tabulated (indexIn steps (row .query)) 0 (suc (length steps))) (row .indices)
@@ -79,11 +79,11 @@ pub record CosetSample : Type 0 where
   pub bases : List (List ℕ)
 
 -- the bases of layers i, i + 1, ..
-unfoldable pub basesAgree : List ℕ → List ℕ → ℕ → List (List ℕ) → Bool
+unfoldable pub basesAgree : (steps basis : List ℕ) (i : ℕ) (bases : List (List ℕ)) → Bool
 basesAgree steps basis i [] = true
 basesAgree steps basis i (due ∷ others) = same (layerBasis steps basis i) due && basesAgree steps basis (suc i) others
 
-abbrev pub cosetAgrees : CosetSample → Bool
+abbrev pub cosetAgrees : (row : CosetSample) → Bool
 cosetAgrees row =
     let steps = stepsOf (row .k) (row .rate) (row .step) in
     same (tabulated (layerOffset steps (row .offset) (row .basis)) 0 (suc (length steps))) (row .offsets)
@@ -98,7 +98,7 @@ pub record LookupSample : Type 0 where
   pub layer : ℕ
   pub part : List ℕ
 
-abbrev pub lookupAgrees : LookupSample → Bool
+abbrev pub lookupAgrees : (row : LookupSample) → Bool
 lookupAgrees row = same (layerPart (row .k) (row .rate) (row .step) (row .store) (row .layer)) (row .part)
 
 -- a judging with the number, place, round and reads of its verdict
@@ -110,7 +110,7 @@ pub record JudgedSample : Type 0 where
   pub round : Position
   pub reads : ℕ
 
-abbrev pub judgedAgrees : JudgedSample → Bool
+abbrev pub judgedAgrees : (row : JudgedSample) → Bool
 judgedAgrees row =
     let verdict = verdictOf (row .run) (row .queries) in
     eqb (numberOfAnswer (verdict .answer)) (row .number) && samePosition (placeOfAnswer (verdict .answer)) (row .place)
@@ -124,7 +124,7 @@ pub record ProvedSample : Type 0 where
   pub store : List ℕ
   pub last : List ℕ
 
-abbrev pub provedAgrees : ProvedSample → Bool
+abbrev pub provedAgrees : (row : ProvedSample) → Bool
 provedAgrees row =
     eqb (numberOfOutcome (proveOutcome (row .run))) (row .number)
     && samePosition (placeOfOutcome (proveOutcome (row .run))) (row .place)

@@ -7,7 +7,7 @@ use crate::fold::image;
 use crate::random::Random;
 
 /// An independent basis that begins with so many cheap elements, the first of
-/// which is 1. A round with step 1 takes those that follow to cheap ones again, so
+/// which is 1, and goes on with powers of two. A round with step 1 takes those that follow to cheap ones again, so
 /// that the two points of a coset differ by 1 in every round that folds by one of
 /// them.
 pub(super) fn basis(random: &mut Random, cheap: u64, k: u64) -> Vec<u64> {
@@ -16,8 +16,7 @@ pub(super) fn basis(random: &mut Random, cheap: u64, k: u64) -> Vec<u64> {
         // Any sum of earlier ones may be added: it goes to zero in their rounds.
         basis.push(point(element, &basis, random.number()));
     }
-    let others = random.list((k - cheap) as usize);
-    basis.extend(others);
+    basis.extend((1..=k - cheap).map(|place| 1 << place));
     basis
 }
 

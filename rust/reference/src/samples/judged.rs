@@ -75,15 +75,11 @@ fn cases_of_table_a() -> Vec<Judged> {
 /// Honest runs of two and three rounds.
 fn accepted() -> Vec<Judged> {
     let random = &mut Random::named("judged, accepted");
-    let mut accepted = |k, rate, queries: &[u64]| {
-        let run = right(random, parameters(k, rate, 1));
+    let mut accepted = |k, queries: &[u64]| {
+        let run = right(random, parameters(k, 1, 1));
         judged(&run, queries)
     };
-    vec![
-        accepted(3, 1, &[5, 0, 5]),
-        accepted(4, 2, &[9]),
-        accepted(4, 1, &[2, 13]),
-    ]
+    vec![accepted(3, &[5, 5]), accepted(4, &[13])]
 }
 
 // Failing.
@@ -103,28 +99,21 @@ fn failing() -> [Vec<Judged>; 3] {
 /// The store is layer 1, of four entries.
 fn failing_in_two_rounds(right: &Run) -> Vec<Judged> {
     let with_entry_1 = changed(right, |run| run.store[1] ^= 1);
-    let with_last = changed(right, |run| run.last[0] ^= 1 << 63);
     vec![
-        // Compared with in round 0, and folded in round 1.
         judged(&with_entry_1, &[6, 3]),
-        judged(&with_entry_1, &[6, 4, 1]),
-        judged(&with_last, &[2]),
+        // The lowest query decides, although the other fails in a lower round.
+        judged(&with_entry_1, &[1, 3]),
     ]
 }
 
 /// The store is layer 1, of eight entries, and layer 2, of four.
 fn failing_in_three_rounds(right: &Run) -> Vec<Judged> {
     let with_word = changed(right, |run| run.word[6] ^= 2);
-    let with_layer_1 = changed(right, |run| run.store[5] ^= 4);
     let with_layer_2 = changed(right, |run| run.store[8 + 2] ^= 8);
-    let with_both = changed(&with_layer_1, |run| run.word[6] ^= 2);
     vec![
-        judged(&with_word, &[15, 7]),
-        judged(&with_layer_1, &[8]),
+        // The last coset is not read.
+        judged(&with_word, &[7]),
         judged(&with_layer_2, &[12]),
-        judged(&with_layer_2, &[0, 8]),
-        // The lowest query decides, although the other fails in a lower round.
-        judged(&with_both, &[8, 6]),
     ]
 }
 
@@ -245,7 +234,7 @@ mod tests {
     /// A query reads two entries in each round.
     #[test]
     fn what_is_accepted_by_hand() {
-        assert_eq!(answers(&accepted()), [12, 4, 12].map(answer::accepted));
+        assert_eq!(answers(&accepted()), [8, 6].map(answer::accepted));
     }
 
     /// A query reads two entries in each round up to the one that fails, and in the
@@ -253,19 +242,9 @@ mod tests {
     #[test]
     fn what_fails_by_hand() {
         let [in_two_rounds, in_three_rounds, at_high_degree] = failing();
-        let due = [
-            failed(1, 0, 4 + 4),
-            failed(2, 1, 4 + 4 + 4),
-            failed(0, 1, 4),
-        ];
+        let due = [failed(1, 0, 4 + 4), failed(0, 1, 4)];
         assert_eq!(answers(&in_two_rounds), due);
-        let due = [
-            failed(1, 0, 6 + 4),
-            failed(0, 1, 6),
-            failed(0, 2, 6),
-            failed(1, 1, 6 + 6),
-            failed(0, 1, 6),
-        ];
+        let due = [failed(0, 0, 4), failed(0, 2, 6)];
         assert_eq!(answers(&in_three_rounds), due);
         assert_eq!(answers(&at_high_degree), [failed(0, 1, 4)]);
     }

@@ -43,14 +43,13 @@ pub(super) fn index_group() -> Group {
     Group::of("indices", "IndexSample", &index_samples(), index_row)
 }
 
-/// Two drawn indices and the last one for each of the layouts. Those drawn may be
-/// the same, or the last one.
+/// A drawn index and the last one for each of the layouts.
 fn index_samples() -> Vec<Indexed> {
     let random = &mut Random::named("indices");
     let mut samples = Vec::new();
     for parameters in layout_samples() {
         let all = 1 << parameters.k;
-        let queries = [random.below(all), random.below(all), all - 1];
+        let queries = [random.below(all - 1), all - 1];
         samples.extend(queries.map(|query| indexed(parameters, query as u64)));
     }
     samples

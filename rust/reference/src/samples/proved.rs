@@ -1,9 +1,7 @@
 //! Runs that are proved.
 
 use super::parameters;
-use super::runs::{
-    bad_parameters, bound, changed, drawn, of_table_a, record_of, with_sum, wrong_lengths,
-};
+use super::runs::{bad_parameters, bound, changed, drawn, record_of, with_sum, wrong_lengths};
 use super::table::{list, member, position, record, Group};
 use crate::parameters::Parameters;
 use crate::protocol::{prove, Proved, Run};
@@ -49,20 +47,16 @@ fn right(random: &mut Random, k: u64) -> Run {
     lent(random, parameters, bound(parameters))
 }
 
-/// Case F, and words of low degrees.
+/// A word of a low degree. The store is layers 1 and 2.
 fn well() -> Vec<Run> {
     let random = &mut Random::named("proved, words of low degrees");
-    let case_f = of_table_a(4, [7, 4, 1, 2], 201);
-    vec![case_f, right(random, 3), right(random, 4)]
+    vec![right(random, 4)]
 }
 
 /// Layer r has two points. Its degree is 1, and so too high.
 fn at_high_degree() -> Vec<Run> {
     let random = &mut Random::named("proved, words of high degrees");
-    vec![
-        lent(random, parameters(2, 1, 1), 4),
-        lent(random, parameters(3, 1, 1), 5),
-    ]
+    vec![lent(random, parameters(3, 1, 1), 5)]
 }
 
 /// Bad parameters, wrong lengths and a dependent basis.
@@ -79,6 +73,7 @@ fn refused() -> Vec<Run> {
 #[cfg(test)]
 mod tests {
     use super::super::bases::differences;
+    use super::super::runs::of_table_a;
     use super::*;
     use crate::answer::{self, done, refused_at};
     use razgwilh::Answer;
@@ -91,18 +86,20 @@ mod tests {
                    basis = 1 ∷ 2 ∷ []; challenges = 4 ∷ []; word = 7 ∷ 4 ∷ 1 ∷ 2 ∷ []; \
                    store = []; last = 201 ∷ [] }; \
                    number = 0; place = Absent; store = []; last = 11 ∷ [] }";
-        assert_eq!(groups()[0].rows[0], due);
+        assert_eq!(row(&of_table_a(4, [7, 4, 1, 2], 201)), due);
     }
 
-    /// What is lent is left as it was.
+    /// What is lent is left as it was, but for the store where the degree is too high.
     #[test]
     fn ends_of_drawn_rows_by_hand() {
         let [_, at_high_degree, refused] = &groups()[..] else {
             panic!("three groups");
         };
-        let due = "last = 201 ∷ [] }; \
-                   number = 12; place = At 1; store = []; last = 201 ∷ [] }";
-        assert!(at_high_degree.rows[0].ends_with(due));
+        let row = &at_high_degree.rows[0];
+        assert!(row.contains("; store = 101 ∷ 102 ∷ 103 ∷ 104 ∷ []; last = 201 ∷ [] }; "));
+        assert!(row.contains("; number = 12; place = At 1; store = "));
+        assert!(!row.contains("; place = At 1; store = 101 ∷ "));
+        assert!(row.ends_with("; last = 201 ∷ [] }"));
         let due = "store = 101 ∷ 102 ∷ 103 ∷ 104 ∷ []; last = 201 ∷ [] }; \
                    number = 4; place = Absent; \
                    store = 101 ∷ 102 ∷ 103 ∷ 104 ∷ []; last = 201 ∷ [] }";
@@ -117,8 +114,8 @@ mod tests {
 
     #[test]
     fn every_cause_by_hand() {
-        assert_eq!(answers(&well()), [done(); 3]);
-        assert_eq!(answers(&at_high_degree()), [refused_at(12, 1); 2]);
+        assert_eq!(answers(&well()), [done()]);
+        assert_eq!(answers(&at_high_degree()), [refused_at(12, 1)]);
         let bad_parameters = [4, 4, 5, 6, 7].map(answer::refused);
         let wrong_lengths = [1, 2, 3, 4, 5].map(|list| refused_at(13, list));
         let due = [&bad_parameters[..], &wrong_lengths, &[refused_at(8, 1)]];
@@ -127,17 +124,14 @@ mod tests {
 
     // Divisions.
 
-    /// But for case F, in the interpolation of its last layer. Those refused are
-    /// not folded.
+    /// Those refused are not folded.
     #[test]
     fn a_prover_divides_by_one() {
-        for (place, run) in [well(), at_high_degree()].concat().iter().enumerate() {
+        for run in [well(), at_high_degree()].concat() {
             // Layer r has two points.
             assert_eq!((run.parameters.rate, run.parameters.step), (1, 1));
             let differences = differences(&run.basis, run.parameters.rounds());
-            let (of_layer_r, folded) = differences.split_last().unwrap();
-            assert!(folded.iter().all(|&difference| difference == 1));
-            assert_eq!(*of_layer_r == 1, place != 0);
+            assert!(differences.iter().all(|&difference| difference == 1));
         }
     }
 }

@@ -37,27 +37,37 @@ pub(super) fn of_table_a(challenge: u64, word: [u64; 4], last: u64) -> Run {
 
 /// A run with the honest store and the honest last coefficients, and with
 /// everything else drawn: the basis begins with so many cheap elements, and the
-/// word is that of a polynomial with so many coefficients.
+/// word is that of a polynomial with so many coefficients. These, the offset and the
+/// challenges are small: a product of large numbers takes ten times as long.
 pub(super) fn drawn(
     random: &mut Random,
     parameters: Parameters,
     cheap: u64,
     coefficients: u64,
 ) -> Run {
-    let (offset, basis) = (random.number(), basis(random, cheap, parameters.k));
-    let polynomial = random.list(coefficients as usize);
+    let (offset, basis) = (small(random), basis(random, cheap, parameters.k));
+    let polynomial = small_list(random, coefficients);
     let points = 1 << parameters.k;
     let word = reed_solomon::encode(offset, &basis, &polynomial, points);
     let run = Run {
         parameters,
         offset,
         basis,
-        challenges: random.list(parameters.rounds() as usize),
+        challenges: small_list(random, parameters.rounds()),
         word: word.expect("an independent basis of k elements"),
         store: Vec::new(),
         last: Vec::new(),
     };
     run.made_honest()
+}
+
+/// A number of one byte.
+fn small(random: &mut Random) -> u64 {
+    random.below(1 << 8) as u64
+}
+
+fn small_list(random: &mut Random, count: u64) -> Vec<u64> {
+    (0..count).map(|_| small(random)).collect()
 }
 
 /// How many coefficients there are below the bound of the word's degree.
