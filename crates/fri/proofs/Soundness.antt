@@ -24,7 +24,7 @@ use Rattle.fri.specs.Run.{Run, stepsIn, roundsIn, challengeIn, layerIn, 
 use Rattle.fri.specs.Layers.{layerBasis, layerOffset, basisIn, offsetIn, foldOf}
 use Rattle.fri.specs.Checks.{runOutcome}
 use Rattle.fri.specs.Demand.{ValidCoset, Elements, LowDegree, Any, Accepted, Visits}
-use Rattle.fri.specs.Demand.{Covered, ExceptionalIn, Sound, Soundness, FewExceptional}
+use Rattle.fri.specs.Demand.{Covered, ExceptionalIn, Soundness, FewExceptional}
 use Rattle.fri.specs.Theorems.{PassesEveryRound, Fit}
 use Rattle.fri.proofs.Cosets.{challenge-element, layer-step-fits, some-rounds, length-layerBasis}
 use Rattle.fri.proofs.Cosets.{layerBasis-elements, layerOffset-element, layerBasis-independent}
@@ -32,13 +32,6 @@ use Rattle.fri.proofs.Cosets.{fits-basis, word-over, length-foldOf, len
 use Rattle.fri.proofs.Values.{computed-entry, found-entry, found-last}
 use Rattle.fri.proofs.Checks.{run-valid}
 use Rattle.fri.proofs.Verdicts.{accepted-checks, checks-valid}
-
--- ---- the exceptional sets
-
-pub few-exceptional : FewExceptional
-few-exceptional run i v h elements size =
-    exceptional-bound (run .rate) (stepIn run i) (offsetIn run i) (basisIn run i) (layerIn run i)
-    (word-over run v i (layerIn run i) elements size) (fits-basis run v i h)
 
 -- ---- from the cover to queries
 
@@ -227,17 +220,29 @@ module _ (run : Run) (lists : List (List ℕ)) (e : Elements run) (cover : Cover
       (encoding .degree (offsetIn run (suc i)) (basisIn run (suc i)) (run .last) (layerOffset-element run v (suc i))
       (layerBasis-elements run v (suc i)) (e .last) (layerBasis-independent run v (suc i)) (omega (arith, due, few))))
 
-  sound : Sound run
-  sound =
-      let whole : suc (roundsIn run - 1) ≡ roundsIn run = omega (arith, some-rounds run v) in
-      record {
-        folds = exact-folds;
-        last = λ i h. last-fold i h ∙ ap (λ (n : ℕ). encoded (offsetIn run n) (basisIn run n) (run .last)) h;
-        degree = descend (roundsIn run - 1) (omega (arith, whole)) (last-low (roundsIn run - 1) whole);
-        few = λ i h.
-            few-exceptional run i v h (layer-elements run v (e .word) (e .store) i)
-            (length-layer run v (fit .word) (fit .store) i h);
-      }
+-- ---- the exceptional sets
+
+pub few-exceptional : FewExceptional
+few-exceptional run i v h elements size =
+    exceptional-bound (run .rate) (stepIn run i) (offsetIn run i) (basisIn run i) (layerIn run i)
+    (word-over run v i (layerIn run i) elements size) (fits-basis run v i h)
+
+-- ---- all of it together
 
 pub soundness : Soundness
-soundness = sound
+soundness run lists e cover =
+    let coset : ValidCoset run = v run lists e cover in
+    let lengths : Fit run = fit run lists e cover in
+    let whole : suc (roundsIn run - 1) ≡ roundsIn run = omega (arith, some-rounds run coset) in
+    record {
+      folds = exact-folds run lists e cover;
+      last = λ i h.
+          last-fold run lists e cover i h
+          ∙ ap (λ (n : ℕ). encoded (offsetIn run n) (basisIn run n) (run .last)) h;
+      degree =
+          descend run lists e cover (roundsIn run - 1) (omega (arith, whole))
+          (last-low run lists e cover (roundsIn run - 1) whole);
+      few = λ i h.
+          few-exceptional run i coset h (layer-elements run coset (e .word) (e .store) i)
+          (length-layer run coset (lengths .word) (lengths .store) i h);
+    }
