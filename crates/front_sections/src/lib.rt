@@ -5,9 +5,7 @@ use refusal::Cause;
 use refusal::Outcome;
 use sections::Sections;
 ghost use mathlib.Core.Path.{_≡_};
-ghost use mathlib.Core.Bool.{_&&_};
 ghost use Prim.Native.Nat.{_^_, _≤_};
-ghost use lib.Dec.{leb};
 ghost use lib.ListN.{length};
 ghost use Rattle.fri.specs.Checks.{basesOutcome, indicesOutcome};
 ghost use Rattle.layout.specs.Parameters.{stepsBy, Valid};
@@ -96,7 +94,7 @@ fn checked_queries(bytes: &[u8], at: usize, parameters: Parameters) -> Outcome
         bytes,
         4,
         at,
-        is_query_count(count),
+        round_checks::is_query_count(count),
         Cause::QueryCountOutOfRange,
     );
     match whole {
@@ -117,10 +115,4 @@ fn checked_indices(bytes: &[u8], at: usize, parameters: Parameters, queries: &mu
 {
     entries::read(bytes, at, queries);
     round_checks::checked_indices(parameters.k, parameters.step, &queries[..])
-}
-
-fn is_query_count(count: usize) -> bool
-    ensures { λ r. ⌜ r ≡ (leb 1 count && leb count 256) ⌝ }
-{
-    1 <= count && count <= 256
 }

@@ -20,24 +20,20 @@ module _ (size : ℕ) (queries : List ℕ) (query : ℕ) where
   unfolding firstOutside
   outside-none h = sym (ap (λ (l : List ℕ). firstOutside size l query) (drop-of-length-le queries h))
 
-  one-by-one : query < length queries
-      → left
-      ≡ cond (ltb (getD queries query 0) size) (firstOutside size (drop (suc query) queries) (suc query)) (At query)
+  -- those after it
+  abbrev later : Position
+  later = firstOutside size (drop (suc query) queries) (suc query)
+
+  one-by-one : query < length queries → left ≡ cond (ltb (getD queries query 0) size) later (At query)
   unfolding firstOutside
   one-by-one h = ap (λ (l : List ℕ). firstOutside size l query) (drop-cons queries query 0 h)
 
   pub outside-here : query < length queries → size ≤ getD queries query 0 → At query ≡ left
   outside-here h out =
-      sym
-      (one-by-one h
-      ∙ ap (λ (t : Bool). cond t (firstOutside size (drop (suc query) queries) (suc query)) (At query))
-      (le-ltb (getD queries query 0) size out))
+      sym (one-by-one h ∙ ap (λ (t : Bool). cond t later (At query)) (le-ltb (getD queries query 0) size out))
 
   pub outside-next : query < length queries → getD queries query 0 < size
       → firstOutside size (drop (query + 1) queries) (query + 1) ≡ left
   outside-next h inside =
       ap (λ (n : ℕ). firstOutside size (drop n queries) n) (add-one query)
-      ∙ sym
-      (one-by-one h
-      ∙ ap (λ (t : Bool). cond t (firstOutside size (drop (suc query) queries) (suc query)) (At query))
-      (lt-ltb (getD queries query 0) size inside))
+      ∙ sym (one-by-one h ∙ ap (λ (t : Bool). cond t later (At query)) (lt-ltb (getD queries query 0) size inside))

@@ -8,8 +8,9 @@ use refusal::Cause;
 use refusal::Outcome;
 use refusal::Position;
 ghost use mathlib.Core.Path.{_≡_};
-ghost use mathlib.Core.Bool.{true};
+ghost use mathlib.Core.Bool.{true, _&&_};
 ghost use Prim.Native.Nat.{_+_, _^_, _≤_, _<_, min};
+ghost use lib.Dec.{leb};
 ghost use lib.ListN.{length};
 ghost use Rattle.fri.specs.Checks.{firstOutside, indicesOutcome, queriesOutcome};
 ghost use Rattle.layout.specs.Parameters.{stepsBy, Valid};
@@ -170,10 +171,16 @@ pub fn checked_queries(k: usize, step: usize, queries: &[u64]) -> Outcome
     requires { ⌜ (k ≤ 20) × (step ≤ 3) ⌝ }
     ensures { λ r. ⌜ r ≡ queriesOutcome k step (now (queries .entry)) ⌝ }
 {
-    if queries.len() < 1 || queries.len() > 256 {
+    if !is_query_count(queries.len()) {
         return Outcome::Refused(Cause::QueryCountOutOfRange);
     }
     checked_indices(k, step, queries)
+}
+
+pub fn is_query_count(count: usize) -> bool
+    ensures { λ r. ⌜ r ≡ (leb 1 count && leb count 256) ⌝ }
+{
+    1 <= count && count <= 256
 }
 
 // The indices of a query list: each below 2^k (10). The checks of a query list are given the step of round 0, whose

@@ -1,5 +1,5 @@
--- `round_checks::first_outside` meets its contract. The loop's invariant: the queries still to come
--- decide. Assumes nothing.
+-- `round_checks::first_outside` meets its contract. The loop's invariant: the queries still to come decide. Assumes
+-- nothing.
 use Rattle.round_checks.proofs.Queries.{outside-none, outside-here, outside-next}
 use Rattle.fri.specs.Checks.{firstOutside}
 use lib.ListN.{length, drop}
