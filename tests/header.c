@@ -89,8 +89,8 @@ static void expect_fold_refused(size_t k, size_t step, size_t basis_length, size
     fill(answer);
     fill(values);
     fill(next_basis);
-    rz_fold(k, step, 8, basis, basis_length, word, word_length, 4, values, values_length, next_basis, next_length, answer,
-            RZ_ANSWER_LENGTH);
+    rz_fold(k, step, 8, basis, basis_length, word, word_length, 4, values, values_length, next_basis, next_length,
+            answer, RZ_ANSWER_LENGTH);
     expect_answer(answer, RZ_ANSWER_LENGTH, refused, "rz_fold: refusal");
     expect_list(values, word, 0, "rz_fold: values after a refusal");
     expect_list(next_basis, word, 0, "rz_fold: next basis after a refusal");
@@ -168,13 +168,13 @@ static void expect_run_refused(struct lengths n, uint64_t number, uint64_t place
     fill(answer);
     fill(store);
     fill(last);
-    rz_prove(n.k, n.rate, n.step, 0, basis_k, n.basis, challenges_k, n.challenges, word_k, n.word, store, n.store, last, n.last,
-             answer, RZ_ANSWER_LENGTH);
+    rz_prove(n.k, n.rate, n.step, 0, basis_k, n.basis, challenges_k, n.challenges, word_k, n.word, store, n.store,
+             last, n.last, answer, RZ_ANSWER_LENGTH);
     expect_answer(answer, RZ_ANSWER_LENGTH, refused, "rz_prove: refusal");
     expect_list(store, word, 0, "rz_prove: store after a refusal");
     expect_list(last, word, 0, "rz_prove: last coefficients after a refusal");
-    rz_judge(n.k, n.rate, n.step, 0, basis_k, n.basis, challenges_k, n.challenges, queries_k, 1, word_k, n.word, layer_k, n.store,
-             last_k, n.last, answer, RZ_ANSWER_LENGTH);
+    rz_judge(n.k, n.rate, n.step, 0, basis_k, n.basis, challenges_k, n.challenges, queries_k, 1, word_k, n.word,
+             layer_k, n.store, last_k, n.last, answer, RZ_ANSWER_LENGTH);
     expect_answer(answer, RZ_ANSWER_LENGTH, refused, "rz_judge: refusal");
 }
 
@@ -199,11 +199,14 @@ static void expect_own_numbers(void) {
 
     fill(answer);
     fill(last);
-    rz_judge(3, 1, 1, 0, basis_k, 3, challenges_k, 2, queries_k, 0, word_k, 8, layer_k, 4, last_k, 1, answer, RZ_ANSWER_LENGTH);
+    rz_judge(3, 1, 1, 0, basis_k, 3, challenges_k, 2, queries_k, 0, word_k, 8, layer_k, 4, last_k, 1, answer,
+             RZ_ANSWER_LENGTH);
     expect_answer(answer, RZ_ANSWER_LENGTH, no_query, "rz_judge: no query");
-    rz_judge(3, 1, 1, 0, basis_k, 3, challenges_k, 2, queries_k, 2, word_k, 8, layer_k, 4, last_k, 1, answer, RZ_ANSWER_LENGTH);
+    rz_judge(3, 1, 1, 0, basis_k, 3, challenges_k, 2, queries_k, 2, word_k, 8, layer_k, 4, last_k, 1, answer,
+             RZ_ANSWER_LENGTH);
     expect_answer(answer, RZ_ANSWER_LENGTH, outside, "rz_judge: query out of range");
-    rz_judge(3, 1, 1, 0, basis_k, 3, challenges_k, 2, queries_k, 1, word_k, 8, layer_k, 4, zero, 1, answer, RZ_ANSWER_LENGTH);
+    rz_judge(3, 1, 1, 0, basis_k, 3, challenges_k, 2, queries_k, 1, word_k, 8, layer_k, 4, zero, 1, answer,
+             RZ_ANSWER_LENGTH);
     expect_answer(answer, RZ_ANSWER_LENGTH, fails, "rz_judge: round check");
     rz_prove(2, 1, 1, 0, basis, 2, coefficients, 1, last_one, 4, store, 0, last, 1, answer, RZ_ANSWER_LENGTH);
     expect_answer(answer, RZ_ANSWER_LENGTH, degree, "rz_prove: degree");

@@ -45,7 +45,7 @@ fn answer(input: &[u8], count: usize) -> Text
     report::lines(reader::judge_input(&input[..count]))
 }
 
-// Prints the lines, which are those of the bytes that were read: no other text may be printed.
+// The one place that prints. The input is handed over so that the contract can say which lines these are.
 fn print(lines: &[u8], input: &[u8], count: usize)
     requires { ⌜ now lines ≡ linesOf (inputVerdict (take count (now input))) ⌝ }
 {
