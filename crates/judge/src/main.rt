@@ -7,7 +7,7 @@ ghost use mathlib.Core.Path.{_≡_};
 ghost use Prim.Native.Nat.{_≤_};
 ghost use lib.ListN.{length, take};
 ghost use Rattle.transcript.specs.Judge.{inputVerdict};
-ghost use Rattle.report.specs.Lines.{linesOf};
+ghost use Rattle.line_text.specs.Lines.{linesOf};
 ghost use Rattle.judge.specs.Input.{Within};
 
 // What was read: so many bytes, up to the end of the input or of the list, or a read that failed.

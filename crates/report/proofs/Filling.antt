@@ -3,18 +3,12 @@ use mathlib.Core.Path.{_≡_, refl, sym, ap, ap₂, subst, _∙_}
 use mathlib.Core.List.{List, [], _∷_}
 use Prim.Native.Nat.{ℕ, zero, suc, _+_, _-_, _/_, _%_, _≤_, _<_}
 use native.Mathlib.Omega.{arith}
-use lib.ListN.{length, getD, take, set, length-append}
+use lib.ListN.{length, getD, take, set}
 use lib.Seq.{take-all, take-take, getD-take, take-at, getD-at}
-use Rattle.report.specs.Digits.{digit, digits}
+use Rattle.line_text.specs.Digits.{digit, digits}
+use Rattle.line_text.proofs.Decimals.{length-digits}
 use Rattle.placing.specs.Put.{Put}
 use Rattle.placing.proofs.Placing.{filled, filled-start, filled-next, filled-end}
-
-pub length-digits : (base width n : ℕ) → length (digits base width n) ≡ width
-unfolding digits
-length-digits base zero n = refl
-length-digits base (suc width) n =
-    length-append (digits base width (n / base)) (digit (n % base) ∷ [])
-    ∙ omega (arith, length-digits base width (n / base))
 
 -- the first i + 1 bytes of a text are the digits of what is left of a number: the last of them, and those before it
 module _ (text : List ℕ) (base i rest : ℕ) (same : take (suc i) text ≡ digits base (suc i) rest) where

@@ -1,3 +1,1 @@
 mod Filling
-mod Decimals
-pub mod Theorems

@@ -10,9 +10,9 @@ ghost use mathlib.Core.Path.{_≡_};
 ghost use mathlib.Core.List.{_++_};
 ghost use Prim.Native.Nat.{_+_, _-_, _≤_};
 ghost use lib.ListN.{length, take, drop, replicate};
-ghost use Rattle.report.specs.Digits.{bytes};
+ghost use Rattle.line_text.specs.Digits.{bytes};
 ghost use Rattle.placing.specs.Put.{Put};
-ghost use Rattle.report.specs.Lines.{orHyphen, numbersText, lineOf, linesOf};
+ghost use Rattle.line_text.specs.Lines.{orHyphen, numbersText, lineOf, linesOf};
 
 // `length` bytes at the front of the array, and zeros after them.
 pub struct Text {

@@ -4,8 +4,8 @@ ghost use mathlib.Core.Path.{_≡_};
 ghost use mathlib.Core.List.{_++_};
 ghost use Prim.Native.Nat.{_+_, _≤_, _<_};
 ghost use lib.ListN.{length};
-ghost use Rattle.report.specs.Digits.{bytes, digits, placesWithin, decimal};
-ghost use Rattle.report.specs.Digits.{digit as digitOf};
+ghost use Rattle.line_text.specs.Digits.{bytes, digits, placesWithin, decimal};
+ghost use Rattle.line_text.specs.Digits.{digit as digitOf};
 ghost use Rattle.placing.specs.Put.{Put};
 
 // A space and a decimal number of up to 20 digits.

@@ -1,7 +1,7 @@
 -- `report::lines` meets its contract: the line follows the header, at the front of zeros. Assumes nothing.
 use borrow.Author.Needs.{needs}
-use Rattle.report.specs.Digits.{bytes}
-use Rattle.report.specs.Lines.{linesOf}
+use Rattle.line_text.specs.Digits.{bytes}
+use Rattle.line_text.specs.Lines.{linesOf}
 use Rattle.placing.proofs.Placing.{put-append, text-in-front, zeros-after, within}
 use Rattle.report.proofs.lines.Statement.{statement}
 use Rattle.report.proofs.lines.Tie as tie

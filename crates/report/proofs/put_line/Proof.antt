@@ -4,8 +4,8 @@ use mathlib.Core.List.{_++_}
 use borrow.Author.Needs.{needs}
 use Rattle.fri.specs.declared.Answer.{Answer}
 use Rattle.fri.specs.declared.Answer.the-variants.{Accepted}
-use Rattle.report.specs.Digits.{bytes}
-use Rattle.report.specs.Lines.{answerText, numbersText, lineOf}
+use Rattle.line_text.specs.Digits.{bytes}
+use Rattle.line_text.specs.Lines.{answerText, numbersText, lineOf}
 use Rattle.placing.proofs.Placing.{put-append, put-same}
 use Rattle.report.proofs.put_line.Statement.{statement}
 use Rattle.report.proofs.put_line.Tie as tie

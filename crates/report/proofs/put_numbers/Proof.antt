@@ -1,7 +1,7 @@
 -- `report::put_numbers` meets its contract: one text after the other. Assumes nothing.
 use borrow.Author.Needs.{needs}
-use Rattle.report.specs.Digits.{bytes}
-use Rattle.report.specs.Lines.{numbersText}
+use Rattle.line_text.specs.Digits.{bytes}
+use Rattle.line_text.specs.Lines.{numbersText}
 use Rattle.placing.proofs.Placing.{put-append}
 use Rattle.report.proofs.put_numbers.Statement.{statement}
 use Rattle.report.proofs.put_numbers.Tie as tie

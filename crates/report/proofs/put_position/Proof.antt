@@ -5,8 +5,8 @@ use native.Mathlib.Omega.{arith}
 use borrow.Author.Needs.{needs}
 use Rattle.refusal.specs.declared.Position.{Position}
 use Rattle.refusal.specs.declared.Position.the-variants.{Absent}
-use Rattle.report.specs.Digits.{bytes}
-use Rattle.report.specs.Lines.{orHyphen}
+use Rattle.line_text.specs.Digits.{bytes}
+use Rattle.line_text.specs.Lines.{orHyphen}
 use Rattle.placing.proofs.Placing.{put-same}
 use Rattle.report.proofs.put_position.Statement.{statement}
 use Rattle.report.proofs.put_position.Tie as tie

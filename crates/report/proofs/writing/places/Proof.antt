@@ -3,7 +3,7 @@ use Prim.Native.Nat.{_+_, _-_, _/_}
 use mathlib.Core.Path.{_≡_, subst}
 use native.Mathlib.Omega.{arith}
 use borrow.Author.Needs.{needs}
-use Rattle.report.proofs.Decimals.{Counting, counting-start, counting-next, counting-end}
+use Rattle.line_text.proofs.Decimals.{Counting, counting-start, counting-next, counting-end}
 use Rattle.report.proofs.writing.places.Statement.{statement}
 use Rattle.report.proofs.writing.places.Tie as tie
 

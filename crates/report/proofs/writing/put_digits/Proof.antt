@@ -6,7 +6,7 @@ use native.Mathlib.Nat.{mod-lt, div-le-self}
 use native.Mathlib.Omega.{arith}
 use lib.ListN.{length}
 use borrow.Author.Needs.{needs}
-use Rattle.report.specs.Digits.{digits}
+use Rattle.line_text.specs.Digits.{digits}
 use Rattle.report.proofs.Filling.{Filling, filling-start, filling-next, filling-end}
 use Rattle.report.proofs.writing.put_digits.Statement.{statement}
 use Rattle.report.proofs.writing.put_digits.Tie as tie

@@ -3,9 +3,9 @@ use mathlib.Core.Path.{ap}
 use Prim.Native.Nat.{ℕ}
 use native.Mathlib.Omega.{arith}
 use borrow.Author.Needs.{needs}
-use Rattle.report.specs.Digits.{bytes, digits, decimal}
+use Rattle.line_text.specs.Digits.{bytes, digits, decimal}
 use Rattle.placing.proofs.Placing.{put-append, put-same}
-use Rattle.report.proofs.Filling.{length-digits}
+use Rattle.line_text.proofs.Decimals.{length-digits}
 use Rattle.report.proofs.writing.put_number.Statement.{statement}
 use Rattle.report.proofs.writing.put_number.Tie as tie
 

@@ -5,8 +5,8 @@ use Prim.Native.Nat.{ℕ, _+_, _*_, _-_, _^_, _≤_, _<_}
 use lib.ListN.{length, getD}
 use Rattle.refusal.specs.declared.Cause.the-variants.{RoundCheckFails}
 use Rattle.fri.specs.declared.Answer.the-variants.{Accepted, Refused}
-use Rattle.report.specs.Digits.{bytes, decimal}
-use Rattle.report.specs.Lines.{linesOf}
+use Rattle.line_text.specs.Digits.{bytes, decimal}
+use Rattle.line_text.specs.Lines.{linesOf}
 
 -- the lines of the verdicts of cases G and H, and the codes of the texts in them
 pub record Examples : Type 0 where

@@ -7,12 +7,18 @@ use Prim.Native.Nat.{ℕ, zero, suc, _+_, _*_, _-_, _/_, _%_, _^_, _≤_, _<_}
 use native.Mathlib.Bridge.{IsLe, le-by-compare}
 use native.Mathlib.Nat.{lt-of-lt-of-le, eq-zero-or-pos}
 use native.Mathlib.Omega.{arith}
-use lib.ListN.{length, getD, List·getD-append}
+use lib.ListN.{length, getD, length-append, List·getD-append}
 use lib.Dec.{ltb}
 use borrow.Author.Tests.{lt-ltb, le-ltb}
-use Rattle.report.specs.Digits.{digit, digits, placesWithin}
-use Rattle.report.specs.Theorems.{valueAfter, valueOf}
-use Rattle.report.proofs.Filling.{length-digits}
+use Rattle.line_text.specs.Digits.{digit, digits, placesWithin}
+use Rattle.line_text.specs.Theorems.{valueAfter, valueOf}
+
+pub length-digits : (base width n : ℕ) → length (digits base width n) ≡ width
+unfolding digits
+length-digits base zero n = refl
+length-digits base (suc width) n =
+    length-append (digits base width (n / base)) (digit (n % base) ∷ [])
+    ∙ omega (arith, length-digits base width (n / base))
 
 -- ---- how many there are
 

@@ -1,10 +1,10 @@
 -- The statements of specs/Theorems.antt, proved. Assumes nothing.
 use mathlib.Core.Path.{refl}
 use Prim.Native.Nat.{_-_}
-use Rattle.report.specs.Digits.{bytes, digits, placesWithin, decimal}
-use Rattle.report.specs.Lines.{orHyphen, answerText, numbersText, lineOf, linesOf}
-use Rattle.report.specs.Theorems.{Examples, Decimals}
-use Rattle.report.proofs.Decimals as laws
+use Rattle.line_text.specs.Digits.{bytes, digits, placesWithin, decimal}
+use Rattle.line_text.specs.Lines.{orHyphen, answerText, numbersText, lineOf, linesOf}
+use Rattle.line_text.specs.Theorems.{Examples, Decimals}
+use Rattle.line_text.proofs.Decimals as laws
 
 pub examples : Examples
 unfolding linesOf lineOf numbersText answerText orHyphen decimal digits placesWithin bytes

@@ -7,7 +7,7 @@ use Rattle.fri.specs.declared.Answer.{Answer}
 use Rattle.fri.specs.declared.Answer.the-variants.{Accepted, Refused}
 use Rattle.fri.specs.declared.Verdict.{Verdict}
 use Rattle.fri.specs.Judge.{numberOfAnswer, placeOfAnswer, roundOfAnswer}
-use Rattle.report.specs.Digits.{bytes, decimal}
+use Rattle.line_text.specs.Digits.{bytes, decimal}
 
 -- a place or a round, or a hyphen where there is none
 unfoldable pub orHyphen : (position : Position) → List ℕ

@@ -1,0 +1,2 @@
+pub mod Decimals
+pub mod Theorems

@@ -1,0 +1,1 @@
+// The lines that the program prints, by their bytes: definitions (specs/) and theorems about them (proofs/).
