@@ -76,8 +76,8 @@ pub fn judge_rounds(
     }
 }
 
-// Where the entries of the next layer begin, after those of layer i, which begin there, and a count. No layer begins
-// after 2^42: see LaidOut.
+// Where the entries of the next layer begin, after those of layer i, which begin there, and a count. Layer 0 begins
+// before 2^41 (LaidOut), and twenty layers of at most 2^20 entries end before 2^42.
 fn after_layer(parameters: Parameters, at: usize, i: usize) -> usize
     requires { ⌜ Valid parameters × (i ≤ length (stepsBy parameters)) × (at ≤ 2 ^ 42) ⌝ }
     ensures { λ r. ⌜ r ≡ at + 8 * 2 ^ dimension (parameters .k) (stepsBy parameters) i + 4 ⌝ }
@@ -86,7 +86,8 @@ fn after_layer(parameters: Parameters, at: usize, i: usize) -> usize
     at + 8 * size + 4
 }
 
-// The fold, at the round's challenge, of the coset that holds the query's index, in a layer whose entries begin there.
+// The fold, at the round's challenge, of the coset that holds the query's index, in a layer whose entries begin there;
+// a layer has at most 2^20 of them, so that the coset begins before 2^43.
 fn computed(bytes: &[u8], at: usize, step: usize, round: Round, here: QueryPoint) -> Element
     requires { ⌜ (1 ≤ step) × (step ≤ 3) × (at ≤ 2 ^ 42) × (here .index ≤ 2 ^ 20) ⌝ }
     ensures { λ r. ⌜ r .0 ≡ valueFolded step round here (partAt (now (bytes .entry)) at step here) ⌝ }

@@ -1,6 +1,5 @@
--- What the C functions that fill lists beside their answer leave, in named parts. `lent` is what the answer's list
--- held,
--- `numbers` what it holds afterwards.
+-- What the C functions that fill lists beside their answer leave, in named parts.
+-- `lent` is what the answer's list held, `numbers` what it holds afterwards.
 use mathlib.Core.Path.{_≡_}
 use mathlib.Core.List.{List}
 use Prim.Native.Nat.{ℕ}

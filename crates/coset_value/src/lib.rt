@@ -27,8 +27,8 @@ impl Coset {
         requires { ⌜ (length (now span) ≤ 8) × (length (now part) ≡ length (now span)) ⌝ }
         ensures { λ r. ⌜ r ≡ cosetRead (now (span .entry)) (first .0) (now (part .entry)) ⌝ }
     {
-        let mut points = [Element(0); 8];
-        let mut entries = [Element(0); 8];
+        let mut points = [Element::ZERO; 8];
+        let mut entries = [Element::ZERO; 8];
         let mut i: usize = 0;
         while i < span.len() {
             points[i] = first.sum(Element(span[i]));
@@ -67,7 +67,7 @@ impl Coset {
             let moved = map (sum (challenge .0)) (take (self .count) (numbers (self .points))) in
             ⌜ r ≡ record { points = elements (padded gf64 8 moved); entries = self .entries; count = self .count } ⌝ }
     {
-        let mut points = [Element(0); 8];
+        let mut points = [Element::ZERO; 8];
         let mut i: usize = 0;
         while i < self.count {
             points[i] = challenge.sum(self.points[i]);
@@ -90,8 +90,8 @@ impl Coset {
             ⌜ r ≡ cosetOf (halvedPoints half points) (halvedEntries (inverse .0) half points entries) half ⌝ }
     {
         let half = self.count / 2;
-        let mut points = [Element(0); 8];
-        let mut entries = [Element(0); 8];
+        let mut points = [Element::ZERO; 8];
+        let mut entries = [Element::ZERO; 8];
         let mut i: usize = 0;
         while i < half {
             points[i] = self.points[i * 2].product(self.points[i * 2 + 1]);

@@ -235,6 +235,7 @@ soundness run lists e cover =
     let lengths : Fit run = fit run lists e cover in
     let whole : suc (roundsIn run - 1) ≡ roundsIn run = omega (arith, some-rounds run coset) in
     record {
+      some-round = some-rounds run coset;
       folds = exact-folds run lists e cover;
       last = λ i h.
           last-fold run lists e cover i h

@@ -65,8 +65,8 @@ abbrev pub outcomeOfOutside : (outside : Position) → Outcome
 outcomeOfOutside (At query) = Refused (QueryOutOfRange query)
 outcomeOfOutside Absent = Done
 
--- the indices of a query list: each below 2^k (10). The checks of a query list are given the step of round 0, whose
--- cosets are the first-layer cosets
+-- the indices of a query list: each below 2^k (10). `first` is the step of round 0, whose cosets are the first-layer
+-- cosets: the checks of a query list are given it, and none needs it yet
 abbrev pub indicesOutcome : (k first : ℕ) (queries : List ℕ) → Outcome
 indicesOutcome k first queries = outcomeOfOutside (firstOutside (2 ^ k) queries 0)
 

@@ -103,6 +103,8 @@ FewExceptionalIn run i =
 
 -- what is claimed together of the layers as they were sent
 pub record Sound (run : Run) : Type 0 where
+  -- there is a round
+  pub some-round : 0 < roundsIn run
   -- layers 1 to r - 1 are the exact folds of those before them
   pub folds : (i : ℕ) → suc i < roundsIn run → layerIn run (suc i) ≡ foldOf run i (layerIn run i)
   -- the last fold has the values of the last polynomial at every point of layer r
@@ -114,8 +116,8 @@ pub record Sound (run : Run) : Type 0 where
   pub few : (i : ℕ) → i < roundsIn run → FewExceptionalIn run i
 
 -- demand 3, second half: one claim over any list of judgings of one and the same run, from anybody.
--- A judging writes nothing, so that each finds the run as the one before did; that there is a round and that
--- parameters, basis and lengths are valid follows from acceptance
+-- A judging writes nothing, so that each finds the run as the one before did; that parameters, basis and lengths are
+-- valid follows from acceptance
 abbrev pub Soundness : Type 0
 Soundness = (run : Run) (queryLists : List (List ℕ)) → Elements run → Covered run queryLists → Sound run
 

@@ -19,10 +19,11 @@ layerOffset steps offset basis zero = offset
 layerOffset steps offset basis (suc i) =
     nextOffset (stepAt steps i) (layerOffset steps offset basis i) (layerBasis steps basis i)
 
--- those of a run
+-- the basis of layer i of a run
 abbrev pub basisIn : (run : Run) (i : ℕ) → List ℕ
 basisIn run i = layerBasis (stepsIn run) (run .basis) i
 
+-- and its offset
 abbrev pub offsetIn : (run : Run) (i : ℕ) → ℕ
 offsetIn run i = layerOffset (stepsIn run) (run .offset) (run .basis) i
 

@@ -20,7 +20,7 @@ use Rattle.fri.proofs.Layouts.{start-next}
 use Rattle.fri.proofs.Layers.{honest-run}
 use Rattle.layout.specs.declared.Parameters.{Parameters}
 use Rattle.layer_cosets.specs.declared.LayerCoset.{LayerCoset}
-use Rattle.layer_cosets.specs.Cosets.{cosetOf, basisOf}
+use Rattle.layer_cosets.specs.Cosets.{layerCosetOf, basisOf}
 use Rattle.layout.proofs.Sizes.{start-of-first, storeLength-is}
 use Rattle.layer_cosets.proofs.LayerCosets.{basisOf-coset}
 use Rattle.layer_cosets.proofs.NextLayers.{basis-next, offset-next}
@@ -57,8 +57,8 @@ module _ (run : Run) where
 
   -- ---- the cosets
 
-  pub coset-first : cosetOf (run .offset) (run .basis) ≡ cosetIn run 0
-  coset-first = sym (ap₂ (λ (o : ℕ) (l : List ℕ). cosetOf o l) (first-coset run .0) (first-coset run .1))
+  pub coset-first : layerCosetOf (run .offset) (run .basis) ≡ cosetIn run 0
+  coset-first = sym (ap₂ (λ (o : ℕ) (l : List ℕ). layerCosetOf o l) (first-coset run .0) (first-coset run .1))
 
   module _ (i : ℕ) (coset : LayerCoset) (is : coset ≡ cosetIn run i) where
     pub coset-offset : coset .offset .0 ≡ offsetIn run i
@@ -68,12 +68,12 @@ module _ (run : Run) where
     coset-basis = ap basisOf is ∙ basisOf-coset (offsetIn run i) (basisIn run i)
 
     pub coset-next : i < roundsIn run
-        → cosetOf (nextOffset (run .step) (coset .offset .0) (basisOf coset)) (nextBasis (run .step) (basisOf coset))
+        → layerCosetOf (nextOffset (run .step) (coset .offset .0) (basisOf coset)) (nextBasis (run .step) (basisOf coset))
         ≡ cosetIn run (suc i)
     coset-next h =
-        ap₂ (λ (o : ℕ) (l : List ℕ). cosetOf (nextOffset (run .step) o l) (nextBasis (run .step) l))
+        ap₂ (λ (o : ℕ) (l : List ℕ). layerCosetOf (nextOffset (run .step) o l) (nextBasis (run .step) l))
         coset-offset coset-basis
-        ∙ ap₂ (λ (o : ℕ) (l : List ℕ). cosetOf o l) (offset-next p (run .offset) (run .basis) i h)
+        ∙ ap₂ (λ (o : ℕ) (l : List ℕ). layerCosetOf o l) (offset-next p (run .offset) (run .basis) i h)
         (basis-next p (run .offset) (run .basis) i h)
 
     -- the fold of an honest layer is the next one

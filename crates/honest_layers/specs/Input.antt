@@ -12,7 +12,7 @@ use Rattle.fri.specs.Demand.{ValidParameters}
 use Rattle.layout.specs.declared.Parameters.{Parameters}
 use Rattle.layer_cosets.specs.declared.LayerCoset.{LayerCoset}
 use Rattle.layout.specs.Parameters.{runOf}
-use Rattle.layer_cosets.specs.Cosets.{cosetOf}
+use Rattle.layer_cosets.specs.Cosets.{layerCosetOf}
 
 -- the run of a prover, with empty lists in the place of the lent ones
 abbrev pub inputOf : (p : Parameters) (offset : ℕ) (basis challenges word : List ℕ) → Run
@@ -29,7 +29,7 @@ pub record Passed (run : Run) (stored : ℕ) : Type 0 where
 
 -- the coset of layer i, by value
 abbrev pub cosetIn : (run : Run) (i : ℕ) → LayerCoset
-cosetIn run i = cosetOf (offsetIn run i) (basisIn run i)
+cosetIn run i = layerCosetOf (offsetIn run i) (basisIn run i)
 
 -- layer i, i < r, as word and store have it
 abbrev pub layerFrom : (p : Parameters) (word store : List ℕ) (i : ℕ) → List ℕ

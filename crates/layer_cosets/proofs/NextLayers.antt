@@ -9,7 +9,7 @@ use Rattle.fri.proofs.Layouts.{step-of-round}
 use Rattle.layout.specs.declared.Parameters.{Parameters}
 use Rattle.layout.specs.Parameters.{stepsBy}
 use Rattle.layer_cosets.specs.declared.LayerCoset.{LayerCoset}
-use Rattle.layer_cosets.specs.Cosets.{cosetOf, basisOf}
+use Rattle.layer_cosets.specs.Cosets.{layerCosetOf, basisOf}
 use Rattle.layer_cosets.proofs.LayerCosets.{basisOf-coset}
 
 pub basis-first : (steps basis : List ℕ) → basis ≡ layerBasis steps basis 0
@@ -36,19 +36,19 @@ module _ (p : Parameters) (offset : ℕ) (basis : List ℕ) (i : ℕ) (h : i < l
 
 -- a coset by value that has layer i's basis is followed by one that has the next layer's
 pub coset-next : (p : Parameters) (basis : List ℕ) (i : ℕ) (coset next : LayerCoset) → i < length (stepsBy p)
-    → coset ≡ cosetOf (coset .offset .0) (layerBasis (stepsBy p) basis i)
-    → next ≡ cosetOf (nextOffset (p .step) (coset .offset .0) (basisOf coset)) (nextBasis (p .step) (basisOf coset))
-    → next ≡ cosetOf (next .offset .0) (layerBasis (stepsBy p) basis (suc i))
+    → coset ≡ layerCosetOf (coset .offset .0) (layerBasis (stepsBy p) basis i)
+    → next ≡ layerCosetOf (nextOffset (p .step) (coset .offset .0) (basisOf coset)) (nextBasis (p .step) (basisOf coset))
+    → next ≡ layerCosetOf (next .offset .0) (layerBasis (stepsBy p) basis (suc i))
 coset-next p basis i coset next h e n =
-    whole ∙ ap (λ (o : ℕ). cosetOf o (layerBasis (stepsBy p) basis (suc i)))
+    whole ∙ ap (λ (o : ℕ). layerCosetOf o (layerBasis (stepsBy p) basis (suc i)))
     (sym (ap (λ (r : LayerCoset). r .offset .0) whole))
   where
     here : basisOf coset ≡ layerBasis (stepsBy p) basis i
     here = ap basisOf e ∙ basisOf-coset (coset .offset .0) (layerBasis (stepsBy p) basis i)
 
     whole : next
-        ≡ cosetOf (nextOffset (p .step) (coset .offset .0) (basisOf coset)) (layerBasis (stepsBy p) basis (suc i))
+        ≡ layerCosetOf (nextOffset (p .step) (coset .offset .0) (basisOf coset)) (layerBasis (stepsBy p) basis (suc i))
     whole =
         n
-        ∙ ap (cosetOf (nextOffset (p .step) (coset .offset .0) (basisOf coset)))
+        ∙ ap (layerCosetOf (nextOffset (p .step) (coset .offset .0) (basisOf coset)))
         (ap (nextBasis (p .step)) here ∙ basis-next p 0 basis i h)

@@ -7,8 +7,8 @@ use Rattle.poly.specs.Polynomial.{padded}
 use Rattle.layer_cosets.specs.declared.LayerCoset.{LayerCoset}
 
 -- offset and basis by value, where the basis has at most 20 elements
-abbrev pub cosetOf : (offset : ℕ) (basis : List ℕ) → LayerCoset
-cosetOf offset basis =
+abbrev pub layerCosetOf : (offset : ℕ) (basis : List ℕ) → LayerCoset
+layerCosetOf offset basis =
     record {
       offset = record { 0 = offset };
       basis = padded gf64 20 basis;

@@ -9,7 +9,7 @@ ghost use Rattle.poly.specs.Polynomial.{padded};
 ghost use Rattle.coset.specs.Span.{firstDependent};
 ghost use Rattle.coset.specs.Steps.{stepElements};
 ghost use Rattle.coset.specs.Subspace.{nextOffset, nextBasis};
-ghost use Rattle.layer_cosets.specs.Cosets.{cosetOf, basisOf};
+ghost use Rattle.layer_cosets.specs.Cosets.{layerCosetOf, basisOf};
 
 // Offset and basis; zeros follow the basis.
 pub struct LayerCoset {
@@ -22,7 +22,7 @@ impl LayerCoset {
     // That of layer 0.
     pub fn first(offset: Element, basis: &[u64]) -> LayerCoset
         requires { ⌜ length (now basis) ≤ 20 ⌝ }
-        ensures { λ r. ⌜ r ≡ cosetOf (offset .0) (now (basis .entry)) ⌝ }
+        ensures { λ r. ⌜ r ≡ layerCosetOf (offset .0) (now (basis .entry)) ⌝ }
     {
         let mut elements = [0u64; 20];
         poly::copy(basis, &mut elements);
@@ -37,7 +37,7 @@ impl LayerCoset {
     pub fn next(self, step: usize) -> LayerCoset
         requires { ⌜ (step ≤ 3) × (step ≤ self .dimension) × (self .dimension ≤ 20) ⌝ }
         ensures { λ r.
-            ⌜ r ≡ cosetOf (nextOffset step (self .offset .0) (basisOf self)) (nextBasis step (basisOf self)) ⌝ }
+            ⌜ r ≡ layerCosetOf (nextOffset step (self .offset .0) (basisOf self)) (nextBasis step (basisOf self)) ⌝ }
     {
         let elements = self.step_elements(step);
         let basis = self.basis;

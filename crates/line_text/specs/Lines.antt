@@ -28,6 +28,7 @@ numbersText number place round reads =
     ++ (bytes " " ++ decimal reads)
     ++ bytes "\n"
 
+-- the line: answer, number, place, round, reads
 unfoldable pub lineOf : (verdict : Verdict) → List ℕ
 lineOf verdict =
     answerText (verdict .answer)

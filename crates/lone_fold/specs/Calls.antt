@@ -48,7 +48,7 @@ pub record FoldedBy (call : FoldCall) (folded : Folded) (filled basis : List ℕ
   pub next : basis ≡ nextAfterCall call
 
 -- what holds after the checks
-pub record FoldFits (step : ℕ) (basis word values next : List ℕ) : Type 0 where
+pub record CallFits (step : ℕ) (basis word values next : List ℕ) : Type 0 where
   pub step-least : 1 ≤ step
   pub step-most : step ≤ 3
   pub step-fits : step ≤ length basis

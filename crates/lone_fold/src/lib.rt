@@ -12,7 +12,7 @@ ghost use Rattle.coset.specs.Span.{firstDependent};
 ghost use Rattle.coset.specs.Subspace.{nextOffset, nextBasis};
 ghost use Rattle.fold.specs.Fold.{folded};
 ghost use Rattle.fold.specs.Answers.{foldRangesOutcome, foldLengthsOutcome, outcomeOfNextBasis, foldBasesOutcome};
-ghost use Rattle.lone_fold.specs.Calls.{FoldCall, FoldedBy, FoldFits};
+ghost use Rattle.lone_fold.specs.Calls.{FoldCall, FoldedBy, CallFits};
 
 // The fold of a word at the challenge, with the step, into `values`; the basis of the next coset into `next_basis`;
 // its offset as the answer. Refused, in this order: k outside 2..20 (4); a step outside 1..3 (6); k below the step
@@ -66,7 +66,7 @@ fn fold_checked(
     values: &mut [u64],
     next: &mut [u64],
 ) -> Element
-    requires { ⌜ FoldFits step (now basis) (now word) (now values) (now next) ⌝ }
+    requires { ⌜ CallFits step (now basis) (now word) (now values) (now next) ⌝ }
     ensures answer { λ r. ⌜ r .0 ≡ nextOffset step (offset .0) (now (basis .entry)) ⌝ }
     ensures output { λ _.
         ⌜ now (values .exit) ≡ folded step (offset .0) (now (basis .entry)) (now (word .entry)) (challenge .0) ⌝ }

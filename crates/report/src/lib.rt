@@ -14,7 +14,7 @@ ghost use Rattle.line_text.specs.Digits.{bytes};
 ghost use Rattle.placing.specs.Put.{Put};
 ghost use Rattle.line_text.specs.Lines.{orHyphen, numbersText, lineOf, linesOf};
 
-// `length` bytes at the front of the array, and zeros after them.
+// `length` bytes at the front of the array, and zeros after them: at most 32 of the header and 93 of the line.
 pub struct Text {
     pub bytes: [u8; 128],
     pub length: usize,
@@ -33,7 +33,7 @@ pub fn lines(verdict: Verdict) -> Text
     Text { bytes, length }
 }
 
-// `accepted` or `refused`, and what follows it.
+// `accepted` or `refused`, at most 8 bytes, and what follows it, at most 85.
 fn put_line(verdict: Verdict, at: usize, out: &mut [u8]) -> usize
     requires { ⌜ at + 93 ≤ length (now out) ⌝ }
     ensures { λ r. ⌜ Put (now (out .entry)) at (lineOf verdict) r (now (out .exit)) ⌝ }

@@ -32,8 +32,8 @@ pub fn find(bytes: &[u8]) -> Sections
     }
 }
 
-// Where a section ends that begins there. A count has 4 bytes, so that a section has less than 2^35 bytes, and thirty
-// of them, more than there are, end before 2^40.
+// Where a section ends that begins there. A count has 4 bytes, so that a section has less than 2^35 bytes, and all of
+// them, at most 5 + 19, end before 2^40.
 pub fn end_of(bytes: &[u8], at: usize) -> usize
     requires { ⌜ at ≤ 2 ^ 40 ⌝ }
     ensures { λ r. ⌜ r ≡ sectionEnd (now (bytes .entry)) at ⌝ }

@@ -1,7 +1,7 @@
 -- `honest_layers::fill_store` meets its contract. The loop's invariant: layers 1 to i are in the store, and the coset
 -- is that of layer i. Assumes nothing.
 use Rattle.fri.specs.Run.{Run}
-use Rattle.layer_cosets.specs.Cosets.{cosetOf}
+use Rattle.layer_cosets.specs.Cosets.{layerCosetOf}
 use native.Mathlib.Numerals.{add-one}
 use mathlib.Core.Path.{_≡_, sym, ap, ap₂, _∙_, subst}
 use Prim.Native.Nat.{ℕ, suc, _+_, _-_, _≤_, _<_}
@@ -99,7 +99,7 @@ loop-holds c =
     let start = start-of c in
     let a = start .args in
     let rounds = c .before .rounds in
-    let first = c .first .ensures ∙ ap (λ (o : ℕ). cosetOf o (a .basis .now)) (sym (offset-is c)) in
+    let first = c .first .ensures ∙ ap (λ (o : ℕ). layerCosetOf o (a .basis .now)) (sym (offset-is c)) in
     record {
       count = rounds .ensures;
       within = omega (arith, rounds .ensures, one-round (a .parameters) (start .pre .parameters));

@@ -5,7 +5,7 @@ use Rattle.round_checks.specs.Rounds.{roundOver, roundAt, Holds}
 use Rattle.layer_cosets.proofs.NextLayers.{basis-first, coset-next}
 use Rattle.layer_cosets.proofs.LayerCosets.{basisOf-coset}
 use Rattle.layout.proofs.Sizes.{few-rounds, dimension-most, step-within}
-use Rattle.layer_cosets.specs.Cosets.{cosetOf, basisOf}
+use Rattle.layer_cosets.specs.Cosets.{layerCosetOf, basisOf}
 use Rattle.layout.specs.declared.Parameters.{Parameters}
 use Rattle.layout.specs.Parameters.{stepsBy}
 use Rattle.layer_cosets.specs.declared.LayerCoset.{LayerCoset}
@@ -29,7 +29,7 @@ record BeforeRound (p : Parameters) (basis challenges : List ℕ) (count : ℕ) 
   most : i ≤ count
   places : length table ≡ 19
   held : Holds table (roundAt p basis challenges) i
-  coset-is : coset ≡ cosetOf (coset .offset .0) (layerBasis (stepsBy p) basis i)
+  coset-is : coset ≡ layerCosetOf (coset .offset .0) (layerBasis (stepsBy p) basis i)
   start-is : start ≡ layerStart (p .k) (stepsBy p) i
 
 abbrev Inv-loop : tie.InvT-loop
@@ -83,7 +83,7 @@ loop-holds c =
       held = λ i h. absurd (omega arith);
       coset-is =
           c .first .ensures
-          ∙ ap₂ (λ (o : ℕ) (l : List ℕ). cosetOf o l) (sym (ap (λ (r : LayerCoset). r .offset .0) (c .first .ensures)))
+          ∙ ap₂ (λ (o : ℕ) (l : List ℕ). layerCosetOf o l) (sym (ap (λ (r : LayerCoset). r .offset .0) (c .first .ensures)))
           (basis-first (stepsBy p) (start .args .basis .now));
       start-is = start-of-word (p .k) (stepsBy p);
     }
@@ -165,7 +165,7 @@ loop-again c =
           holds-next (l .table) (roundAt p basis (a .challenges .now)) (l .i) (c .before .over .result)
           (omega (arith, w .place-within, l .inv .places)) (l .inv .held) (round-made (c .before));
       coset-is =
-          next ∙ ap (λ (n : ℕ). cosetOf (c .next .result .offset .0) (layerBasis (stepsBy p) basis n))
+          next ∙ ap (λ (n : ℕ). layerCosetOf (c .next .result .offset .0) (layerBasis (stepsBy p) basis n))
           (sym (add-one (l .i)));
       start-is = c .before .before .before .layer-start .ensures;
     }

@@ -4,7 +4,7 @@ use Rattle.layer_cosets.proofs.NextLayers.{basis-first, coset-next}
 use Rattle.run_checks.proofs.LaterBases.{later-none, later-passed, later-refused}
 use Rattle.layer_cosets.proofs.LayerCosets.{basisOf-coset}
 use Rattle.layout.proofs.Sizes.{dimension-most, step-within}
-use Rattle.layer_cosets.specs.Cosets.{cosetOf, basisOf}
+use Rattle.layer_cosets.specs.Cosets.{layerCosetOf, basisOf}
 use Rattle.layout.specs.Parameters.{stepsBy}
 use Rattle.layer_cosets.specs.declared.LayerCoset.{LayerCoset}
 use Rattle.fri.proofs.Cosets.{length-basis}
@@ -25,7 +25,7 @@ use Rattle.run_checks.proofs.checked_later_bases.Tie as tie
 abbrev Inv-loop : tie.InvT-loop
 Inv-loop parameters basis rounds coset₀ round₀ coset round =
     let steps = stepsBy parameters in
-    (rounds ≡ length steps) × (round ≤ rounds) × (coset ≡ cosetOf (coset .offset .0) (layerBasis steps basis round))
+    (rounds ≡ length steps) × (round ≤ rounds) × (coset ≡ layerCosetOf (coset .offset .0) (layerBasis steps basis round))
     × (laterBasesOutcome steps basis round (rounds - round) ≡ laterBasesOutcome steps basis 0 (length steps))
 
 abbrev μ-loop : tie.MeasureT-loop
@@ -64,7 +64,7 @@ one-more c = omega (arith, c .before .loop .inv .0)
 abbrev NextIs : tie.After-next Inv-loop μ-loop → Type 0
 NextIs c =
     let l = c .before .before in
-    c .next .result ≡ cosetOf (c .next .result .offset .0) (basis-of l (suc (l .loop .round)))
+    c .next .result ≡ layerCosetOf (c .next .result .offset .0) (basis-of l (suc (l .loop .round)))
 
 next-is : (c : tie.After-next Inv-loop μ-loop) → NextIs c
 next-is c =
@@ -103,7 +103,7 @@ loop-holds c =
     let whole : c .before .rounds .result - 0 ≡ length steps = omega (arith, c .before .rounds .ensures) in (
       c .before .rounds .ensures,
       search needs,
-      c .first .ensures ∙ ap₂ (λ (o : ℕ) (l : List ℕ). cosetOf o l) offset (basis-first steps basis),
+      c .first .ensures ∙ ap₂ (λ (o : ℕ) (l : List ℕ). layerCosetOf o l) offset (basis-first steps basis),
       ap (laterBasesOutcome steps basis 0) whole,
     )
 
@@ -169,7 +169,7 @@ loop-again c =
     let absent : found .first-dependent .result ≡ Absent = search needs in (
       here .loop .inv .0,
       search needs,
-      next-is (found .before) ∙ ap (λ (n : ℕ). cosetOf offset (basis-of here n)) (sym (add-one round)),
+      next-is (found .before) ∙ ap (λ (n : ℕ). layerCosetOf offset (basis-of here n)) (sym (add-one round)),
       ap (λ (n : ℕ). laterBasesOutcome steps basis n (rounds - n)) (add-one round)
           ∙ later-passed steps basis round (left in-loop) (sym (first-is found) ∙ absent)
           ∙ ap (laterBasesOutcome steps basis round) (sym (one-more in-loop)) ∙ here .loop .inv .3,
