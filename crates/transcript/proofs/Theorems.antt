@@ -36,7 +36,7 @@ use Rattle.fri.proofs.Completeness.{completeness}
 use Rattle.transcript.specs.Numerals.{AreBytes}
 use Rattle.transcript.specs.Sections.{sectionStart, transcriptSteps, runIn, queriesIn}
 use Rattle.transcript.specs.Checks.{transcriptOutcome}
-use Rattle.transcript.specs.Judge.{transcriptVerdict, inputVerdict}
+use Rattle.transcript.specs.Judge.{transcriptVerdict, inputLimit, inputVerdict}
 use Rattle.transcript.specs.Theorems.{Carries, JudgingBytes, TranscriptCompleteness}
 use Rattle.transcript.specs.Theorems.{OfRun, TranscriptSoundness, TranscriptNumbers}
 use Rattle.transcript.proofs.Sections.{run-fits}
@@ -155,13 +155,13 @@ transcript-soundness sent transcripts of-run covers =
 
 -- ---- the program's answer
 
-pub short : (bytes : List ℕ) → length bytes ≤ 65536 → inputVerdict bytes ≡ transcriptVerdict bytes
+pub short : (bytes : List ℕ) → length bytes ≤ inputLimit → inputVerdict bytes ≡ transcriptVerdict bytes
 unfolding inputVerdict
-short bytes h = ap (λ (t : Bool). cond t (transcriptVerdict bytes) too-long) (le-leb (length bytes) 65536 h)
+short bytes h = ap (λ (t : Bool). cond t (transcriptVerdict bytes) too-long) (le-leb (length bytes) inputLimit h)
 
-pub long : (bytes : List ℕ) → 65536 < length bytes → inputVerdict bytes ≡ too-long
+pub long : (bytes : List ℕ) → inputLimit < length bytes → inputVerdict bytes ≡ too-long
 unfolding inputVerdict
-long bytes h = ap (λ (t : Bool). cond t (transcriptVerdict bytes) too-long) (lt-leb (length bytes) 65536 h)
+long bytes h = ap (λ (t : Bool). cond t (transcriptVerdict bytes) too-long) (lt-leb (length bytes) inputLimit h)
 
 told : (verdict : Verdict) → verdict ≡ too-long → Tells verdict 14 Absent Absent 0
 told verdict e = (
@@ -179,7 +179,7 @@ either-accepted false verdict e = absurd (let impossible : _≡_ {A = ℕ} 0 1 =
 program-accepted : (bytes : List ℕ) → inputVerdict bytes .answer ≡ answers.Accepted
     → transcriptVerdict bytes .answer ≡ answers.Accepted
 unfolding inputVerdict
-program-accepted bytes e = either-accepted (leb (length bytes) 65536) (transcriptVerdict bytes) e
+program-accepted bytes e = either-accepted (leb (length bytes) inputLimit) (transcriptVerdict bytes) e
 
 pub judging-bytes : JudgingBytes
 judging-bytes =
@@ -220,7 +220,8 @@ either-number false verdict h = inr refl
 
 program-number : (bytes : List ℕ) → AreBytes bytes → ProgramNumber (inputVerdict bytes)
 unfolding inputVerdict
-program-number bytes h = either-number (leb (length bytes) 65536) (transcriptVerdict bytes) (library-number bytes h)
+program-number bytes h =
+    either-number (leb (length bytes) inputLimit) (transcriptVerdict bytes) (library-number bytes h)
 
 empty : Tells (inputVerdict []) 1 (At 1) Absent 0
 unfolding inputVerdict transcriptVerdict sectionStart

@@ -1,7 +1,7 @@
 -- The judge over the bytes of a transcript, and the answer of the program `judge`.
 use mathlib.Core.Bool.{cond}
 use mathlib.Core.List.{List}
-use Prim.Native.Nat.{ℕ}
+use Prim.Native.Nat.{ℕ, _^_}
 use lib.Dec.{leb}
 use lib.ListN.{length}
 use Rattle.refusal.specs.declared.Cause.the-variants.{InputTooLong}
@@ -22,8 +22,12 @@ transcriptVerdict bytes =
       reads = readsAfter (transcriptOutcome bytes) (entriesRead (runIn bytes) (queriesIn bytes));
     }
 
--- the program's answer: an input of over 65,536 bytes is refused first (14)
+-- the most bytes that the program judges
+abbrev pub inputLimit : ℕ
+inputLimit = 2 ^ 16
+
+-- the program's answer: an input over the limit is refused first (14)
 unfoldable pub inputVerdict : (bytes : List ℕ) → Verdict
 inputVerdict bytes =
-    cond (leb (length bytes) 65536) (transcriptVerdict bytes)
+    cond (leb (length bytes) inputLimit) (transcriptVerdict bytes)
     (record { answer = answers.Refused InputTooLong; reads = 0 })

@@ -23,7 +23,7 @@ use Rattle.transcript.specs.Numerals.{AreBytes}
 use Rattle.transcript.specs.Sections.{sectionStart, sectionCount, layerSection, transcriptK, transcriptRate}
 use Rattle.transcript.specs.Sections.{transcriptStep, transcriptSteps, transcriptRounds, runIn, queriesIn}
 use Rattle.transcript.specs.Checks.{transcriptOutcome}
-use Rattle.transcript.specs.Judge.{transcriptVerdict, inputVerdict}
+use Rattle.transcript.specs.Judge.{transcriptVerdict, inputLimit, inputVerdict}
 
 -- the bytes carry the lists that are read from them: parameters in range, the counts due but for the queries',
 -- and nothing follows the last section
@@ -49,9 +49,9 @@ pub record JudgingBytes : Type 0 where
   pub accepted : (bytes : List ℕ) → transcriptVerdict bytes .answer ≡ answers.Accepted → Carries bytes
   pub refused : (bytes : List ℕ) (query round : ℕ)
       → transcriptVerdict bytes .answer ≡ answers.Refused (RoundCheckFails query round) → Carries bytes
-  -- the program's answer: the same, unless there are over 65,536 bytes (14)
-  pub short : (bytes : List ℕ) → length bytes ≤ 65536 → inputVerdict bytes ≡ transcriptVerdict bytes
-  pub long : (bytes : List ℕ) → 65536 < length bytes → Tells (inputVerdict bytes) 14 Absent Absent 0
+  -- the program's answer: the same, unless there are bytes over the limit (14)
+  pub short : (bytes : List ℕ) → length bytes ≤ inputLimit → inputVerdict bytes ≡ transcriptVerdict bytes
+  pub long : (bytes : List ℕ) → inputLimit < length bytes → Tells (inputVerdict bytes) 14 Absent Absent 0
   -- so what the program accepts the library accepts
   pub program-accepted : (bytes : List ℕ) → inputVerdict bytes .answer ≡ answers.Accepted
       → transcriptVerdict bytes .answer ≡ answers.Accepted
