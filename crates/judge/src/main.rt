@@ -4,64 +4,81 @@ use libc::STDIN_FILENO;
 use libc::STDOUT_FILENO;
 use report::Text;
 ghost use mathlib.Core.Path.{_≡_};
-ghost use Prim.Native.Nat.{_≤_};
+ghost use Prim.Native.Nat.{_+_, _-_, _≤_};
 ghost use lib.ListN.{length, take};
-ghost use Rattle.transcript.specs.Judge.{inputVerdict};
-ghost use Rattle.line_text.specs.Lines.{linesOf};
-ghost use Rattle.judge.specs.Input.{Within};
+ghost use Rattle.libc.specs.Io.{Moved};
+ghost use Rattle.transcript.specs.Judge.{inputLimit};
+ghost use Rattle.judge.specs.Reading.{readAfter, Over, printed};
 
-// What was read: so many bytes, up to the end of the input or of the list, or a read that failed.
-enum Input {
-    Bytes(usize),
+// How far reading has come: so many bytes and there may be more, so many bytes and no more are read, or a read failed.
+enum Reading {
+    More(usize),
+    Done(usize),
     Failed,
 }
 
-// Reads until the list is full or the input ends.
-fn read(input: &mut [u8]) -> Input
-    ensures { λ r. ⌜ Within (length (now (input .exit))) r ⌝ }
+// After `count` of `size` bytes a read answered `got`: done at the end of the input, or where the room is full.
+fn after(count: usize, got: isize, size: usize) -> Reading
+    requires room { ⌜ count ≤ size ⌝ }
+    requires moved { ⌜ Moved (size - count) got ⌝ }
+    ensures { λ r. ⌜ r ≡ readAfter count got size ⌝ }
 {
-    let mut count: usize = 0;
-    while count < input.len() {
-        let got = libc::read(STDIN_FILENO, &mut input[count..]);
-        if got < 0 {
-            return Input::Failed;
-        }
-        let more = io::count(got, &input[count..]);
-        if more == 0 {
-            return Input::Bytes(count);
-        }
-        count += more;
+    if got < 0 {
+        return Reading::Failed;
     }
-    Input::Bytes(count)
+    let more = got as usize;
+    if more == 0 {
+        return Reading::Done(count);
+    }
+    if more < size - count {
+        return Reading::More(count + more);
+    }
+    Reading::Done(size)
 }
 
-// What is printed of the bytes that were read. The list has room for the limit and one byte more.
-fn answer(input: &[u8], count: usize) -> Text
-    requires size { ⌜ length (now input) ≡ 65537 ⌝ }
-    requires within { ⌜ count ≤ length (now input) ⌝ }
-    ensures text { λ r. ⌜ take (r .length) (r .bytes) ≡ linesOf (inputVerdict (take count (now (input .entry)))) ⌝ }
+// Reads until the list is full or the input ends.
+fn read(input: &mut [u8]) -> Reading
+    ensures { λ r. ⌜ Over (length (now (input .exit))) r ⌝ }
+{
+    let mut count: usize = 0;
+    loop {
+        let got = libc::read(STDIN_FILENO, &mut input[count..]);
+        let reading = after(count, got, input.len());
+        let Reading::More(next) = reading else {
+            return reading;
+        };
+        count = next;
+    }
+}
+
+// What is printed. The list has room for the limit and one byte more.
+fn answer(input: &[u8], reading: Reading) -> Text
+    requires size { ⌜ length (now input) ≡ inputLimit + 1 ⌝ }
+    requires over { ⌜ Over (length (now input)) reading ⌝ }
+    ensures text { λ r. ⌜ take (r .length) (r .bytes) ≡ printed reading (now (input .entry)) ⌝ }
     ensures fits { λ r. ⌜ (r .length ≤ length (r .bytes)) × (r .length ≡ length (take (r .length) (r .bytes))) ⌝ }
 {
+    let Reading::Done(count) = reading else {
+        return Text {
+            bytes: [0; 128],
+            length: 0,
+        };
+    };
     report::lines(reader::judge_input(&input[..count]))
 }
 
 // The one place that prints. The input is handed over so that the contract can say which lines these are.
-fn print(lines: &[u8], input: &[u8], count: usize)
-    requires { ⌜ now lines ≡ linesOf (inputVerdict (take count (now input))) ⌝ }
+fn print(lines: &[u8], input: &[u8], reading: Reading)
+    requires { ⌜ now lines ≡ printed reading (now input) ⌝ }
 {
     io::write_all(STDOUT_FILENO, lines);
 }
 
 fn main() {
     let mut input = [0u8; 65537];
-    let given = read(&mut input);
-    match given {
-        Input::Bytes(count) => {
-            let text = answer(&input, count);
-            let bytes = text.bytes;
-            let length = text.length;
-            print(&bytes[..length], &input, count);
-        }
-        Input::Failed => {}
-    }
+    let reading = read(&mut input);
+    let text = answer(&input, reading);
+    let bytes = text.bytes;
+    let length = text.length;
+    print(&bytes[..length], &input, reading);
 }

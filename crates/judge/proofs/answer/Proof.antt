@@ -1,15 +1,54 @@
 -- `judge::answer` meets its contract: the verdict is that on the bytes read, and the text has its lines.
 -- Assumes nothing.
-use mathlib.Core.Path.{ap, _∙_}
+use mathlib.Core.Path.{_≡_, refl, sym, ap, subst, _∙_}
+use mathlib.Core.Logic.{⊎-elim}
+use mathlib.Core.List.{List, [], _∷_}
+use Prim.Native.Nat.{ℕ, _≤_}
 use native.Mathlib.Omega.{arith}
-use lib.ListN.{length-take}
+use lib.ListN.{length, take, length-take}
+use types.Run.{OneOf}
+use denote.Enum.Declared.{tagOf}
 use borrow.Author.Needs.{needs}
+use Rattle.transcript.specs.Judge.{inputVerdict}
 use Rattle.line_text.specs.Lines.{linesOf}
+use Rattle.judge.specs.declared.Reading.{Reading}
+use Rattle.judge.specs.declared.Reading.the-variants.{More, Done, Failed}
+use Rattle.judge.specs.Reading.{Over, printed}
+use Rattle.judge.proofs.Reading.{the-type}
 use Rattle.judge.proofs.answer.Statement.{statement}
 use Rattle.judge.proofs.answer.Tie as tie
 
+-- the variant is not the second
+nothing : (reading : Reading) (input : List ℕ) → OneOf (0 ∷ 2 ∷ []) (tagOf the-type reading)
+    → [] ≡ printed reading input
+nothing (More count) input keys = refl
+nothing (Done count) input keys = absurd (⊎-elim (λ e. omega arith) (λ e. omega arith) keys)
+nothing Failed input keys = refl
+
+enum-known-reading : tie.Need-enum-known-reading
+enum-known-reading c = search needs
+
+returns : tie.Need-returns
+returns c = (
+  nothing (c .before .before .args .reading) (c .before .before .args .input .now) (c .match .keys2),
+  (search needs, refl),
+)
+
+-- the bytes that were read lie in the list
+within : (c : tie.After-reading) → c .reading .given .0 .0 ≤ length (c .before .before .before .args .input .now)
+within c =
+    subst (Over (length (c .before .before .before .args .input .now))) (c .reading .given .1)
+    (c .before .before .before .pre .1)
+
+as-printed : (c : tie.After-reading)
+    → linesOf (inputVerdict (take (c .reading .given .0 .0) (c .before .before .before .args .input .now)))
+    ≡ printed (c .before .before .before .args .reading) (c .before .before .before .args .input .now)
+as-printed c =
+    ap (λ (reading : Reading). printed reading (c .before .before .before .args .input .now))
+    (sym (c .reading .given .1))
+
 slice-aggregate-judge-input : tie.Need-slice-aggregate-judge-input
-slice-aggregate-judge-input c = simp length-take (omega arith)
+slice-aggregate-judge-input c = let inside = within (c .before .before) in simp length-take (omega arith)
 
 judge-input-requires : tie.Need-judge-input-requires
 judge-input-requires c κs = search needs
@@ -17,12 +56,19 @@ judge-input-requires c κs = search needs
 lines-requires : tie.Need-lines-requires
 lines-requires c κs = search needs
 
-returns : tie.Need-returns
-returns c = (
-  c .lines .ensures .0 ∙ ap linesOf (c .before .judge-input .ensures),
+returns-2 : tie.Need-returns-2
+returns-2 c = (
+  c .lines .ensures .0 ∙ ap linesOf (c .before .judge-input .ensures) ∙ as-printed (c .before .before .before .before),
   (c .lines .ensures .1 .1 .1, c .lines .ensures .1 .1 .2),
 )
 
 pub answer-spec : {M : Type 1} → statement M
 answer-spec =
-    tie.close (tie.spec slice-aggregate-judge-input judge-input-requires lines-requires returns)
+    tie.close
+    (tie.spec
+    enum-known-reading
+    returns
+    slice-aggregate-judge-input
+    judge-input-requires
+    lines-requires
+    returns-2)

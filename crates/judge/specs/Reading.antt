@@ -1,0 +1,30 @@
+-- How far reading the input has come, and what is printed of it. Assumes nothing.
+use mathlib.Core.Bool.{cond}
+use mathlib.Core.List.{List, []}
+use Prim.Native.Nat.{ℕ, zero, suc, _+_, _≤_}
+use lib.Dec.{ltb}
+use lib.IntN.{ℤ, pos, negsuc}
+use lib.ListN.{take}
+use Rattle.transcript.specs.Judge.{inputVerdict}
+use Rattle.line_text.specs.Lines.{linesOf}
+use Rattle.judge.specs.declared.Reading.{Reading}
+use Rattle.judge.specs.declared.Reading.the-variants.{More, Done, Failed}
+
+-- after count of size bytes a read answered this number: one below 0 is a failure, 0 is the end of the input,
+-- and at size there is no more room
+abbrev pub readAfter : (count : ℕ) (got : ℤ) (size : ℕ) → Reading
+readAfter count (negsuc _) size = Failed
+readAfter count (pos zero) size = Done count
+readAfter count (pos (suc n)) size = cond (ltb (count + suc n) size) (More (count + suc n)) (Done size)
+
+-- reading is over: it failed, or no more bytes were read than there is room for
+abbrev pub Over : (size : ℕ) (reading : Reading) → Type 0
+Over size (More count) = ⊥
+Over size (Done count) = count ≤ size
+Over size Failed = Unit {0}
+
+-- what is printed: the lines of the verdict on the bytes that were read, or nothing
+abbrev pub printed : (reading : Reading) (input : List ℕ) → List ℕ
+printed (More count) input = []
+printed (Done count) input = linesOf (inputVerdict (take count input))
+printed Failed input = []
