@@ -68,7 +68,8 @@ module _ (run : Run) where
     coset-basis = ap basisOf is ∙ basisOf-coset (offsetIn run i) (basisIn run i)
 
     pub coset-next : i < roundsIn run
-        → layerCosetOf (nextOffset (run .step) (coset .offset .0) (basisOf coset)) (nextBasis (run .step) (basisOf coset))
+        → layerCosetOf (nextOffset (run .step) (coset .offset .0) (basisOf coset))
+        (nextBasis (run .step) (basisOf coset))
         ≡ cosetIn run (suc i)
     coset-next h =
         ap₂ (λ (o : ℕ) (l : List ℕ). layerCosetOf (nextOffset (run .step) o l) (nextBasis (run .step) l))

@@ -37,7 +37,8 @@ module _ (p : Parameters) (offset : ℕ) (basis : List ℕ) (i : ℕ) (h : i < l
 -- a coset by value that has layer i's basis is followed by one that has the next layer's
 pub coset-next : (p : Parameters) (basis : List ℕ) (i : ℕ) (coset next : LayerCoset) → i < length (stepsBy p)
     → coset ≡ layerCosetOf (coset .offset .0) (layerBasis (stepsBy p) basis i)
-    → next ≡ layerCosetOf (nextOffset (p .step) (coset .offset .0) (basisOf coset)) (nextBasis (p .step) (basisOf coset))
+    → next
+    ≡ layerCosetOf (nextOffset (p .step) (coset .offset .0) (basisOf coset)) (nextBasis (p .step) (basisOf coset))
     → next ≡ layerCosetOf (next .offset .0) (layerBasis (stepsBy p) basis (suc i))
 coset-next p basis i coset next h e n =
     whole ∙ ap (λ (o : ℕ). layerCosetOf o (layerBasis (stepsBy p) basis (suc i)))

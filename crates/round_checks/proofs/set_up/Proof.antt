@@ -83,7 +83,8 @@ loop-holds c =
       held = λ i h. absurd (omega arith);
       coset-is =
           c .first .ensures
-          ∙ ap₂ (λ (o : ℕ) (l : List ℕ). layerCosetOf o l) (sym (ap (λ (r : LayerCoset). r .offset .0) (c .first .ensures)))
+          ∙ ap₂ (λ (o : ℕ) (l : List ℕ). layerCosetOf o l)
+          (sym (ap (λ (r : LayerCoset). r .offset .0) (c .first .ensures)))
           (basis-first (stepsBy p) (start .args .basis .now));
       start-is = start-of-word (p .k) (stepsBy p);
     }

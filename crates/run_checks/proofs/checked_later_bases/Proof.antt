@@ -25,7 +25,8 @@ use Rattle.run_checks.proofs.checked_later_bases.Tie as tie
 abbrev Inv-loop : tie.InvT-loop
 Inv-loop parameters basis rounds coset₀ round₀ coset round =
     let steps = stepsBy parameters in
-    (rounds ≡ length steps) × (round ≤ rounds) × (coset ≡ layerCosetOf (coset .offset .0) (layerBasis steps basis round))
+    (rounds ≡ length steps) × (round ≤ rounds)
+    × (coset ≡ layerCosetOf (coset .offset .0) (layerBasis steps basis round))
     × (laterBasesOutcome steps basis round (rounds - round) ≡ laterBasesOutcome steps basis 0 (length steps))
 
 abbrev μ-loop : tie.MeasureT-loop
