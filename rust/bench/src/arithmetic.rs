@@ -68,10 +68,7 @@ pub fn with_hardware<M: Method>(_: M) -> Option<M::Result> {
 
 /// The sides to time, the library's first; that of the hardware is left off where there is none.
 pub fn sides<F>(library: F, window: F, hardware: F) -> Vec<(&'static str, F)> {
-    let mut sides = vec![
-        ("the library", library),
-        ("the same method in Rust", window),
-    ];
+    let mut sides = vec![("the library", library), ("the same method in Rust", window)];
     if field::hardware().is_some() {
         sides.push(("carry-less multiply hardware in Rust", hardware));
     }

@@ -16,15 +16,7 @@ pub fn report() {
     println!(
         "\nencoding and interpolation of {SIZE} entries, wanted at most 1.30 of the same method:"
     );
-    compare(
-        "encoding",
-        SIZE * SIZE,
-        by_library_encode,
-        encode,
-        offset,
-        &basis,
-        &list,
-    );
+    compare("encoding", SIZE * SIZE, by_library_encode, encode, offset, &basis, &list);
     compare(
         "interpolation",
         SIZE * SIZE * 3 / 2,
@@ -49,15 +41,8 @@ fn compare(
         work("the library", library, offset, basis, list),
         work("the same method in Rust", rust, offset, basis, list),
     ];
-    assert_eq!(
-        (works[0].run)(),
-        (works[1].run)(),
-        "{title}: the two differ"
-    );
-    println!(
-        "  {title}, about {} million products:",
-        products / 1_000_000
-    );
+    assert_eq!((works[0].run)(), (works[1].run)(), "{title}: the two differ");
+    println!("  {title}, about {} million products:", products / 1_000_000);
     table(&mut works, TURNS, "ms", 1e6);
 }
 

@@ -7,9 +7,7 @@ use crate::arithmetic::Arithmetic;
 pub fn numbers() -> impl FnMut() -> u64 {
     let mut x: u64 = 0x9e37_79b9_7f4a_7c15;
     move || {
-        x = x
-            .wrapping_mul(0x5851_f42d_4c95_7f2d)
-            .wrapping_add(0x1405_7b7e_f767_814f);
+        x = x.wrapping_mul(0x5851_f42d_4c95_7f2d).wrapping_add(0x1405_7b7e_f767_814f);
         x ^ x >> 29
     }
 }
@@ -23,16 +21,12 @@ pub fn inputs(dimension: usize, mut next: impl FnMut() -> u64) -> (u64, Vec<u64>
 
 /// An independent basis: its lowest bits keep it so.
 pub fn independent(dimension: usize, mut next: impl FnMut() -> u64) -> Vec<u64> {
-    (0..dimension)
-        .map(|t| next() << dimension | 1 << t)
-        .collect()
+    (0..dimension).map(|t| next() << dimension | 1 << t).collect()
 }
 
 pub fn point(arithmetic: impl Arithmetic, offset: u64, basis: &[u64], j: usize) -> u64 {
     let set = |t: &usize| j >> t & 1 == 1;
-    (0..basis.len())
-        .filter(set)
-        .fold(offset, |x, t| arithmetic.sum(x, basis[t]))
+    (0..basis.len()).filter(set).fold(offset, |x, t| arithmetic.sum(x, basis[t]))
 }
 
 /// The sums of the first one, two, .. elements, and zeros: `stepped` goes from point to point by them.
@@ -109,11 +103,7 @@ impl LayerCoset {
     pub fn first(offset: u64, basis: &[u64]) -> LayerCoset {
         let mut elements = [0; 20];
         elements[..basis.len()].copy_from_slice(basis);
-        LayerCoset {
-            offset,
-            elements,
-            dimension: basis.len(),
-        }
+        LayerCoset { offset, elements, dimension: basis.len() }
     }
 
     pub fn basis(&self) -> &[u64] {

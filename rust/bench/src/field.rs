@@ -20,10 +20,7 @@ pub fn report() {
         least(&mut [work("squaring", razgwilh::product, squarings)], TURNS)[0] / CALLS as f64;
     let inverse = least(&mut [inverse_work()], TURNS)[0] / INVERSES as f64;
     println!("\ninverse, wanted at most 80 products:");
-    println!(
-        "  {inverse:.0} ns, as long as {:.1} squarings in a row",
-        inverse / squaring
-    );
+    println!("  {inverse:.0} ns, as long as {:.1} squarings in a row", inverse / squaring);
 }
 
 /// The library's time over each method's time, with the calls arranged by `calls`.
@@ -34,11 +31,7 @@ fn compare(title: &str, calls: fn(Product) -> u64) {
         work("the same method in Rust", windowed, calls),
     ];
     if let Some(hardware) = hardware() {
-        works.push(work(
-            "carry-less multiply hardware in Rust",
-            hardware,
-            calls,
-        ));
+        works.push(work("carry-less multiply hardware in Rust", hardware, calls));
     }
     println!("  {title}:");
     // One nanosecond for each of the calls, so that the times are those of one.
@@ -46,19 +39,14 @@ fn compare(title: &str, calls: fn(Product) -> u64) {
 }
 
 fn work(name: &'static str, product: Product, calls: fn(Product) -> u64) -> Work<'static> {
-    Work {
-        name,
-        run: Box::new(move || calls(product)),
-    }
+    Work { name, run: Box::new(move || calls(product)) }
 }
 
 fn independent(product: Product) -> u64 {
     let mut x: u64 = black_box(0x9e37_79b9_7f4a_7c15);
     let mut sum = 0;
     for _ in 0..CALLS {
-        x = x
-            .wrapping_mul(0x5851_f42d_4c95_7f2d)
-            .wrapping_add(0x1405_7b7e_f767_814f);
+        x = x.wrapping_mul(0x5851_f42d_4c95_7f2d).wrapping_add(0x1405_7b7e_f767_814f);
         sum ^= product(x, x.rotate_left(17));
     }
     sum
@@ -66,9 +54,7 @@ fn independent(product: Product) -> u64 {
 
 fn chain(product: Product) -> u64 {
     let factor = black_box(0x9e37_79b9_7f4a_7c15);
-    (0..CALLS as u64).fold(black_box(0x0123_4567_89ab_cdef), |x, i| {
-        product(x ^ i, factor)
-    })
+    (0..CALLS as u64).fold(black_box(0x0123_4567_89ab_cdef), |x, i| product(x ^ i, factor))
 }
 
 fn squarings(product: Product) -> u64 {
@@ -79,9 +65,8 @@ fn inverse_work() -> Work<'static> {
     Work {
         name: "inverse",
         run: Box::new(|| {
-            (1..=INVERSES as u64).fold(black_box(2), |x, i| {
-                razgwilh::inverse(x ^ i << 32).value.unwrap_or(1)
-            })
+            (1..=INVERSES as u64)
+                .fold(black_box(2), |x, i| razgwilh::inverse(x ^ i << 32).value.unwrap_or(1))
         }),
     }
 }
@@ -107,10 +92,7 @@ pub fn windowed(a: u64, b: u64) -> u64 {
     let (low, high) = (window(a & 0xffff_ffff), window(a >> 32));
     let (x, y) = (b >> 32, b & 0xffff_ffff);
     let middle = mixed32(&low, &high, x, y);
-    reduced(
-        times32(&high, x) ^ middle >> 32,
-        times32(&low, y) ^ middle << 32,
-    )
+    reduced(times32(&high, x) ^ middle >> 32, times32(&low, y) ^ middle << 32)
 }
 
 type Table = [u64; 16];
@@ -120,11 +102,7 @@ fn window(a: u64) -> Table {
     let mut t = [0; 16];
     let mut n = 1;
     while n < 16 {
-        t[n] = if n % 2 == 1 {
-            (t[n / 2] << 1) ^ a
-        } else {
-            t[n / 2] << 1
-        };
+        t[n] = if n % 2 == 1 { (t[n / 2] << 1) ^ a } else { t[n / 2] << 1 };
         n += 1;
     }
     t

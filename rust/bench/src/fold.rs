@@ -20,14 +20,7 @@ pub fn report() {
     let challenge = next();
     println!("\nfold of {SIZE} entries, wanted at most 1.30 of the same method:");
     for step in 1..=3 {
-        compare(Fold {
-            k: DIMENSION,
-            step,
-            offset,
-            basis: &basis,
-            word: &word,
-            challenge,
-        });
+        compare(Fold { k: DIMENSION, step, offset, basis: &basis, word: &word, challenge });
     }
 }
 
@@ -41,10 +34,8 @@ fn compare(given: Fold) {
         given.step,
         products as f64 / size as f64
     );
-    let mut works: Vec<Work> = sides
-        .iter()
-        .map(|(name, operation)| work(name, *operation, given))
-        .collect();
+    let mut works: Vec<Work> =
+        sides.iter().map(|(name, operation)| work(name, *operation, given)).collect();
     table(&mut works, TURNS, "ms", 1e6);
 }
 
@@ -65,10 +56,7 @@ fn check(given: Fold, sides: &[(&str, Operation)]) {
 /// The room is made once, so that each turn but the first finds its memory in place.
 fn work<'a>(name: &'a str, operation: Operation, given: Fold<'a>) -> Work<'a> {
     let (mut values, mut next_basis) = room(given);
-    Work {
-        name,
-        run: Box::new(move || operation(black_box(given), &mut values, &mut next_basis)),
-    }
+    Work { name, run: Box::new(move || operation(black_box(given), &mut values, &mut next_basis)) }
 }
 
 fn room(given: Fold) -> (Vec<u64>, Vec<u64>) {
@@ -82,21 +70,12 @@ fn by_library(given: Fold, values: &mut [u64], next_basis: &mut [u64]) -> u64 {
 }
 
 fn by_window(given: Fold, values: &mut [u64], next_basis: &mut [u64]) -> u64 {
-    Folding {
-        given,
-        values,
-        next_basis,
-    }
-    .by(Windowed)
+    Folding { given, values, next_basis }.by(Windowed)
 }
 
 fn by_hardware(given: Fold, values: &mut [u64], next_basis: &mut [u64]) -> u64 {
-    with_hardware(Folding {
-        given,
-        values,
-        next_basis,
-    })
-    .expect("timed only where there is such hardware")
+    with_hardware(Folding { given, values, next_basis })
+        .expect("timed only where there is such hardware")
 }
 
 struct Folding<'a> {
@@ -183,11 +162,7 @@ impl Coset {
             points[i] = arithmetic.sum(first, span[i]);
             entries[i] = part[i];
         }
-        Coset {
-            points,
-            entries,
-            count: span.len(),
-        }
+        Coset { points, entries, count: span.len() }
     }
 
     /// The value at the challenge of the polynomial with these entries at these points. The points are moved
@@ -220,11 +195,7 @@ impl Coset {
             points[i] = arithmetic.product(self.points[i * 2], self.points[i * 2 + 1]);
             entries[i] = self.line(arithmetic, i, inverse);
         }
-        Coset {
-            points,
-            entries,
-            count: half,
-        }
+        Coset { points, entries, count: half }
     }
 
     /// The value at the challenge, or its image, of the line through points 2 i and 2 i + 1.

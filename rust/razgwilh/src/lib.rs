@@ -190,23 +190,14 @@ impl Answer {
     /// may be any element, 2^64 - 1 among them, so that `number` decides and not the value itself.
     fn with_value(numbers: [u64; ANSWER_LENGTH]) -> Answer {
         let [number, .., value] = numbers;
-        Answer {
-            value: (number == 0).then_some(value),
-            ..Answer::without_value(numbers)
-        }
+        Answer { value: (number == 0).then_some(value), ..Answer::without_value(numbers) }
     }
 
     /// Reads the five numbers of an operation that gives no element. Its value, where it has one, is a
     /// degree, and so another number than `NONE`, whatever `number` is.
     fn without_value(numbers: [u64; ANSWER_LENGTH]) -> Answer {
         let [number, place, round, reads, value] = numbers;
-        Answer {
-            number,
-            place: given(place),
-            round: given(round),
-            reads,
-            value: given(value),
-        }
+        Answer { number, place: given(place), round: given(round), reads, value: given(value) }
     }
 }
 
@@ -419,16 +410,7 @@ pub fn layer(k: usize, rate: usize, step: usize, store: &[u64], i: usize) -> &[u
 pub fn layer_into(k: usize, rate: usize, step: usize, store: &[u64], i: usize, answer: &mut [u64]) {
     // SAFETY: each pointer and length are those of one slice, and the exclusive one overlaps no other.
     unsafe {
-        rz_layer(
-            k,
-            rate,
-            step,
-            store.as_ptr(),
-            store.len(),
-            i,
-            answer.as_mut_ptr(),
-            answer.len(),
-        )
+        rz_layer(k, rate, step, store.as_ptr(), store.len(), i, answer.as_mut_ptr(), answer.len())
     }
 }
 
@@ -478,12 +460,5 @@ pub fn judge_transcript(bytes: &[u8]) -> Answer {
 /// The same by the C convention: where `answer` has another length than 5, nothing is written or done.
 pub fn judge_transcript_into(bytes: &[u8], answer: &mut [u64]) {
     // SAFETY: each pointer and length are those of one slice, and the exclusive one overlaps no other.
-    unsafe {
-        rz_judge_transcript(
-            bytes.as_ptr(),
-            bytes.len(),
-            answer.as_mut_ptr(),
-            answer.len(),
-        )
-    }
+    unsafe { rz_judge_transcript(bytes.as_ptr(), bytes.len(), answer.as_mut_ptr(), answer.len()) }
 }

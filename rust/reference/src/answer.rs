@@ -1,6 +1,6 @@
 //! What an operation answers, as the reference expects it.
 
-use razgwilh::Answer;
+pub use razgwilh::Answer;
 
 /// What the C interface writes for a place, round or value there is none of.
 pub const NONE: u64 = u64::MAX;
@@ -59,24 +59,12 @@ pub const ANSWER_LENGTH: usize = 5;
 
 /// The answer of an operation that went well and gives one value.
 pub fn went_well(value: u64) -> Answer {
-    Answer {
-        number: 0,
-        place: None,
-        round: None,
-        reads: 0,
-        value: Some(value),
-    }
+    Answer { number: 0, place: None, round: None, reads: 0, value: Some(value) }
 }
 
 /// The answer of an operation that went well and gives no element.
 pub fn done() -> Answer {
-    Answer {
-        number: 0,
-        place: None,
-        round: None,
-        reads: 0,
-        value: None,
-    }
+    Answer { number: 0, place: None, round: None, reads: 0, value: None }
 }
 
 /// The answer of a judge that accepts.
@@ -86,40 +74,23 @@ pub fn accepted(reads: u64) -> Answer {
 
 /// The answer that carries nothing but the number of its cause.
 pub fn refused(number: u64) -> Answer {
-    Answer {
-        number,
-        place: None,
-        round: None,
-        reads: 0,
-        value: None,
-    }
+    Answer { number, place: None, round: None, reads: 0, value: None }
 }
 
 /// The answer that carries the number of its cause and a place: a section, a
 /// list, the place of a basis element, a query or a degree.
 pub fn refused_at(number: u64, place: u64) -> Answer {
-    Answer {
-        place: Some(place),
-        ..refused(number)
-    }
+    Answer { place: Some(place), ..refused(number) }
 }
 
 /// The answer that carries the number of its cause and a round.
 pub fn refused_in_round(number: u64, round: u64) -> Answer {
-    Answer {
-        round: Some(round),
-        ..refused(number)
-    }
+    Answer { round: Some(round), ..refused(number) }
 }
 
 /// The answer of a judge that a round check fails for.
 pub fn failed(query: u64, round: u64, reads: u64) -> Answer {
-    Answer {
-        place: Some(query),
-        round: Some(round),
-        reads,
-        ..refused(ROUND_CHECK_FAILS)
-    }
+    Answer { place: Some(query), round: Some(round), reads, ..refused(ROUND_CHECK_FAILS) }
 }
 
 /// The five numbers that the C interface writes for an answer.

@@ -10,11 +10,7 @@ use crate::protocol::{cosets, Run};
 fn plain(challenges: &[u64], word: &[u64], store: &[u64], last: &[u64]) -> Run {
     let k = word.len().trailing_zeros() as u64;
     Run {
-        parameters: Parameters {
-            k,
-            rate: 1,
-            step: 1,
-        },
+        parameters: Parameters { k, rate: 1, step: 1 },
         offset: 0,
         basis: (0..k).map(|place| 1 << place).collect(),
         challenges: challenges.to_vec(),
@@ -55,10 +51,7 @@ pub fn of_case_l() -> Run {
 
 /// The paper has the basis alone.
 pub fn of_case_m() -> Run {
-    Run {
-        basis: vec![1, 2, 3],
-        ..of_case_k()
-    }
+    Run { basis: vec![1, 2, 3], ..of_case_k() }
 }
 
 // Cases O and P.
@@ -85,19 +78,11 @@ pub fn stretched(parameters: Parameters, last: &[u64]) -> Run {
         let folded = (r - i) * parameters.step;
         entries.map(|entry| values[entry >> folded]).collect()
     };
-    Run {
-        word: layer(0),
-        store: (1..r).flat_map(layer).collect(),
-        ..run
-    }
+    Run { word: layer(0), store: (1..r).flat_map(layer).collect(), ..run }
 }
 
 /// With step 1 a first-layer coset of these has two entries.
-pub const PARAMETERS_OF_CASE_P: Parameters = Parameters {
-    k: 9,
-    rate: 4,
-    step: 1,
-};
+pub const PARAMETERS_OF_CASE_P: Parameters = Parameters { k: 9, rate: 4, step: 1 };
 
 /// One query in each of the 256 first-layer cosets.
 pub fn queries_of_case_p() -> Vec<u64> {

@@ -15,7 +15,7 @@ mod lists;
 #[cfg(test)]
 mod wrong;
 
-use razgwilh::Answer;
+use crate::answer::Answer;
 use std::thread;
 
 /// Something that a report can show; numbers are shown in hexadecimal.
@@ -145,11 +145,7 @@ fn comparison<I: Input, A: Show + PartialEq>(
             answers: [first(&input).show(), second(&input).show()],
         }
     });
-    Comparison {
-        name,
-        inputs: compared,
-        difference,
-    }
+    Comparison { name, inputs: compared, difference }
 }
 
 /// Goes to a simpler input for as long as one differs as well. It ends because
@@ -185,10 +181,7 @@ pub fn report(comparisons: &[Comparison], tables: &str) -> Report {
     if agrees {
         text += &format!("reference: {all} comparisons agree\n");
     } else {
-        text += &format!(
-            "reference: {} of {all} comparisons do not agree\n",
-            all - agreeing
-        );
+        text += &format!("reference: {} of {all} comparisons do not agree\n", all - agreeing);
     }
     Report { text, agrees }
 }
@@ -199,12 +192,8 @@ fn lines(comparison: &Comparison) -> String {
     let Some(difference) = &comparison.difference else {
         return format!("{name}: {inputs} inputs\n");
     };
-    let Difference {
-        inputs: differing,
-        smallest,
-        sides: [first, second],
-        answers: [one, other],
-    } = difference;
+    let Difference { inputs: differing, smallest, sides: [first, second], answers: [one, other] } =
+        difference;
     format!(
         "{name}: {inputs} inputs, {differing} of them DIFFER\n  \
          smallest input: {smallest}\n  {first}: {one}\n  {second}: {other}\n"
@@ -324,10 +313,7 @@ mod tests {
         assert!(comparison.agrees());
         let report = report(&[comparison], "a table\n");
         assert!(report.agrees);
-        assert_eq!(
-            report.text,
-            "test: 3 inputs\na table\nreference: 1 comparisons agree\n"
-        );
+        assert_eq!(report.text, "test: 3 inputs\na table\nreference: 1 comparisons agree\n");
     }
 
     #[test]
@@ -356,13 +342,7 @@ mod tests {
     fn the_smallest_of_the_inputs_is_taken() {
         // Without anything simpler the inputs themselves are all there is.
         let inputs = [0xff, 0x300, 0x60, 0x7].map(Fixed);
-        let comparison = compare(
-            "test",
-            inputs,
-            REFERENCE_AND_LIBRARY,
-            |Fixed(a)| *a,
-            |_| 1u64,
-        );
+        let comparison = compare("test", inputs, REFERENCE_AND_LIBRARY, |Fixed(a)| *a, |_| 1u64);
         assert_eq!(comparison.difference.unwrap().smallest, "60");
     }
 

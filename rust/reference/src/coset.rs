@@ -4,9 +4,7 @@ use crate::field;
 
 /// All points of a coset, in point order.
 pub fn points(offset: u64, basis: &[u64]) -> Vec<u64> {
-    (0..1 << basis.len())
-        .map(|j| point(offset, basis, j))
-        .collect()
+    (0..1 << basis.len()).map(|j| point(offset, basis, j)).collect()
 }
 
 /// The offset plus the basis elements whose bit is set in the index.

@@ -6,6 +6,7 @@
 //! points of one coset lie as those of another do: the less a method resembles
 //! the library's the more an agreement says.
 
+use crate::answer::Answer;
 use crate::answer::{
     refused, refused_in_round, DEPENDENT_LATER_BASIS, K_OUT_OF_RANGE, K_TOO_SMALL,
     STEP_OUT_OF_RANGE,
@@ -16,7 +17,7 @@ use crate::refusal::{
     independent, right_length, LIST_OF_THE_BASIS, LIST_OF_THE_GIVEN, LIST_OF_THE_NEXT_BASIS,
     LIST_OF_THE_OUTPUT,
 };
-use razgwilh::{Answer, Fold};
+use razgwilh::Fold;
 use std::ops::RangeInclusive;
 
 /// The dimensions that are folded.
@@ -174,54 +175,30 @@ mod tests {
 
     /// Every dimension up to 6, each with the steps that it takes.
     fn small() -> impl Iterator<Item = (usize, usize)> {
-        let with_steps = |k| {
-            STEPS
-                .filter(move |step| *step <= k)
-                .map(move |step| (k, step))
-        };
+        let with_steps = |k| STEPS.filter(move |step| *step <= k).map(move |step| (k, step));
         (2..=6).flat_map(with_steps)
     }
 
     // Table A.
 
-    const ABOVE_1_AND_2: Fold = Fold {
-        k: 2,
-        step: 1,
-        offset: 0,
-        basis: &[1, 2],
-        word: &[],
-        challenge: 0,
-    };
+    const ABOVE_1_AND_2: Fold =
+        Fold { k: 2, step: 1, offset: 0, basis: &[1, 2], word: &[], challenge: 0 };
 
     #[test]
     fn case_d() {
-        let given = Fold {
-            offset: 8,
-            word: &[5; 4],
-            ..ABOVE_1_AND_2
-        };
+        let given = Fold { offset: 8, word: &[5; 4], ..ABOVE_1_AND_2 };
         assert_eq!(fold_of(given), folded(&[5, 5], 0x48, &[6]));
     }
 
     #[test]
     fn case_f() {
-        let given = Fold {
-            word: &[7, 4, 1, 2],
-            challenge: 4,
-            ..ABOVE_1_AND_2
-        };
+        let given = Fold { word: &[7, 4, 1, 2], challenge: 4, ..ABOVE_1_AND_2 };
         assert_eq!(fold_of(given), folded(&[0xb, 0xb], 0, &[6]));
     }
 
     #[test]
     fn case_j() {
-        let at = |challenge| {
-            fold_of(Fold {
-                word: &[0, 0, 0, 1],
-                challenge,
-                ..ABOVE_1_AND_2
-            })
-        };
+        let at = |challenge| fold_of(Fold { word: &[0, 0, 0, 1], challenge, ..ABOVE_1_AND_2 });
         assert_eq!(at(2), folded(&[0, 0], 0, &[6]));
         assert_eq!(at(4), folded(&[0, 6], 0, &[6]));
         // The interpolant of the second coset is X - 2.
@@ -242,25 +219,14 @@ mod tests {
         };
         let layer_1 = [2, 4, 0x16, 0x10];
         assert_eq!(fold_of(word), folded(&layer_1, 0, &[6, 0x14]));
-        let layer_1 = Fold {
-            k: 2,
-            step: 1,
-            offset: 0,
-            basis: &[6, 0x14],
-            word: &layer_1,
-            challenge: 3,
-        };
+        let layer_1 =
+            Fold { k: 2, step: 1, offset: 0, basis: &[6, 0x14], word: &layer_1, challenge: 3 };
         assert_eq!(fold_of(layer_1), folded(&[1, 1], 0, &[0x168]));
     }
 
     #[test]
     fn case_m() {
-        let given = Fold {
-            k: 3,
-            basis: &[1, 2, 3],
-            word: &[0; 8],
-            ..ABOVE_1_AND_2
-        };
+        let given = Fold { k: 3, basis: &[1, 2, 3], word: &[0; 8], ..ABOVE_1_AND_2 };
         assert_eq!(fold_of(given), Err(refused_at(8, 2)));
     }
 
@@ -408,33 +374,17 @@ mod tests {
 
     #[test]
     fn the_first_cause_is_given() {
-        let given = Fold {
-            k: 3,
-            step: 4,
-            basis: &[0; 4],
-            word: &[0; 9],
-            ..ABOVE_1_AND_2
-        };
+        let given = Fold { k: 3, step: 4, basis: &[0; 4], word: &[0; 9], ..ABOVE_1_AND_2 };
         let out_of_range = Fold { k: 1, ..given };
         assert_eq!(may_fold(out_of_range, 0, 0), Err(refused(4)));
         assert_eq!(may_fold(given, 0, 0), Err(refused(6)));
-        let below = Fold {
-            k: 2,
-            step: 3,
-            ..given
-        };
+        let below = Fold { k: 2, step: 3, ..given };
         assert_eq!(may_fold(below, 0, 0), Err(refused(7)));
         let lists = Fold { step: 1, ..given };
         assert_eq!(may_fold(lists, 0, 0), Err(refused_at(13, 1)));
-        let lists = Fold {
-            basis: &[0; 3],
-            ..lists
-        };
+        let lists = Fold { basis: &[0; 3], ..lists };
         assert_eq!(may_fold(lists, 0, 0), Err(refused_at(13, 3)));
-        let lists = Fold {
-            word: &[0; 8],
-            ..lists
-        };
+        let lists = Fold { word: &[0; 8], ..lists };
         assert_eq!(may_fold(lists, 0, 0), Err(refused_at(13, 6)));
         assert_eq!(may_fold(lists, 4, 0), Err(refused_at(13, 7)));
         assert_eq!(may_fold(lists, 4, 2), Err(refused_at(8, 0)));

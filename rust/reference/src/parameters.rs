@@ -3,8 +3,8 @@
 //! All but `may_use` and `layer_of_store` stands for parameters that may be
 //! used.
 
+use crate::answer::Answer;
 use crate::answer::{refused, K_OUT_OF_RANGE, K_TOO_SMALL, RATE_OUT_OF_RANGE, STEP_OUT_OF_RANGE};
-use razgwilh::Answer;
 use std::ops::{Range, RangeInclusive};
 
 const DIMENSIONS: RangeInclusive<u64> = 2..=20;
@@ -148,11 +148,7 @@ mod tests {
 
     #[test]
     fn one_round_has_an_empty_store() {
-        for one in [
-            parameters(2, 1, 1),
-            parameters(4, 1, 3),
-            parameters(8, 6, 2),
-        ] {
+        for one in [parameters(2, 1, 1), parameters(4, 1, 3), parameters(8, 6, 2)] {
             assert_eq!((one.rounds(), one.store_length()), (1, 0));
             assert_eq!(one.layer_of_store(0, 0), None);
             assert_eq!(one.layer_of_store(0, 1), None);
@@ -269,10 +265,7 @@ mod tests {
         // Rate plus step is at most k.
         assert_eq!(all_up_to(2), [parameters(2, 1, 1)]);
         let counts = [3, 4, 5, 6].map(|k| all_up_to(k).len());
-        assert_eq!(
-            counts,
-            [1 + 3, 1 + 3 + 6, 1 + 3 + 6 + 9, 1 + 3 + 6 + 9 + 12]
-        );
+        assert_eq!(counts, [1 + 3, 1 + 3 + 6, 1 + 3 + 6 + 9, 1 + 3 + 6 + 9 + 12]);
         // From 9 on every rate goes with every step.
         assert_eq!(all_up_to(20).len() - all_up_to(8).len(), 12 * 18);
     }

@@ -4,6 +4,7 @@
 //! round after round as the paper tells them, and notes each coset that it meets.
 //! Reads are what it noted: the paper's formulas for them are tested, not used.
 
+use crate::answer::Answer;
 use crate::answer::{
     accepted, done, failed, refused, refused_at, DEGREE_TOO_HIGH, QUERY_OUT_OF_RANGE,
     WRONG_QUERY_COUNT,
@@ -16,7 +17,7 @@ use crate::refusal::{
     independent, right_length, LIST_OF_THE_BASIS, LIST_OF_THE_CHALLENGES, LIST_OF_THE_GIVEN,
     LIST_OF_THE_LAST, LIST_OF_THE_STORE,
 };
-use razgwilh::{Answer, Fold};
+use razgwilh::Fold;
 use std::collections::BTreeSet;
 use std::ops::RangeInclusive;
 
@@ -40,11 +41,7 @@ impl Run {
     /// The run with the honest store and the honest last coefficients in place
     /// of its own.
     pub fn made_honest(self) -> Run {
-        Run {
-            store: honest_store(&self),
-            last: honest_last(&self),
-            ..self
-        }
+        Run { store: honest_store(&self), last: honest_last(&self), ..self }
     }
 }
 
@@ -53,10 +50,7 @@ impl Run {
 
 /// The cosets of layers 0 to r.
 pub fn cosets(run: &Run) -> Vec<Coset> {
-    let first = Coset {
-        offset: run.offset,
-        basis: run.basis.clone(),
-    };
+    let first = Coset { offset: run.offset, basis: run.basis.clone() };
     cosets_from(run.parameters, &first)
 }
 
@@ -140,11 +134,7 @@ pub struct Proved {
 /// they were if the degree of layer r is too high, and both lists if there is any
 /// other cause.
 pub fn prove(run: &Run) -> Proved {
-    let mut proved = Proved {
-        answer: done(),
-        store: run.store.clone(),
-        last: run.last.clone(),
-    };
+    let mut proved = Proved { answer: done(), store: run.store.clone(), last: run.last.clone() };
     if let Err(refusal) = may_take(run) {
         proved.answer = refusal;
         return proved;
@@ -177,10 +167,7 @@ pub fn judge(run: &Run, queries: &[u64]) -> Answer {
 
 /// Checks all rounds of all queries, up to the first check that fails.
 fn verdict(run: &Run, queries: &[u64]) -> Answer {
-    let sent = Sent {
-        run,
-        cosets: cosets(run),
-    };
+    let sent = Sent { run, cosets: cosets(run) };
     let mut reads = 0;
     for (place, &query) in (0..).zip(queries) {
         let mut met = BTreeSet::new();
@@ -271,11 +258,7 @@ fn right_lengths(run: &Run) -> Result<(), Answer> {
     let parameters = run.parameters;
     let due = [
         (LIST_OF_THE_BASIS, &run.basis, parameters.k as usize),
-        (
-            LIST_OF_THE_CHALLENGES,
-            &run.challenges,
-            parameters.rounds() as usize,
-        ),
+        (LIST_OF_THE_CHALLENGES, &run.challenges, parameters.rounds() as usize),
         (LIST_OF_THE_GIVEN, &run.word, parameters.layer_length(0)),
         (LIST_OF_THE_STORE, &run.store, parameters.store_length()),
         (LIST_OF_THE_LAST, &run.last, parameters.last_count()),

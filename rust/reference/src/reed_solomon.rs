@@ -5,11 +5,11 @@
 //! a coset have a structure: the less a method resembles the library's the more
 //! an agreement says.
 
+use crate::answer::Answer;
 use crate::answer::{refused, K_OUT_OF_RANGE};
 use crate::coset::points;
 use crate::polynomial::{interpolant, value};
 use crate::refusal::{independent, right_length, LIST_OF_THE_GIVEN, LIST_OF_THE_OUTPUT};
-use razgwilh::Answer;
 
 /// The largest dimension that is encoded and interpolated over.
 pub const LARGEST_K: usize = 12;
@@ -76,10 +76,7 @@ mod tests {
     #[test]
     fn case_e() {
         assert_eq!(encode(0, &[1, 2], &[7, 3], 4), Ok(vec![7, 4, 1, 2]));
-        assert_eq!(
-            interpolate(0, &[1, 2], &[7, 4, 1, 2], 4),
-            Ok(vec![7, 3, 0, 0])
-        );
+        assert_eq!(interpolate(0, &[1, 2], &[7, 4, 1, 2], 4), Ok(vec![7, 3, 0, 0]));
     }
 
     #[test]

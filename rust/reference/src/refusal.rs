@@ -1,8 +1,8 @@
 //! Refusals that several operations give, and the lists that they name.
 
+use crate::answer::Answer;
 use crate::answer::{refused_at, DEPENDENT_BASIS, WRONG_LENGTH};
 use crate::coset::first_dependent;
-use razgwilh::Answer;
 
 /// The list of the basis.
 pub const LIST_OF_THE_BASIS: u64 = 1;

@@ -24,12 +24,8 @@ pub fn text() -> String {
 
 /// The groups, in the order of the text.
 fn groups() -> Vec<Group> {
-    let mut groups = vec![
-        layouts::layout_group(),
-        layouts::index_group(),
-        cosets::group(),
-        lookups::group(),
-    ];
+    let mut groups =
+        vec![layouts::layout_group(), layouts::index_group(), cosets::group(), lookups::group()];
     groups.extend(judged::groups());
     groups.extend(proved::groups());
     groups

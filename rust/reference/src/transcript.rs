@@ -7,6 +7,7 @@
 
 mod writing;
 
+use crate::answer::Answer;
 use crate::answer::{refused, refused_at, BYTES_END, BYTES_FOLLOW, INPUT_TOO_LONG, WRONG_COUNT};
 use crate::fold::Coset;
 use crate::parameters::Parameters;
@@ -14,7 +15,6 @@ use crate::protocol::{
     self, cosets_from, later_layers_independent, queries_in_range, right_query_count, Run,
 };
 use crate::refusal::independent;
-use razgwilh::Answer;
 
 pub use writing::{sections, transcript, written, Section};
 
@@ -51,15 +51,7 @@ pub fn read(bytes: &[u8]) -> Result<Judging, Answer> {
     }
     let last = reader.section_of(parameters.last_count() as u64)?;
     reader.end()?;
-    let run = Run {
-        parameters,
-        offset,
-        basis,
-        challenges,
-        word,
-        store,
-        last,
-    };
+    let run = Run { parameters, offset, basis, challenges, word, store, last };
     Ok(Judging { run, queries })
 }
 

@@ -33,12 +33,7 @@ pub fn report(inputs: &Inputs) {
     for step in 1..=3 {
         let run = inputs.run(step);
         let (store, last) = proved(run);
-        compare(Proof {
-            run,
-            queries: &inputs.queries,
-            store: &store,
-            last: &last,
-        });
+        compare(Proof { run, queries: &inputs.queries, store: &store, last: &last });
     }
 }
 
@@ -46,10 +41,8 @@ fn compare(proof: Proof) {
     let sides = sides(by_library as Judge, by_window, by_hardware);
     check(proof, &sides);
     print_counts(proof);
-    let mut works: Vec<Work> = sides
-        .iter()
-        .map(|(name, judge)| work(name, *judge, proof))
-        .collect();
+    let mut works: Vec<Work> =
+        sides.iter().map(|(name, judge)| work(name, *judge, proof)).collect();
     table(&mut works, TURNS, "µs", 1e3);
 }
 
@@ -58,10 +51,7 @@ fn check(proof: Proof, sides: &[(&str, Judge)]) {
     let step = proof.run.step;
     let mut damaged = proof.store.to_vec();
     damaged[proof.queries[proof.queries.len() - 1] as usize >> step] ^= 1;
-    let refused = Proof {
-        store: &damaged,
-        ..proof
-    };
+    let refused = Proof { store: &damaged, ..proof };
     for (given, number) in [(proof, 0), (refused, 11)] {
         let expected = by_library(given);
         assert_eq!(expected.number, number, "step {step}: the library");
@@ -120,10 +110,7 @@ pub fn library_work(proof: Proof) -> Work {
 }
 
 fn work<'a>(name: &'a str, judge: Judge, proof: Proof<'a>) -> Work<'a> {
-    Work {
-        name,
-        run: Box::new(move || judge(black_box(proof)).reads),
-    }
+    Work { name, run: Box::new(move || judge(black_box(proof)).reads) }
 }
 
 fn by_library(proof: Proof) -> Answer {
@@ -231,8 +218,11 @@ impl Round {
         let size = 1 << step;
         let first = arithmetic.sum(visit.point, self.span[visit.index % size]);
         let part = &layer[visit.index / size * size..][..size];
-        Coset::read(arithmetic, &self.span[..size], first, part)
-            .value_at(arithmetic, self.challenge, &self.inverses[..step])
+        Coset::read(arithmetic, &self.span[..size], first, part).value_at(
+            arithmetic,
+            self.challenge,
+            &self.inverses[..step],
+        )
     }
 }
 
@@ -246,10 +236,7 @@ struct Visit {
 impl Visit {
     /// In layer 0.
     fn first(arithmetic: impl Arithmetic, run: &Run, index: usize) -> Visit {
-        Visit {
-            index,
-            point: point(arithmetic, run.offset, run.basis, index),
-        }
+        Visit { index, point: point(arithmetic, run.offset, run.basis, index) }
     }
 
     /// In the next layer.

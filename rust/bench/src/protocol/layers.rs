@@ -30,11 +30,5 @@ pub fn check_bases(arithmetic: impl Arithmetic, run: &Run) {
 }
 
 pub fn done(reads: u64) -> Answer {
-    Answer {
-        number: 0,
-        place: None,
-        round: None,
-        reads,
-        value: None,
-    }
+    Answer { number: 0, place: None, round: None, reads, value: None }
 }

@@ -34,10 +34,8 @@ fn compare(run: Run) {
         assert!(same, "step {}: {name} and the library differ", run.step);
     }
     print_counts(run);
-    let mut works: Vec<Work> = sides
-        .iter()
-        .map(|(name, prover)| work(name, *prover, run))
-        .collect();
+    let mut works: Vec<Work> =
+        sides.iter().map(|(name, prover)| work(name, *prover, run)).collect();
     table(&mut works, TURNS, "ms", 1e6);
 }
 
@@ -78,10 +76,7 @@ pub fn library_work(run: Run) -> Work {
 /// The room is made once, so that each turn but the first finds its memory in place.
 fn work<'a>(name: &'a str, prover: Prover, run: Run<'a>) -> Work<'a> {
     let (mut store, mut last) = room(run);
-    Work {
-        name,
-        run: Box::new(move || prover(black_box(run), &mut store, &mut last).number),
-    }
+    Work { name, run: Box::new(move || prover(black_box(run), &mut store, &mut last).number) }
 }
 
 fn by_window(run: Run, store: &mut [u64], last: &mut [u64]) -> Answer {
@@ -118,12 +113,7 @@ fn prove(arithmetic: impl Arithmetic, run: Run, store: &mut [u64], last: &mut [u
     let (first, others) = room.split_at(last.len());
     if let Some(place) = others.iter().rposition(|c| *c != 0) {
         let degree = Some((first.len() + place) as u64);
-        return Answer {
-            number: 12,
-            place: degree,
-            value: degree,
-            ..done(0)
-        };
+        return Answer { number: 12, place: degree, value: degree, ..done(0) };
     }
     last.copy_from_slice(first);
     done(0)

@@ -5,10 +5,10 @@ use super::{
     compare, Comparison, Fixed, Input, Show, LEFT_AND_RIGHT, PAPER_AND_LIBRARY,
     REFERENCE_AND_LIBRARY,
 };
+use crate::answer::Answer;
 use crate::answer::{raw, refused, went_well, ANSWER_LENGTH, INVERSE_OF_ZERO};
 use crate::field;
 use crate::random::Random;
-use razgwilh::Answer;
 
 /// The functions under test.
 #[derive(Clone, Copy)]
@@ -36,12 +36,8 @@ pub struct Amounts {
 }
 
 /// The amounts that the program takes.
-pub const FULL: Amounts = Amounts {
-    against_reference: 100_000,
-    doublings: 10_000,
-    laws: 10_000,
-    lent_lists: 1_000,
-};
+pub const FULL: Amounts =
+    Amounts { against_reference: 100_000, doublings: 10_000, laws: 10_000, lent_lists: 1_000 };
 
 /// Runs all comparisons of this file.
 pub fn comparisons(library: &Library, amounts: &Amounts) -> Vec<Comparison> {
@@ -128,21 +124,11 @@ fn sum_random(library: &Library, amounts: &Amounts) -> Comparison {
 }
 
 fn product_edge(library: &Library) -> Comparison {
-    pairs(
-        "product, edge pairs",
-        edge_pairs(),
-        field::product,
-        library.product,
-    )
+    pairs("product, edge pairs", edge_pairs(), field::product, library.product)
 }
 
 fn product_random(library: &Library, amounts: &Amounts) -> Comparison {
-    random_pairs(
-        "product, random pairs",
-        amounts,
-        field::product,
-        library.product,
-    )
+    random_pairs("product, random pairs", amounts, field::product, library.product)
 }
 
 fn pairs(
@@ -151,13 +137,7 @@ fn pairs(
     reference: Operation,
     library: Operation,
 ) -> Comparison {
-    compare(
-        name,
-        inputs,
-        REFERENCE_AND_LIBRARY,
-        |&[a, b]| reference(a, b),
-        |&[a, b]| library(a, b),
-    )
+    compare(name, inputs, REFERENCE_AND_LIBRARY, |&[a, b]| reference(a, b), |&[a, b]| library(a, b))
 }
 
 fn random_pairs(
@@ -203,13 +183,7 @@ fn inverses(
     values: impl IntoIterator<Item = u64>,
     library: &Library,
 ) -> Comparison {
-    compare(
-        name,
-        values,
-        REFERENCE_AND_LIBRARY,
-        |&a| inverse_due(a),
-        |&a| (library.inverse)(a),
-    )
+    compare(name, values, REFERENCE_AND_LIBRARY, |&a| inverse_due(a), |&a| (library.inverse)(a))
 }
 
 fn inverse_product_edge(library: &Library) -> Comparison {
@@ -255,12 +229,7 @@ fn law<const N: usize>(
 
 fn sum_commutes(library: &Library, amounts: &Amounts) -> Comparison {
     let sum = library.sum;
-    law(
-        "a + b = b + a",
-        amounts,
-        |&[a, b]| sum(a, b),
-        |&[a, b]| sum(b, a),
-    )
+    law("a + b = b + a", amounts, |&[a, b]| sum(a, b), |&[a, b]| sum(b, a))
 }
 
 fn sum_associates(library: &Library, amounts: &Amounts) -> Comparison {
@@ -275,12 +244,7 @@ fn sum_associates(library: &Library, amounts: &Amounts) -> Comparison {
 
 fn product_commutes(library: &Library, amounts: &Amounts) -> Comparison {
     let product = library.product;
-    law(
-        "a b = b a",
-        amounts,
-        |&[a, b]| product(a, b),
-        |&[a, b]| product(b, a),
-    )
+    law("a b = b a", amounts, |&[a, b]| product(a, b), |&[a, b]| product(b, a))
 }
 
 fn product_associates(library: &Library, amounts: &Amounts) -> Comparison {
@@ -306,11 +270,7 @@ fn product_distributes(library: &Library, amounts: &Amounts) -> Comparison {
 // The reduction constant against NIST SP 800-38B.
 
 fn doubling_edge(library: &Library) -> Comparison {
-    doublings(
-        "doubling of SP 800-38B, edge values",
-        edge_values(),
-        library,
-    )
+    doublings("doubling of SP 800-38B, edge values", edge_values(), library)
 }
 
 fn doubling_random(library: &Library, amounts: &Amounts) -> Comparison {
@@ -454,13 +414,9 @@ fn lent(
     lists: impl IntoIterator<Item = Call>,
     library: &Library,
 ) -> Comparison {
-    compare(
-        name,
-        lists,
-        REFERENCE_AND_LIBRARY,
-        after_reference,
-        |call| after_library(call, library),
-    )
+    compare(name, lists, REFERENCE_AND_LIBRARY, after_reference, |call| {
+        after_library(call, library)
+    })
 }
 
 /// Each comparison is shown to fail for a library that is wrong.

@@ -259,13 +259,9 @@ fn calls(
     name: &'static str,
     inputs: impl IntoIterator<Item = Call>,
 ) -> Comparison {
-    compare(
-        name,
-        inputs,
-        REFERENCE_AND_LIBRARY,
-        after_reference,
-        |call| after_library(call, library.fold_into),
-    )
+    compare(name, inputs, REFERENCE_AND_LIBRARY, after_reference, |call| {
+        after_library(call, library.fold_into)
+    })
 }
 
 // Right calls.
@@ -280,11 +276,8 @@ fn for_steps(
 }
 
 fn small_cosets(library: &Library, amounts: &Amounts) -> Vec<Comparison> {
-    let names = [
-        "fold with step 1, k 2 to 6",
-        "fold with step 2, k 2 to 6",
-        "fold with step 3, k 3 to 6",
-    ];
+    let names =
+        ["fold with step 1, k 2 to 6", "fold with step 2, k 2 to 6", "fold with step 3, k 3 to 6"];
     for_steps(names, |name, step| {
         let random = &mut Random::named(name);
         let inputs = inputs::right_calls(random, step, 2..=6, &amounts.folds);
@@ -344,10 +337,8 @@ fn sampled_folds(library: &Library, amounts: &Amounts) -> Comparison {
 fn sampled_due(call: &Call) -> After {
     let next = fold::next_coset(call.given(), call.values, call.next_basis);
     after(call, |answer, output| {
-        let folded = next.map(|next| Folded {
-            values: sampled_entries(call, output.values.list()),
-            next,
-        });
+        let folded =
+            next.map(|next| Folded { values: sampled_entries(call, output.values.list()), next });
         let given = write_due(folded, output.lists());
         answer.list().copy_from_slice(&raw(&given));
     })
@@ -573,11 +564,8 @@ fn k_out_of_range(library: &Library, amounts: &Amounts) -> Vec<Comparison> {
     let random = Random::named(name);
     let inputs = inputs::k_out_of_range_and_damaged(random, amounts.out_of_range);
     let damaged = calls(library, name, inputs);
-    let dimensions = if damaged.agrees() {
-        amounts.out_of_range
-    } else {
-        &amounts.out_of_range[..1]
-    };
+    let dimensions =
+        if damaged.agrees() { amounts.out_of_range } else { &amounts.out_of_range[..1] };
     let name = "fold, k out of range";
     let inputs = inputs::k_out_of_range(Random::named(name), dimensions);
     vec![damaged, calls(library, name, inputs)]
@@ -782,11 +770,7 @@ pub(super) struct Exceptional(pub(super) bool);
 
 impl Show for Exceptional {
     fn show(&self) -> String {
-        let shown = if self.0 {
-            "exceptional"
-        } else {
-            "not exceptional"
-        };
+        let shown = if self.0 { "exceptional" } else { "not exceptional" };
         shown.to_string()
     }
 }

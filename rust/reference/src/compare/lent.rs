@@ -37,11 +37,7 @@ impl Lent {
     /// unseen.
     pub fn filled(length: usize, fill: u64) -> Lent {
         let whole = length + 2 * MARGIN;
-        Lent {
-            numbers: (fill..).take(whole).collect(),
-            list: MARGIN..MARGIN + length,
-            fill,
-        }
+        Lent { numbers: (fill..).take(whole).collect(), list: MARGIN..MARGIN + length, fill }
     }
 
     pub fn list(&mut self) -> &mut [u64] {
@@ -121,10 +117,7 @@ mod tests {
         let mut lent = Lent::filled(3, 0x100);
         lent.numbers.fill(7);
         lent.keep(|place| place == 1);
-        assert_eq!(
-            lent.show(),
-            "left, 7, left, before it 7 (8 times), behind it 7 (8 times)"
-        );
+        assert_eq!(lent.show(), "left, 7, left, before it 7 (8 times), behind it 7 (8 times)");
     }
 
     #[test]

@@ -74,11 +74,8 @@ pub fn fitted(length: usize, before: usize, now: usize) -> usize {
 /// Shorter lists, and then lists with fewer numbers that are not zero.
 pub fn simpler_lists(list: &[u64], small: bool) -> Vec<Vec<u64>> {
     let length = list.len();
-    let shorter: &[usize] = if small {
-        &[0, 1, length / 2, length.saturating_sub(1)]
-    } else {
-        &[0, 1, 2]
-    };
+    let shorter: &[usize] =
+        if small { &[0, 1, length / 2, length.saturating_sub(1)] } else { &[0, 1, 2] };
     let cut = |&length: &usize| list.iter().take(length).copied().collect();
     let mut all: Vec<Vec<u64>> = shorter.iter().map(cut).collect();
     all.extend(with_zeros(list, small));

@@ -11,13 +11,13 @@ mod table_a;
 
 use super::lent::{Lent, APART};
 use super::{compare, Comparison, Show, REFERENCE_AND_LIBRARY};
+use crate::answer::Answer;
 use crate::answer::{raw, ANSWER_LENGTH, DEGREE_TOO_HIGH};
 use crate::parameters::Parameters;
 use crate::protocol::{self, Proved, Run};
 use call::Call;
 use inputs::known::Others;
 use inputs::refused::OutOfRange;
-use razgwilh::Answer;
 
 /// Takes the run, the store and the last coefficients.
 type Prove = fn(razgwilh::Run, &mut [u64], &mut [u64]) -> Answer;
@@ -258,11 +258,7 @@ fn proof_of_reference(call: &Call) -> Outcome<Lent> {
 /// Writes what is due and gives the answer that is due.
 fn write_proof(call: &Call, output: &mut Output) -> Answer {
     let (store, last) = output.lists();
-    let lent = Run {
-        store: store.to_vec(),
-        last: last.to_vec(),
-        ..call.run.clone()
-    };
+    let lent = Run { store: store.to_vec(), last: last.to_vec(), ..call.run.clone() };
     let due = protocol::prove(&lent);
     store.copy_from_slice(&due.store);
     last.copy_from_slice(&due.last);
@@ -274,10 +270,7 @@ fn write_proof(call: &Call, output: &mut Output) -> Answer {
 fn answer_of(proved: &Proved) -> Answer {
     let answer = proved.answer;
     match answer.number {
-        DEGREE_TOO_HIGH => Answer {
-            value: answer.place,
-            ..answer
-        },
+        DEGREE_TOO_HIGH => Answer { value: answer.place, ..answer },
         _ => answer,
     }
 }
@@ -294,13 +287,9 @@ fn proofs(
     name: &'static str,
     inputs: impl IntoIterator<Item = Call>,
 ) -> Comparison {
-    compare(
-        name,
-        inputs,
-        REFERENCE_AND_LIBRARY,
-        proof_of_reference,
-        |call| proof_of_library(call, library.prove_into),
-    )
+    compare(name, inputs, REFERENCE_AND_LIBRARY, proof_of_reference, |call| {
+        proof_of_library(call, library.prove_into)
+    })
 }
 
 // Proofs that give the answer as a value.
@@ -355,13 +344,9 @@ fn judgings(
     name: &'static str,
     inputs: impl IntoIterator<Item = Call>,
 ) -> Comparison {
-    compare(
-        name,
-        inputs,
-        REFERENCE_AND_LIBRARY,
-        judging_of_reference,
-        |call| judging_of_library(call, library.judge_into),
-    )
+    compare(name, inputs, REFERENCE_AND_LIBRARY, judging_of_reference, |call| {
+        judging_of_library(call, library.judge_into)
+    })
 }
 
 /// Each comparison is shown to fail for a library that is wrong.

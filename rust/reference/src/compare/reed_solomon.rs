@@ -5,12 +5,12 @@ mod inputs;
 
 use super::lent::{Lent, FILLS};
 use super::{compare, Comparison, Fixed, Show, PAPER_AND_LIBRARY, REFERENCE_AND_LIBRARY};
+use crate::answer::Answer;
 use crate::answer::{done, raw, refused_at, ANSWER_LENGTH};
 use crate::random::Random;
 use crate::reed_solomon::{self, LARGEST_K};
 use call::Call;
 use inputs::TooLarge;
-use razgwilh::Answer;
 
 /// Takes offset, basis, list 3 and list 6.
 pub type SafeCall = fn(u64, &[u64], &[u64], &mut [u64]) -> Answer;
@@ -199,13 +199,7 @@ pub fn write_due(due: Result<Vec<u64>, Answer>, output: &mut [u64]) -> Answer {
 
 fn after_library(call: &Call, c_call: CCall) -> After {
     after(call, |answer, output| {
-        c_call(
-            call.offset,
-            &call.basis,
-            &call.given,
-            output.list(),
-            answer.list(),
-        )
+        c_call(call.offset, &call.basis, &call.given, output.list(), answer.list())
     })
 }
 
@@ -215,10 +209,7 @@ fn for_both(
     run: impl Fn(&'static str, Operation) -> Comparison,
 ) -> Vec<Comparison> {
     let [encode, interpolate] = names;
-    vec![
-        run(encode, Operation::Encode),
-        run(interpolate, Operation::Interpolate),
-    ]
+    vec![run(encode, Operation::Encode), run(interpolate, Operation::Interpolate)]
 }
 
 fn calls(
@@ -240,23 +231,15 @@ fn calls(
 // Right calls.
 
 fn small_cosets(library: &Library, amounts: &Amounts) -> Vec<Comparison> {
-    calls(
-        library,
-        ["encode, k 0 to 6", "interpolate, k 0 to 6"],
-        |operation, random| {
-            inputs::right_calls(operation, random, 0..=6, operation.amounts(amounts))
-        },
-    )
+    calls(library, ["encode, k 0 to 6", "interpolate, k 0 to 6"], |operation, random| {
+        inputs::right_calls(operation, random, 0..=6, operation.amounts(amounts))
+    })
 }
 
 fn large_cosets(library: &Library, amounts: &Amounts) -> Vec<Comparison> {
-    calls(
-        library,
-        ["encode, k 7 to 12", "interpolate, k 7 to 12"],
-        |operation, random| {
-            inputs::right_calls(operation, random, 7..=12, operation.amounts(amounts))
-        },
-    )
+    calls(library, ["encode, k 7 to 12", "interpolate, k 7 to 12"], |operation, random| {
+        inputs::right_calls(operation, random, 7..=12, operation.amounts(amounts))
+    })
 }
 
 // There and back, with the library in both directions.
@@ -328,10 +311,7 @@ fn trip_of_library(call: &Call, operation: Operation, library: &Library) -> Opti
 fn list_3_wrong(library: &Library, amounts: &Amounts) -> Vec<Comparison> {
     calls(
         library,
-        [
-            "encode, list 3 of a wrong length",
-            "interpolate, list 3 of a wrong length",
-        ],
+        ["encode, list 3 of a wrong length", "interpolate, list 3 of a wrong length"],
         |operation, random| inputs::list_3_wrong(operation, random, amounts.largest_damaged),
     )
 }
@@ -339,10 +319,7 @@ fn list_3_wrong(library: &Library, amounts: &Amounts) -> Vec<Comparison> {
 fn list_6_wrong(library: &Library, amounts: &Amounts) -> Vec<Comparison> {
     calls(
         library,
-        [
-            "encode, list 6 of a wrong length",
-            "interpolate, list 6 of a wrong length",
-        ],
+        ["encode, list 6 of a wrong length", "interpolate, list 6 of a wrong length"],
         |_, random| inputs::list_6_wrong(random, amounts.largest_damaged),
     )
 }
@@ -350,32 +327,21 @@ fn list_6_wrong(library: &Library, amounts: &Amounts) -> Vec<Comparison> {
 fn both_lists_wrong(library: &Library, amounts: &Amounts) -> Vec<Comparison> {
     calls(
         library,
-        [
-            "encode, lists 3 and 6 of wrong lengths",
-            "interpolate, lists 3 and 6 of wrong lengths",
-        ],
+        ["encode, lists 3 and 6 of wrong lengths", "interpolate, lists 3 and 6 of wrong lengths"],
         |operation, random| inputs::both_lists_wrong(operation, random, amounts.largest_damaged),
     )
 }
 
 fn zero_elements(library: &Library, amounts: &Amounts) -> Vec<Comparison> {
-    calls(
-        library,
-        [
-            "encode, zero in the basis",
-            "interpolate, zero in the basis",
-        ],
-        |_, random| inputs::zero_elements(random, amounts.largest_damaged),
-    )
+    calls(library, ["encode, zero in the basis", "interpolate, zero in the basis"], |_, random| {
+        inputs::zero_elements(random, amounts.largest_damaged)
+    })
 }
 
 fn repeated_elements(library: &Library, amounts: &Amounts) -> Vec<Comparison> {
     calls(
         library,
-        [
-            "encode, a repeated basis element",
-            "interpolate, a repeated basis element",
-        ],
+        ["encode, a repeated basis element", "interpolate, a repeated basis element"],
         |_, random| inputs::repeated_elements(random, amounts.largest_damaged),
     )
 }
@@ -383,10 +349,7 @@ fn repeated_elements(library: &Library, amounts: &Amounts) -> Vec<Comparison> {
 fn sums_of_elements(library: &Library, amounts: &Amounts) -> Vec<Comparison> {
     calls(
         library,
-        [
-            "encode, a sum of earlier basis elements",
-            "interpolate, a sum of earlier basis elements",
-        ],
+        ["encode, a sum of earlier basis elements", "interpolate, a sum of earlier basis elements"],
         |_, random| inputs::sums_of_elements(random, amounts.largest_damaged),
     )
 }
@@ -394,10 +357,7 @@ fn sums_of_elements(library: &Library, amounts: &Amounts) -> Vec<Comparison> {
 fn two_dependent_places(library: &Library, amounts: &Amounts) -> Vec<Comparison> {
     calls(
         library,
-        [
-            "encode, a basis dependent at two places",
-            "interpolate, a basis dependent at two places",
-        ],
+        ["encode, a basis dependent at two places", "interpolate, a basis dependent at two places"],
         |_, random| inputs::two_dependent_places(random, amounts.largest_damaged),
     )
 }
@@ -408,10 +368,7 @@ fn two_dependent_places(library: &Library, amounts: &Amounts) -> Vec<Comparison>
 fn too_large(library: &Library, amounts: &Amounts) -> Vec<Comparison> {
     let damaged = calls(
         library,
-        [
-            "encode, k over 12 and damaged",
-            "interpolate, k over 12 and damaged",
-        ],
+        ["encode, k over 12 and damaged", "interpolate, k over 12 and damaged"],
         |_, random| inputs::too_large_and_damaged(random, amounts.too_large),
     );
     let dimensions = if damaged.iter().all(Comparison::agrees) {
@@ -419,20 +376,16 @@ fn too_large(library: &Library, amounts: &Amounts) -> Vec<Comparison> {
     } else {
         &amounts.too_large[..1]
     };
-    let right = calls(
-        library,
-        ["encode, k over 12", "interpolate, k over 12"],
-        |_, random| inputs::too_large(random, dimensions),
-    );
+    let right = calls(library, ["encode, k over 12", "interpolate, k over 12"], |_, random| {
+        inputs::too_large(random, dimensions)
+    });
     [damaged, right].concat()
 }
 
 fn several_causes(library: &Library, amounts: &Amounts) -> Vec<Comparison> {
-    calls(
-        library,
-        ["encode, several causes", "interpolate, several causes"],
-        |_, random| inputs::several_causes(random, amounts.largest_damaged),
-    )
+    calls(library, ["encode, several causes", "interpolate, several causes"], |_, random| {
+        inputs::several_causes(random, amounts.largest_damaged)
+    })
 }
 
 fn other_answers(library: &Library) -> Vec<Comparison> {
@@ -473,9 +426,7 @@ fn outcome_due(call: &Call, due: Result<Vec<u64>, Answer>) -> Outcome {
 }
 
 fn outcome_of_library(call: &Call, safe_call: SafeCall) -> Outcome {
-    outcome(call, |output| {
-        safe_call(call.offset, &call.basis, &call.given, output.list())
-    })
+    outcome(call, |output| safe_call(call.offset, &call.basis, &call.given, output.list()))
 }
 
 fn safe_calls(library: &Library, amounts: &Amounts) -> Vec<Comparison> {
@@ -542,18 +493,8 @@ fn case_e(library: &Library) -> Vec<Comparison> {
 fn case_m(library: &Library) -> Vec<Comparison> {
     let call = fixed(&[1, 2, 3], &[1, 2, 3, 4, 5, 6, 7, 8]);
     let refusal = Err(refused_at(8, 2));
-    let encode = case(
-        "case M of table A, encode",
-        call.clone(),
-        refusal.clone(),
-        library.encode,
-    );
-    let interpolate = case(
-        "case M of table A, interpolate",
-        call,
-        refusal,
-        library.interpolate,
-    );
+    let encode = case("case M of table A, encode", call.clone(), refusal.clone(), library.encode);
+    let interpolate = case("case M of table A, interpolate", call, refusal, library.interpolate);
     vec![encode, interpolate]
 }
 

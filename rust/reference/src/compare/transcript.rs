@@ -12,13 +12,13 @@ use super::{
     compare, compare_on_threads, Comparison, Input, Show, REFERENCE_AND_LIBRARY,
     REFERENCE_AND_PROGRAM,
 };
+use crate::answer::Answer;
 use crate::answer::{raw, ANSWER_LENGTH};
 use crate::parameters::Parameters;
 use crate::random::Random;
 use crate::transcript::{self, judge_of_program, lines};
 use bytes::Bytes;
 use inputs::{broken, limit, refused, several, whole};
-use razgwilh::Answer;
 use std::ops::RangeInclusive;
 use tally::Tally;
 
@@ -134,10 +134,7 @@ pub fn comparisons(judges: &Judges, amounts: &Amounts) -> Compared {
     comparisons.push(other_answers(judges, amounts));
     comparisons.push(safe_calls(judges, amounts));
     comparisons.extend(table_a::comparisons(judges));
-    Compared {
-        comparisons,
-        table: tally.text(),
-    }
+    Compared { comparisons, table: tally.text() }
 }
 
 // Sorts of byte strings.
@@ -167,21 +164,12 @@ macro_rules! sort {
 const SORTS: [Sort; 27] = [
     sort!("honest runs", whole::honest),
     sort!("honest runs of large parameters", whole::honest_large),
-    sort!(
-        "honest runs of the largest parameters",
-        whole::honest_largest
-    ),
+    sort!("honest runs of the largest parameters", whole::honest_largest),
     sort!("honest folds of too high a degree", whole::high_degrees),
-    sort!(
-        "each entry damaged, each query alone",
-        whole::each_damaged_and_each_query
-    ),
+    sort!("each entry damaged, each query alone", whole::each_damaged_and_each_query),
     sort!("each entry damaged, all queries", whole::each_damaged),
     sort!("some entries damaged", whole::some_damaged),
-    sort!(
-        "some entries of large parameters damaged",
-        whole::some_damaged_of_large
-    ),
+    sort!("some entries of large parameters damaged", whole::some_damaged_of_large),
     sort!("another challenge", whole::other_challenges),
     sort!("cut at every byte", broken::cut_at_every_byte),
     sort!("cut near every section", broken::cut_near_every_section),
@@ -198,15 +186,9 @@ const SORTS: [Sort; 27] = [
     sort!("a dependent basis", refused::dependent_bases),
     sort!("counts of queries", refused::counts_of_queries),
     sort!("queries out of range", refused::queries_out_of_range),
-    sort!(
-        "powers of two as queries",
-        refused::powers_of_two_as_queries
-    ),
+    sort!("powers of two as queries", refused::powers_of_two_as_queries),
     sort!("several causes", several::several_causes),
-    sort!(
-        "lengths near the limit and far longer",
-        limit::near_the_limit
-    ),
+    sort!("lengths near the limit and far longer", limit::near_the_limit),
 ];
 
 /// Compares the library under the first name, and the program under the second.
@@ -330,10 +312,7 @@ fn other_answers(judges: &Judges, amounts: &Amounts) -> Comparison {
     let name = "transcript with an answer list of another length";
     let some = of_every_number(name, amounts).into_iter().step_by(6);
     let inputs = some.flat_map(|bytes| {
-        other_answer_lengths().map(move |answer| WithAnswer {
-            bytes: bytes.clone(),
-            answer,
-        })
+        other_answer_lengths().map(move |answer| WithAnswer { bytes: bytes.clone(), answer })
     });
     compare(
         name,
@@ -346,13 +325,9 @@ fn other_answers(judges: &Judges, amounts: &Amounts) -> Comparison {
 
 fn safe_calls(judges: &Judges, amounts: &Amounts) -> Comparison {
     let name = "transcript, safe calls";
-    compare(
-        name,
-        of_every_number(name, amounts),
-        REFERENCE_AND_LIBRARY,
-        verdict,
-        |Bytes(bytes)| (judges.judge)(bytes),
-    )
+    compare(name, of_every_number(name, amounts), REFERENCE_AND_LIBRARY, verdict, |Bytes(bytes)| {
+        (judges.judge)(bytes)
+    })
 }
 
 /// Each comparison is shown to fail for a library and for a program that is wrong.

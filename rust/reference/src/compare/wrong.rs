@@ -1,9 +1,9 @@
 //! What the tests with wrong libraries share.
 
 use super::Comparison;
+use crate::answer::Answer;
 use crate::answer::{raw, refused_at, ANSWER_LENGTH};
 use crate::coset::{first_dependent, point};
-use razgwilh::Answer;
 
 // Comparisons.
 
@@ -59,9 +59,7 @@ pub fn dependent(basis: &[u64]) -> Option<Answer> {
 /// The place at which a basis would be found dependent from behind.
 pub fn last_dependent(basis: &[u64]) -> Option<usize> {
     let dependent = |&place: &usize| first_dependent(&without_dependent(&basis[..=place], place));
-    (0..basis.len())
-        .rev()
-        .find(|place| dependent(place).is_some())
+    (0..basis.len()).rev().find(|place| dependent(place).is_some())
 }
 
 /// The independent ones before a place, and the element there.

@@ -52,20 +52,12 @@ fn drawn_queries(random: &mut Random, parameters: Parameters) -> Vec<u64> {
 
 /// The run with numbers in its lent lists that no prover would write.
 fn lent(run: &Run) -> Run {
-    Run {
-        store: vec![0xabc; run.store.len()],
-        last: vec![0xdef; run.last.len()],
-        ..run.clone()
-    }
+    Run { store: vec![0xabc; run.store.len()], last: vec![0xdef; run.last.len()], ..run.clone() }
 }
 
 fn proved(answer: Answer, store: &[u64], last: &[u64]) -> Proved {
     let (store, last) = (store.to_vec(), last.to_vec());
-    Proved {
-        answer,
-        store,
-        last,
-    }
+    Proved { answer, store, last }
 }
 
 /// What a prover gives that leaves the lists as they were.

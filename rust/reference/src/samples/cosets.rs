@@ -25,12 +25,7 @@ fn samples() -> Vec<Layered> {
         let (offset, basis) = (random.number(), random.list(k as usize));
         layered(parameters(k, rate, step), offset, &basis)
     };
-    let mut samples = vec![
-        drawn(3, 1, 1),
-        drawn(4, 1, 1),
-        drawn(5, 1, 2),
-        drawn(4, 1, 3),
-    ];
+    let mut samples = vec![drawn(3, 1, 1), drawn(4, 1, 1), drawn(5, 1, 2), drawn(4, 1, 3)];
     for Layered { parameters, first } in &mut samples[1..] {
         first.basis = (0..parameters.k).map(|place| 1 << place).collect();
     }

@@ -127,13 +127,8 @@ fn failing_at_high_degree(random: &mut Random) -> Vec<Judged> {
 // Refused.
 
 fn refused() -> Vec<Judged> {
-    [
-        with_bad_parameters(),
-        with_wrong_lengths(),
-        with_dependent_bases(),
-        with_wrong_queries(),
-    ]
-    .concat()
+    [with_bad_parameters(), with_wrong_lengths(), with_dependent_bases(), with_wrong_queries()]
+        .concat()
 }
 
 /// There is no query either.
@@ -179,8 +174,8 @@ fn with_wrong_queries() -> Vec<Judged> {
 mod tests {
     use super::super::bases::differences;
     use super::*;
+    use crate::answer::Answer;
     use crate::answer::{self, failed, refused_at};
-    use razgwilh::Answer;
 
     // Rows.
 

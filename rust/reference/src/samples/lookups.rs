@@ -17,22 +17,12 @@ pub(super) fn group() -> Group {
 }
 
 fn samples() -> Vec<Lookup> {
-    [
-        of_all_layers(),
-        of_other_layers(),
-        in_other_stores(),
-        with_bad_parameters(),
-        with_one_round(),
-    ]
-    .concat()
+    [of_all_layers(), of_other_layers(), in_other_stores(), with_bad_parameters(), with_one_round()]
+        .concat()
 }
 
 fn row(sample: &Lookup) -> String {
-    let Lookup {
-        parameters,
-        store,
-        layer,
-    } = sample;
+    let Lookup { parameters, store, layer } = sample;
     let range = parameters.layer_of_store(store.len(), *layer);
     let part = range.map_or(&[][..], |range| &store[range]);
     record(&[
@@ -46,11 +36,7 @@ fn row(sample: &Lookup) -> String {
 /// The store holds so many numbers in a row.
 fn lookup(parameters: Parameters, length: usize, layer: u64) -> Lookup {
     let store = (11..).take(length).collect();
-    Lookup {
-        parameters,
-        store,
-        layer,
-    }
+    Lookup { parameters, store, layer }
 }
 
 /// Two rounds have one layer in the store, three have two and four have three.
@@ -105,10 +91,7 @@ fn with_bad_parameters() -> Vec<Lookup> {
 
 /// The store has no layers. In one that is too long layer 1 would be all of it.
 fn with_one_round() -> Vec<Lookup> {
-    vec![
-        lookup(parameters(2, 1, 1), 0, 1),
-        lookup(parameters(3, 1, 2), 2, 1),
-    ]
+    vec![lookup(parameters(2, 1, 1), 0, 1), lookup(parameters(3, 1, 2), 2, 1)]
 }
 
 #[cfg(test)]

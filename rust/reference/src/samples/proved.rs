@@ -17,11 +17,7 @@ pub(super) fn groups() -> Vec<Group> {
 }
 
 fn row(run: &Run) -> String {
-    let Proved {
-        answer,
-        store,
-        last,
-    } = prove(run);
+    let Proved { answer, store, last } = prove(run);
     record(&[
         member("run", record_of(run)),
         member("number", answer.number),
@@ -75,8 +71,8 @@ mod tests {
     use super::super::bases::differences;
     use super::super::runs::of_table_a;
     use super::*;
+    use crate::answer::Answer;
     use crate::answer::{self, done, refused_at};
-    use razgwilh::Answer;
 
     // Rows.
 

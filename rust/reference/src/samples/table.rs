@@ -33,11 +33,7 @@ impl Group {
         samples: &[Sample],
         row: fn(&Sample) -> String,
     ) -> Group {
-        Group {
-            name,
-            row_type,
-            rows: samples.iter().map(row).collect(),
-        }
+        Group { name, row_type, rows: samples.iter().map(row).collect() }
     }
 
     /// A blank line, the type of the list and the list.
@@ -176,10 +172,8 @@ mod tests {
     #[test]
     fn a_table_by_hand() {
         let row = |number: &u64| record(&[member("a", number), member("b", 7)]);
-        let groups = [
-            Group::of("some", "Some", &[1, 2], row),
-            Group::of("others", "Other", &[], row),
-        ];
+        let groups =
+            [Group::of("some", "Some", &[1, 2], row), Group::of("others", "Other", &[], row)];
         let due = [
             "",
             "abbrev pub some : List Some",
@@ -202,10 +196,7 @@ mod tests {
         let numbers = [u64::MAX; 5];
         let inner = [&numbers[..2], &numbers[..3], &[]].map(inner_list);
         let row = record(&[
-            member(
-                "run",
-                record(&[member("a", 7), member("b", list(&numbers))]),
-            ),
+            member("run", record(&[member("a", 7), member("b", list(&numbers))])),
             member("c", list(&inner)),
         ]);
         let due = [

@@ -52,17 +52,9 @@ fn the_bytes_of_case_g_by_hand() {
 
 #[test]
 fn numbers_have_their_lowest_byte_first() {
-    let section = Section {
-        count: 0x0403_0201,
-        entries: vec![0x8877_6655_4433_2211],
-    };
-    let due = [
-        1, 2, 3, 4, 0x11, 0x22, 0x33, 0x44, 0x55, 0x66, 0x77, 0x88, 9, 0, 0, 0,
-    ];
-    let empty = Section {
-        count: 9,
-        entries: Vec::new(),
-    };
+    let section = Section { count: 0x0403_0201, entries: vec![0x8877_6655_4433_2211] };
+    let due = [1, 2, 3, 4, 0x11, 0x22, 0x33, 0x44, 0x55, 0x66, 0x77, 0x88, 9, 0, 0, 0];
+    let empty = Section { count: 9, entries: Vec::new() };
     assert_eq!(written(&[section, empty]), due);
 }
 
@@ -76,14 +68,9 @@ fn each_layer_has_a_section() {
         let r = parameters.rounds() as usize;
         assert_eq!(sections.len(), 5 + r);
         for (i, section) in sections[4..4 + r].iter().enumerate() {
-            assert_eq!(
-                section.count,
-                1 << (parameters.k - i as u64 * parameters.step)
-            );
+            assert_eq!(section.count, 1 << (parameters.k - i as u64 * parameters.step));
         }
-        let joined = sections[5..4 + r]
-            .iter()
-            .flat_map(|one| one.entries.clone());
+        let joined = sections[5..4 + r].iter().flat_map(|one| one.entries.clone());
         assert_eq!(joined.collect::<Vec<u64>>(), run.store);
     }
 }
@@ -134,10 +121,7 @@ fn the_lines_by_hand() {
     let later = crate::answer::refused_in_round(16, 3);
     assert_eq!(line(later), "refused 16 - 3 0");
     let large = refused_at(10, 255);
-    assert_eq!(
-        lines(&large),
-        "answer number place round reads\nrefused 10 255 - 0\n"
-    );
+    assert_eq!(lines(&large), "answer number place round reads\nrefused 10 255 - 0\n");
 }
 
 #[test]

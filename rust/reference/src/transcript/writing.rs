@@ -13,10 +13,7 @@ pub struct Section {
 impl Section {
     /// These entries, after their count.
     pub fn of(entries: &[u64]) -> Section {
-        Section {
-            count: entries.len() as u32,
-            entries: entries.to_vec(),
-        }
+        Section { count: entries.len() as u32, entries: entries.to_vec() }
     }
 
     fn bytes(&self) -> impl Iterator<Item = u8> + '_ {
@@ -30,13 +27,7 @@ impl Section {
 pub fn sections(run: &Run, queries: &[u64]) -> Vec<Section> {
     let Parameters { k, rate, step } = run.parameters;
     let offset_and_basis = [&[run.offset], &run.basis[..]].concat();
-    let first = [
-        &[k, rate, step],
-        &offset_and_basis[..],
-        &run.challenges,
-        queries,
-        &run.word,
-    ];
+    let first = [&[k, rate, step], &offset_and_basis[..], &run.challenges, queries, &run.word];
     let stored = (1..run.parameters.rounds()).map(|i| stored_layer(run, i));
     let all = first.into_iter().chain(stored).chain([&run.last[..]]);
     all.map(Section::of).collect()

@@ -4,12 +4,7 @@ use crate::compare::wrong::{self, changed, into_five};
 use std::collections::HashSet;
 
 /// Few enough to run without optimisation.
-const FEW: Amounts = Amounts {
-    against_reference: 50,
-    doublings: 50,
-    laws: 50,
-    lent_lists: 20,
-};
+const FEW: Amounts = Amounts { against_reference: 50, doublings: 50, laws: 50, lent_lists: 20 };
 
 /// The reference in the place of the library.
 const RIGHT: Library = Library {
@@ -36,10 +31,7 @@ fn with_inverse(inverse: fn(u64) -> Answer) -> Library {
 }
 
 fn with_inverse_into(inverse_into: fn(u64, &mut [u64])) -> Library {
-    Library {
-        inverse_into,
-        ..RIGHT
-    }
+    Library { inverse_into, ..RIGHT }
 }
 
 /// The names of the comparisons that do not agree.
@@ -58,15 +50,11 @@ const INVERSE_PRODUCT: [&str; 2] = [
     "product with the inverse is one, edge values",
     "product with the inverse is one, random values",
 ];
-const DOUBLING: [&str; 2] = [
-    "doubling of SP 800-38B, edge values",
-    "doubling of SP 800-38B, random values",
-];
+const DOUBLING: [&str; 2] =
+    ["doubling of SP 800-38B, edge values", "doubling of SP 800-38B, random values"];
 const OTHER_LENGTH: [&str; 1] = ["inverse into a list of another length"];
-const FIVE: [&str; 2] = [
-    "inverse into a list of five, edge values",
-    "inverse into a list of five, random values",
-];
+const FIVE: [&str; 2] =
+    ["inverse into a list of five, edge values", "inverse into a list of five, random values"];
 
 #[test]
 fn the_reference_agrees_with_itself() {
@@ -121,11 +109,7 @@ fn a_sum_that_carries() {
 #[test]
 fn a_sum_that_depends_on_the_order() {
     let names = differing(&with_sum(u64::wrapping_sub));
-    let laws = [
-        "a + b = b + a",
-        "(a + b) + c = a + (b + c)",
-        "a (b + c) = a b + a c",
-    ];
+    let laws = ["a + b = b + a", "(a + b) + c = a + (b + c)", "a (b + c) = a b + a c"];
     assert_eq!(names, [&SUM[..], &laws].concat());
 }
 
@@ -155,12 +139,7 @@ fn the_product_of_these_tests_is_right_with_the_right_constant() {
 #[test]
 fn a_product_with_another_reduction_constant() {
     let wrong = with_product(|a, b| product_reduced_by(0x1d, a, b));
-    let names = [
-        &PRODUCT[..],
-        &INVERSE_PRODUCT,
-        &DOUBLING,
-        &["case A of table A"],
-    ];
+    let names = [&PRODUCT[..], &INVERSE_PRODUCT, &DOUBLING, &["case A of table A"]];
     assert_eq!(differing(&wrong), names.concat());
     assert_eq!(smallest(product_edge(&wrong)), "2, 8000000000000000");
     assert_eq!(smallest(doubling_edge(&wrong)), "8000000000000000");
@@ -175,10 +154,7 @@ fn a_product_that_drops_the_top_bit_of_an_argument() {
     assert!(names.contains(&"a b = b a"));
     assert!(names.contains(&"case A of table A"));
     assert_eq!(smallest(product_edge(&wrong)), "8000000000000000, 1");
-    assert_eq!(
-        smallest(product_random(&wrong, &FEW)),
-        "8000000000000000, 1"
-    );
+    assert_eq!(smallest(product_random(&wrong, &FEW)), "8000000000000000, 1");
 }
 
 /// The product without one bit of the answer.
@@ -242,12 +218,7 @@ fn a_product_that_does_not_distribute() {
 #[test]
 fn an_inverse_that_answers_its_argument() {
     let names = differing(&with_inverse(went_well));
-    let all = [
-        &["inverse, zero"],
-        &INVERSE[..],
-        &INVERSE_PRODUCT,
-        &["case C of table A"],
-    ];
+    let all = [&["inverse, zero"], &INVERSE[..], &INVERSE_PRODUCT, &["case C of table A"]];
     assert_eq!(names, all.concat());
 }
 
@@ -355,13 +326,8 @@ fn leaving<const PLACE: usize>(a: u64, answer: &mut [u64]) {
 
 #[test]
 fn a_number_is_left_unwritten() {
-    let wrong: [fn(u64, &mut [u64]); 5] = [
-        leaving::<0>,
-        leaving::<1>,
-        leaving::<2>,
-        leaving::<3>,
-        leaving::<4>,
-    ];
+    let wrong: [fn(u64, &mut [u64]); 5] =
+        [leaving::<0>, leaving::<1>, leaving::<2>, leaving::<3>, leaving::<4>];
     for library in wrong.map(with_inverse_into) {
         assert_eq!(differing(&library), FIVE);
     }

@@ -151,63 +151,35 @@ impl Call {
 
     /// The lists are not made to fit.
     pub fn with_parameters(&self, k: usize, step: usize) -> Call {
-        Call {
-            k,
-            step,
-            ..self.clone()
-        }
+        Call { k, step, ..self.clone() }
     }
 
     pub fn with_basis(&self, basis: Vec<u64>) -> Call {
-        Call {
-            basis,
-            ..self.clone()
-        }
+        Call { basis, ..self.clone() }
     }
 
     pub fn with_word(&self, word: Vec<u64>) -> Call {
-        Call {
-            word,
-            ..self.clone()
-        }
+        Call { word, ..self.clone() }
     }
 
     fn with_offset(&self, offset: u64) -> Call {
-        Call {
-            offset,
-            ..self.clone()
-        }
+        Call { offset, ..self.clone() }
     }
 
     pub fn with_challenge(&self, challenge: u64) -> Call {
-        Call {
-            challenge,
-            ..self.clone()
-        }
+        Call { challenge, ..self.clone() }
     }
 
     pub fn with_values(&self, values: usize) -> Call {
-        Call {
-            values,
-            ..self.clone()
-        }
+        Call { values, ..self.clone() }
     }
 
     pub fn with_next_basis(&self, next_basis: usize) -> Call {
-        Call {
-            next_basis,
-            ..self.clone()
-        }
+        Call { next_basis, ..self.clone() }
     }
 
     pub fn without_lists(&self) -> Call {
-        Call {
-            basis: Vec::new(),
-            word: Vec::new(),
-            values: 0,
-            next_basis: 0,
-            ..self.clone()
-        }
+        Call { basis: Vec::new(), word: Vec::new(), values: 0, next_basis: 0, ..self.clone() }
     }
 
     /// With half of the basis, and with all of it but one element. A call above
@@ -233,11 +205,7 @@ impl Call {
         let kept = (0..self.basis.len()).filter(|place| !places.contains(place));
         let basis = kept.map(|place| self.basis[place]).collect();
         let word = self.word[..self.fitted(List::Word, k, self.step)].to_vec();
-        Call {
-            basis,
-            word,
-            ..self.with_lent_for(k, self.step)
-        }
+        Call { basis, word, ..self.with_lent_for(k, self.step) }
     }
 
     fn with_lower_steps(&self) -> Vec<Call> {
@@ -324,14 +292,8 @@ impl Input for TwoWords {
         let calls = self.call.simpler().into_iter();
         let others = simpler_lists(&self.other, is_small(self.call.k)).into_iter();
         let others = others.filter(|other| other.len() == self.other.len());
-        let with_other = |other| TwoWords {
-            call: self.call.clone(),
-            other,
-        };
-        calls
-            .map(|call| self.with_call(call))
-            .chain(others.map(with_other))
-            .collect()
+        let with_other = |other| TwoWords { call: self.call.clone(), other };
+        calls.map(|call| self.with_call(call)).chain(others.map(with_other)).collect()
     }
 }
 
@@ -466,10 +428,7 @@ mod tests {
     }
     #[test]
     fn two_words_stay_of_one_length() {
-        let two = TwoWords {
-            call: right(3, 1),
-            other: vec![5; 8],
-        };
+        let two = TwoWords { call: right(3, 1), other: vec![5; 8] };
         assert_eq!(two.with_sum().word, [5 ^ u64::MAX; 8]);
         assert_eq!(two.with_other().word, [5; 8]);
         for simpler in two.simpler() {

@@ -64,11 +64,7 @@ fn right(random: &mut Random, k: usize, step: usize, turn: usize) -> Call {
     let word = word(random, step, offset, &basis, turn);
     let challenge = challenge(random, step, offset, &basis, turn);
     let any = any_with(random, k, step, basis, word);
-    Call {
-        offset,
-        challenge,
-        ..any
-    }
+    Call { offset, challenge, ..any }
 }
 
 /// A word of one of the common sorts, or of a low degree.
@@ -257,22 +253,8 @@ fn damaged(random: &mut Random, call: &Call, damage: usize) -> Call {
 // Steps out of range.
 
 /// Among them some whose lowest bits are those of a right step.
-const WRONG_STEPS: [usize; 14] = [
-    0,
-    4,
-    5,
-    6,
-    7,
-    8,
-    63,
-    64,
-    64 + 1,
-    256 + 2,
-    (1 << 16) + 3,
-    (1 << 32) + 1,
-    1 << 63,
-    usize::MAX,
-];
+const WRONG_STEPS: [usize; 14] =
+    [0, 4, 5, 6, 7, 8, 63, 64, 64 + 1, 256 + 2, (1 << 16) + 3, (1 << 32) + 1, 1 << 63, usize::MAX];
 
 /// With lists as each step that there is asks for them, and as the wrong one
 /// does.
@@ -495,10 +477,7 @@ pub fn of_every_sort(random: &mut Random, turns: usize) -> Vec<Call> {
 pub fn with_other_answers(random: &mut Random) -> Vec<Call> {
     let mut calls = Vec::new();
     for call in of_every_sort(random, 1) {
-        calls.extend(other_answer_lengths().map(|answer| Call {
-            answer,
-            ..call.clone()
-        }));
+        calls.extend(other_answer_lengths().map(|answer| Call { answer, ..call.clone() }));
     }
     calls
 }
@@ -686,9 +665,7 @@ mod tests {
         }
         let places =
             |step| cosets::all_places(dimensions(step, largest)).map(move |all| (step, all));
-        let all = STEPS
-            .flat_map(places)
-            .map(|(step, (k, place))| (step, k, place));
+        let all = STEPS.flat_map(places).map(|(step, (k, place))| (step, k, place));
         let due = all.filter(|&(_, _, place)| place >= lowest);
         assert_eq!(met, due.collect());
     }
@@ -751,14 +728,10 @@ mod tests {
         let lists = [1, 3, 6, 7].map(|list| (13, Some(list)));
         let others = [(4, None), (6, None), (7, None)];
         assert_eq!(causes, lists.into_iter().chain(others).collect());
-        let dependent = calls
-            .iter()
-            .filter(|call| refusal(call).is_err_and(|answer| answer.number == 8));
+        let dependent =
+            calls.iter().filter(|call| refusal(call).is_err_and(|answer| answer.number == 8));
         assert_eq!(dependent.count(), 11);
-        assert_eq!(
-            calls.iter().filter(|call| refusal(call).is_ok()).count(),
-            22
-        );
+        assert_eq!(calls.iter().filter(|call| refusal(call).is_ok()).count(), 22);
     }
 
     #[test]

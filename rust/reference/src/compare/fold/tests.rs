@@ -83,26 +83,17 @@ fn differing(library: &Library) -> Vec<&'static str> {
 
 type Names = &'static [&'static str];
 
-const SMALL: Names = &[
-    "fold with step 1, k 2 to 6",
-    "fold with step 2, k 2 to 6",
-    "fold with step 3, k 3 to 6",
-];
-const LARGE: Names = &[
-    "fold with step 1, k 7 to 12",
-    "fold with step 2, k 7 to 12",
-    "fold with step 3, k 7 to 12",
-];
+const SMALL: Names =
+    &["fold with step 1, k 2 to 6", "fold with step 2, k 2 to 6", "fold with step 3, k 3 to 6"];
+const LARGE: Names =
+    &["fold with step 1, k 7 to 12", "fold with step 2, k 7 to 12", "fold with step 3, k 7 to 12"];
 const WHOLE: Names = &["fold, k 13 to 16"];
 const SAMPLED: Names = &["fold, k 20, some entries"];
 const ALL_ONES: Names = &["fold, the next offset all ones"];
 const AT_POINTS: Names = &["the fold at a point is the word there"];
 const LOW_DEGREES: Names = &["the fold of a low degree has a low degree"];
-const IN_TWO: Names = &[
-    "step 2 is step 1 twice",
-    "step 3 is step 1, then step 2",
-    "step 3 is step 2, then step 1",
-];
+const IN_TWO: Names =
+    &["step 2 is step 1 twice", "step 3 is step 1, then step 2", "step 3 is step 2, then step 1"];
 const SUMS_OF_WORDS: Names = &["the fold of u + v is that of u + that of v"];
 const K_OUT_AND_DAMAGED: Names = &["fold, k out of range and damaged"];
 const K_OUT: Names = &["fold, k out of range"];
@@ -124,10 +115,7 @@ const CASE_D: Names = &["case D of table A"];
 const CASE_F: Names = &["case F of table A, the fold"];
 const CASE_J: Names = &["case J of table A, the fold"];
 const CASE_J_ALL: Names = &["case J of table A, 2 alone is exceptional"];
-const CASE_K: Names = &[
-    "case K of table A, the first fold",
-    "case K of table A, the second fold",
-];
+const CASE_K: Names = &["case K of table A, the first fold", "case K of table A, the second fold"];
 const CASE_M: Names = &["case M of table A, fold"];
 
 /// In the order of the report.
@@ -251,11 +239,7 @@ fn every_comparison_fails_for_some_wrong_library() {
 
 #[test]
 fn a_library_that_does_nothing() {
-    let wrong = Library {
-        fold: |_, _, _| refused(0),
-        fold_into: |_, _, _, _| (),
-        ..RIGHT
-    };
+    let wrong = Library { fold: |_, _, _| refused(0), fold_into: |_, _, _, _| (), ..RIGHT };
     assert_differing(&wrong, &all_but(&[OTHER_ANSWER]));
 }
 
@@ -306,10 +290,8 @@ fn with_entries(
 /// Lagrange's interpolant through the points of these indices, at the challenge.
 fn at_challenge(given: Fold, indices: impl Iterator<Item = usize>) -> u64 {
     let indices: Vec<usize> = indices.collect();
-    let points: Vec<u64> = indices
-        .iter()
-        .map(|&index| point(given.offset, given.basis, index as u64))
-        .collect();
+    let points: Vec<u64> =
+        indices.iter().map(|&index| point(given.offset, given.basis, index as u64)).collect();
     let word: Vec<u64> = indices.iter().map(|&index| given.word[index]).collect();
     value(&interpolant(&points, &word), given.challenge)
 }
@@ -333,11 +315,7 @@ fn entries_are_paired_with_those_half_the_length_away() {
 /// The points of a fold do as if the basis were 1, 2, 4.. and the offset zero.
 fn points_from_0(given: Fold, values: &mut [u64], next_basis: &mut [u64]) -> Answer {
     let powers: Vec<u64> = (0..given.k.min(20)).map(|place| 1 << place).collect();
-    let other = Fold {
-        offset: 0,
-        basis: &powers,
-        ..given
-    };
+    let other = Fold { offset: 0, basis: &powers, ..given };
     instead(given, other, values, next_basis)
 }
 
@@ -367,10 +345,7 @@ fn the_offset_is_ignored() {
 /// The fold is right, but the next offset is q(0).
 fn forgetting_the_offset(given: Fold, values: &mut [u64], next_basis: &mut [u64]) -> Answer {
     let answer = right(given, values, next_basis);
-    Answer {
-        value: answer.value.map(|_| 0),
-        ..answer
-    }
+    Answer { value: answer.value.map(|_| 0), ..answer }
 }
 
 #[test]
@@ -384,10 +359,7 @@ fn the_next_offset_forgets_the_offset() {
 fn the_next_offset_is_the_offset() {
     let wrong = library!(|given, values, next_basis| {
         let answer = right(given, values, next_basis);
-        Answer {
-            value: answer.value.map(|_| given.offset),
-            ..answer
-        }
+        Answer { value: answer.value.map(|_| given.offset), ..answer }
     });
     let due = [RIGHT_CALLS, &[IN_TWO, SAFE, CASE_D]].concat();
     assert_differing(&wrong, &due);
@@ -418,10 +390,7 @@ fn q_vanishes_at_the_basis_elements_alone() {
                 *next = image(b);
             }
         });
-        Answer {
-            value: answer.value.map(|_| image(given.offset)),
-            ..answer
-        }
+        Answer { value: answer.value.map(|_| image(given.offset)), ..answer }
     });
     assert_among(&wrong, &[&SMALL[1..], IN_TWO], &[&SMALL[..1]]);
 }
@@ -448,10 +417,7 @@ fn the_step_is_ignored() {
 #[test]
 fn the_challenge_is_ignored() {
     let wrong = library!(|given, values, next_basis| {
-        let other = Fold {
-            challenge: 0,
-            ..given
-        };
+        let other = Fold { challenge: 0, ..given };
         instead(given, other, values, next_basis)
     });
     let differ = [RIGHT_CALLS, &[AT_POINTS, SAFE, CASE_F, CASE_J]].concat();
@@ -463,10 +429,7 @@ fn the_challenge_is_ignored() {
 #[test]
 fn the_top_bit_of_the_challenge_is_lost() {
     let wrong = library!(|given, values, next_basis| {
-        let other = Fold {
-            challenge: given.challenge & (u64::MAX >> 1),
-            ..given
-        };
+        let other = Fold { challenge: given.challenge & (u64::MAX >> 1), ..given };
         instead(given, other, values, next_basis)
     });
     let shown = smallest(&small_cosets(&wrong, &FEW), SMALL[0]);
@@ -526,10 +489,7 @@ fn a_number_is_added_to_the_first_entry() {
 fn only_the_lower_half_of_the_word_is_folded() {
     let wrong = library!(|given, values, next_basis| {
         let halves = lower_halves(given.word);
-        let other = Fold {
-            word: &halves,
-            ..given
-        };
+        let other = Fold { word: &halves, ..given };
         instead(given, other, values, next_basis)
     });
     let differ = [RIGHT_CALLS, &[AT_POINTS]].concat();
@@ -551,11 +511,7 @@ fn wrong_from<const K: usize>(given: Fold, values: &mut [u64], next_basis: &mut 
 
 #[test]
 fn only_large_folds_are_wrong() {
-    let large = Amounts {
-        whole: &[8],
-        sampled: &[9],
-        ..FEW
-    };
+    let large = Amounts { whole: &[8], sampled: &[9], ..FEW };
     let differing = |library| wrong::differing(&comparisons(library, &large));
     let wrong = library!(wrong_from::<9>);
     assert_eq!(differing(&wrong), SAMPLED);
@@ -581,10 +537,7 @@ fn samples_lie_far_apart() {
 /// Here some entries are left out on both sides.
 #[test]
 fn samples_agree_with_the_reference() {
-    let large = Amounts {
-        sampled: &[10],
-        ..FEW
-    };
+    let large = Amounts { sampled: &[10], ..FEW };
     assert!(sampled_folds(&RIGHT, &large).agrees());
     let wrong = library!(wrong_from::<10>);
     assert!(!sampled_folds(&wrong, &large).agrees());
@@ -609,10 +562,7 @@ fn a_degree_shows_a_wrong_code() {
         ..RIGHT
     };
     assert_differing(&encode, &[LOW_DEGREES]);
-    let interpolate = Library {
-        interpolate: |_, _, _, _| refused(4),
-        ..RIGHT
-    };
+    let interpolate = Library { interpolate: |_, _, _, _| refused(4), ..RIGHT };
     assert_differing(&interpolate, &[LOW_DEGREES]);
 }
 
@@ -834,13 +784,7 @@ const SAFELY: &[Names] = &[
 
 #[test]
 fn a_number_of_the_answer_is_left_unwritten() {
-    let wrong: [CCall; 5] = [
-        leaving::<0>,
-        leaving::<1>,
-        leaving::<2>,
-        leaving::<3>,
-        leaving::<4>,
-    ];
+    let wrong: [CCall; 5] = [leaving::<0>, leaving::<1>, leaving::<2>, leaving::<3>, leaving::<4>];
     let due = all_but(&[&[OTHER_ANSWER], SAFELY].concat());
     for fold_into in wrong {
         let library = Library { fold_into, ..RIGHT };
@@ -872,10 +816,7 @@ fn one_of_the_five_numbers_is_wrong() {
 
 #[test]
 fn only_a_safe_call_is_wrong() {
-    let wrong = Library {
-        fold: library!(changing::<4>).fold,
-        ..RIGHT
-    };
+    let wrong = Library { fold: library!(changing::<4>).fold, ..RIGHT };
     let due = [IN_TWO, SAFE, CASE_D, CASE_F, CASE_J, CASE_K, CASE_M];
     assert_differing(&wrong, &due);
 }
@@ -932,12 +873,7 @@ fn first_of_all(
 /// lists have the nearest there is.
 fn causes(given: Fold, values: &[u64], next_basis: &[u64]) -> Vec<Answer> {
     let Fold { k, step, .. } = given;
-    let lengths = [
-        given.basis.len(),
-        given.word.len(),
-        values.len(),
-        next_basis.len(),
-    ];
+    let lengths = [given.basis.len(), given.word.len(), values.len(), next_basis.len()];
     let mut all = Vec::new();
     all.extend((!(2..=20).contains(&k)).then(|| refused(4)));
     all.extend((!(1..=3).contains(&step)).then(|| refused(6)));
@@ -1238,10 +1174,7 @@ fn large_dimensions_are_not_tried_once_they_are_taken() {
 /// Takes the lower bits of the dimension for all of it, but does no work for
 /// what is out of range. Damaged calls are refused, so that right ones are tried.
 fn cut_to<const BITS: u32>(given: Fold, values: &mut [u64], next_basis: &mut [u64]) -> Answer {
-    let cut = Fold {
-        k: given.k % (1 << BITS),
-        ..given
-    };
+    let cut = Fold { k: given.k % (1 << BITS), ..given };
     if is_refused(given, values, next_basis) && !is_refused(cut, values, next_basis) {
         went_well(0)
     } else {
@@ -1296,10 +1229,7 @@ fn a_step_out_of_range_is_taken() {
 }
 
 fn step_cut_to<const BITS: u32>(given: Fold, values: &mut [u64], next_basis: &mut [u64]) -> Answer {
-    let cut = Fold {
-        step: given.step % (1 << BITS),
-        ..given
-    };
+    let cut = Fold { step: given.step % (1 << BITS), ..given };
     right(cut, values, next_basis)
 }
 
@@ -1362,10 +1292,7 @@ fn a_dimension_below_the_step_has_another_number() {
 fn another_challenge_is_exceptional() {
     let wrong = library!(|given, values, next_basis| {
         let exceptional = given.challenge == 1 << 40;
-        let other = Fold {
-            challenge: if exceptional { 2 } else { given.challenge },
-            ..given
-        };
+        let other = Fold { challenge: if exceptional { 2 } else { given.challenge }, ..given };
         instead(given, other, values, next_basis)
     });
     assert_differing(&wrong, &[CASE_J_ALL]);

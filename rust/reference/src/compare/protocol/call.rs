@@ -76,13 +76,7 @@ pub enum List {
 }
 
 /// In the order of their numbers.
-pub const LISTS: [List; 5] = [
-    List::Basis,
-    List::Challenges,
-    List::Word,
-    List::Store,
-    List::Last,
-];
+pub const LISTS: [List; 5] = [List::Basis, List::Challenges, List::Word, List::Store, List::Last];
 
 /// The largest dimension that lists are made for.
 const LARGEST_OF_LISTS: u64 = LARGEST_K + 1;
@@ -96,11 +90,7 @@ impl List {
     /// can be computed for.
     pub fn right_length(self, parameters: Parameters) -> usize {
         let k = parameters.k.min(LARGEST_OF_LISTS);
-        let nearest = Parameters {
-            k,
-            rate: parameters.rate.min(k),
-            step: parameters.step.max(1),
-        };
+        let nearest = Parameters { k, rate: parameters.rate.min(k), step: parameters.step.max(1) };
         match self {
             List::Basis => k as usize,
             List::Challenges => nearest.rounds() as usize,
@@ -156,10 +146,7 @@ impl Call {
     }
 
     pub fn with_queries(&self, queries: Vec<u64>) -> Call {
-        Call {
-            queries,
-            ..self.clone()
-        }
+        Call { queries, ..self.clone() }
     }
 
     pub fn without_lists(&self) -> Call {
@@ -230,12 +217,9 @@ impl Call {
     /// Lists are as much too long or too short as they were. Small ones are made
     /// honest as well, for a difference that only an accepted run shows.
     fn with_lower_parameters(&self) -> Vec<Call> {
-        let fitted = [
-            self.with_lower_dimensions(),
-            self.with_lower_rates(),
-            self.with_lower_steps(),
-        ]
-        .concat();
+        let fitted =
+            [self.with_lower_dimensions(), self.with_lower_rates(), self.with_lower_steps()]
+                .concat();
         let small = fitted.iter().filter(|call| call.is_small()).cloned();
         let honest: Vec<Call> = small.filter_map(Call::made_honest).collect();
         [fitted, honest].concat()
@@ -266,10 +250,7 @@ impl Call {
     /// are any. Queries in range stay so.
     fn without(&self, places: Range<usize>) -> Call {
         let before = self.run.parameters;
-        let now = Parameters {
-            k: before.k - places.len() as u64,
-            ..before
-        };
+        let now = Parameters { k: before.k - places.len() as u64, ..before };
         let mut call = self.fitted_to(now);
         let kept = (0..self.run.basis.len()).filter(|place| !places.contains(place));
         call.run.basis = kept.map(|place| self.run.basis[place]).collect();
@@ -323,11 +304,7 @@ impl Call {
                 List::Store => simpler_lists(numbers, false),
                 _ => simpler_lists(numbers, true),
             };
-            all.extend(
-                simpler
-                    .into_iter()
-                    .map(|numbers| self.with_list(list, numbers)),
-            );
+            all.extend(simpler.into_iter().map(|numbers| self.with_list(list, numbers)));
         }
         all
     }

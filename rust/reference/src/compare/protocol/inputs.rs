@@ -16,12 +16,7 @@ use crate::random::Random;
 
 /// The call of a run, with no query.
 pub fn call_of(random: &mut Random, run: Run) -> Call {
-    Call {
-        run,
-        queries: Vec::new(),
-        answer: ANSWER_LENGTH,
-        fill: FILLS[random.below(2)],
-    }
+    Call { run, queries: Vec::new(), answer: ANSWER_LENGTH, fill: FILLS[random.below(2)] }
 }
 
 /// A run over a coset and with challenges, the rest of which is zeros.

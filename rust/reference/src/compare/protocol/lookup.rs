@@ -2,12 +2,12 @@
 
 use super::call::{show_parameters, List, LARGEST_K};
 use super::{Amounts, Layer, LayerInto, Library};
+use crate::answer::Answer;
 use crate::answer::{raw, ANSWER_LENGTH};
 use crate::compare::lent::{other_answer_lengths, Lent, APART, FILLS};
 use crate::compare::lists::show_elements;
 use crate::compare::{compare, Comparison, Input, Show, REFERENCE_AND_LIBRARY};
 use crate::parameters::{all_up_to, Parameters};
-use razgwilh::Answer;
 use std::ops::Range;
 
 /// What is given to a lookup. The store holds numbers that all differ, so that the
@@ -36,22 +36,13 @@ impl Lookup {
     }
 
     fn with_parameters(&self, parameters: Parameters) -> Lookup {
-        Lookup {
-            parameters,
-            ..self.clone()
-        }
+        Lookup { parameters, ..self.clone() }
     }
 }
 
 impl Show for Lookup {
     fn show(&self) -> String {
-        let Lookup {
-            store,
-            layer,
-            answer,
-            fill,
-            ..
-        } = self;
+        let Lookup { store, layer, answer, fill, .. } = self;
         let parameters = show_parameters(self.parameters);
         format!(
             "{parameters}; store of length {store}; layer {layer}; answer of length {answer}, \
@@ -87,14 +78,8 @@ impl Input for Lookup {
         parameters
             .map(|parameters| self.with_parameters(parameters))
             .chain(fitting)
-            .chain(stores.map(|store| Lookup {
-                store: store as usize,
-                ..self.clone()
-            }))
-            .chain(layers.map(|layer| Lookup {
-                layer,
-                ..self.clone()
-            }))
+            .chain(stores.map(|store| Lookup { store: store as usize, ..self.clone() }))
+            .chain(layers.map(|layer| Lookup { layer, ..self.clone() }))
             .collect()
     }
 }
@@ -109,22 +94,15 @@ pub(super) fn comparisons(library: &Library, amounts: &Amounts) -> Vec<Compariso
         lookups("layer, other layers", other_layers(every)),
         lookups("layer, stores of other lengths", other_stores(every)),
         lookups("layer, bad parameters", bad_parameters()),
-        lookups(
-            "layer with an answer list of another length",
-            other_answers(),
-        ),
+        lookups("layer with an answer list of another length", other_answers()),
         safe_lookups(library.layer, every),
     ]
 }
 
 fn lookups(layer_into: LayerInto, name: &'static str, inputs: Vec<Lookup>) -> Comparison {
-    compare(
-        name,
-        inputs,
-        REFERENCE_AND_LIBRARY,
-        after_reference,
-        |lookup| after_library(lookup, layer_into),
-    )
+    compare(name, inputs, REFERENCE_AND_LIBRARY, after_reference, |lookup| {
+        after_library(lookup, layer_into)
+    })
 }
 
 /// Place and value are always there, those of the empty part too.
@@ -170,12 +148,8 @@ impl Show for Part {
 }
 
 fn safe_lookups(layer: Layer, largest_k: u64) -> Comparison {
-    let inputs = [
-        all_layers(largest_k),
-        other_layers(largest_k),
-        other_stores(largest_k),
-        bad_parameters(),
-    ];
+    let inputs =
+        [all_layers(largest_k), other_layers(largest_k), other_stores(largest_k), bad_parameters()];
     compare(
         "layer, safe calls",
         inputs.concat(),
@@ -233,19 +207,11 @@ fn other_stores(largest_k: u64) -> Vec<Lookup> {
         let right = parameters.store_length();
         let starts = (1..r).map(|layer| parameters.layer_start(layer));
         let near = [right + 1, right + 2, 2 * right + 1, right + 1_000];
-        let below = [
-            right.saturating_sub(1),
-            right / 2,
-            0,
-            parameters.layer_length(0),
-        ];
+        let below = [right.saturating_sub(1), right / 2, 0, parameters.layer_length(0)];
         let lengths = starts.chain(near).chain(below);
         for store in lengths.filter(|&length| length != right) {
             let layers = 0..=r;
-            all.extend(layers.map(|layer| Lookup {
-                store,
-                ..lookup(parameters, layer)
-            }));
+            all.extend(layers.map(|layer| Lookup { store, ..lookup(parameters, layer) }));
         }
     }
     all
@@ -281,10 +247,7 @@ fn in_likely_stores(parameters: Parameters) -> Vec<Lookup> {
     let lengths = [parameters, nearest].map(|one| List::Store.right_length(one));
     let mut all = Vec::new();
     for store in lengths.into_iter().filter(|&length| length <= 1 << 10) {
-        let lookup = |layer| Lookup {
-            store,
-            ..lookup(parameters, layer)
-        };
+        let lookup = |layer| Lookup { store, ..lookup(parameters, layer) };
         all.extend([0, 1, 2].map(lookup));
     }
     all
@@ -293,10 +256,7 @@ fn in_likely_stores(parameters: Parameters) -> Vec<Lookup> {
 fn other_answers() -> Vec<Lookup> {
     let few = [all_layers(5), other_layers(3), other_stores(4)].concat();
     let with = |lookup: Lookup| {
-        other_answer_lengths().map(move |answer| Lookup {
-            answer,
-            ..lookup.clone()
-        })
+        other_answer_lengths().map(move |answer| Lookup { answer, ..lookup.clone() })
     };
     few.into_iter().flat_map(with).collect()
 }
@@ -309,16 +269,9 @@ mod tests {
     fn all_layers_have_their_part() {
         let lookups = all_layers(6);
         assert!(lookups.iter().all(|lookup| !lookup.part().is_empty()));
-        let four = Parameters {
-            k: 4,
-            rate: 1,
-            step: 1,
-        };
-        let parts: Vec<Range<usize>> = lookups
-            .iter()
-            .filter(|lookup| lookup.parameters == four)
-            .map(Lookup::part)
-            .collect();
+        let four = Parameters { k: 4, rate: 1, step: 1 };
+        let parts: Vec<Range<usize>> =
+            lookups.iter().filter(|lookup| lookup.parameters == four).map(Lookup::part).collect();
         assert_eq!(parts, [0..8, 8..12]);
     }
 
@@ -343,11 +296,7 @@ mod tests {
 
     #[test]
     fn a_lookup_is_shown_in_full() {
-        let four = Parameters {
-            k: 4,
-            rate: 1,
-            step: 1,
-        };
+        let four = Parameters { k: 4, rate: 1, step: 1 };
         assert_eq!(
             lookup(four, 2).show(),
             "k 4; rate 1; step 1; store of length 12; layer 2; answer of length 5, \

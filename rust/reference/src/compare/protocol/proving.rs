@@ -5,13 +5,13 @@ use super::inputs::known::{self, Known};
 use super::inputs::{all_queries, right};
 use super::{proofs, safe_proof, safe_proof_of_library, verdict_of_library};
 use super::{Amounts, Library, Outcome, Output};
+use crate::answer::Answer;
 use crate::answer::{accepted, done, refused_at, DEGREE_TOO_HIGH};
 use crate::compare::lists::show_elements;
 use crate::compare::protocol::call::Call;
 use crate::compare::{compare, Comparison, Show, PAPER_AND_LIBRARY};
 use crate::protocol::{honest_layers, may_take, prove, Run, QUERY_COUNTS};
 use crate::random::Random;
-use razgwilh::Answer;
 
 pub(super) fn comparisons(library: &Library, amounts: &Amounts) -> Vec<Comparison> {
     vec![
@@ -80,10 +80,7 @@ fn write_known(run: &Run, degree: usize, output: &mut Output) -> Answer {
         return done();
     }
     let degree = degree as u64;
-    Answer {
-        value: Some(degree),
-        ..refused_at(DEGREE_TOO_HIGH, degree)
-    }
+    Answer { value: Some(degree), ..refused_at(DEGREE_TOO_HIGH, degree) }
 }
 
 // Against the library itself.

@@ -37,20 +37,11 @@ fn both<I: IntoIterator<Item = Call>>(
 
 fn parameters(library: &Library, amounts: &Amounts) -> Vec<Comparison> {
     let names = ["prove, rate out of range", "judge, rate out of range"];
-    let rates = both(library, names, |random| {
-        refused::rate_out_of_range(random, amounts.wrong)
-    });
+    let rates = both(library, names, |random| refused::rate_out_of_range(random, amounts.wrong));
     let names = ["prove, step out of range", "judge, step out of range"];
-    let steps = both(library, names, |random| {
-        refused::step_out_of_range(random, amounts.wrong)
-    });
-    let names = [
-        "prove, k below rate plus step",
-        "judge, k below rate plus step",
-    ];
-    let too_small = both(library, names, |mut random| {
-        refused::k_too_small(&mut random)
-    });
+    let steps = both(library, names, |random| refused::step_out_of_range(random, amounts.wrong));
+    let names = ["prove, k below rate plus step", "judge, k below rate plus step"];
+    let too_small = both(library, names, |mut random| refused::k_too_small(&mut random));
     [k_out_of_range(library, amounts), rates, steps, too_small].concat()
 }
 
@@ -58,10 +49,7 @@ fn parameters(library: &Library, amounts: &Amounts) -> Vec<Comparison> {
 /// which all else is right. So these are made of the first dimension alone if it
 /// has been seen to take damaged ones.
 fn k_out_of_range(library: &Library, amounts: &Amounts) -> Vec<Comparison> {
-    let names = [
-        "prove, k out of range and damaged",
-        "judge, k out of range and damaged",
-    ];
+    let names = ["prove, k out of range and damaged", "judge, k out of range and damaged"];
     let damaged = both(library, names, |random| {
         refused::k_out_of_range_and_damaged(random, amounts.out_of_range)
     });
@@ -71,9 +59,7 @@ fn k_out_of_range(library: &Library, amounts: &Amounts) -> Vec<Comparison> {
         &amounts.out_of_range[..1]
     };
     let names = ["prove, k out of range", "judge, k out of range"];
-    let right = both(library, names, |random| {
-        refused::k_out_of_range(random, dimensions)
-    });
+    let right = both(library, names, |random| refused::k_out_of_range(random, dimensions));
     [damaged, right].concat()
 }
 
@@ -81,14 +67,9 @@ fn k_out_of_range(library: &Library, amounts: &Amounts) -> Vec<Comparison> {
 
 fn lists(library: &Library, amounts: &Amounts) -> Vec<Comparison> {
     let of_list = |(list, names)| {
-        both(library, names, |random| {
-            refused::list_wrong(random, list, amounts.wrong)
-        })
+        both(library, names, |random| refused::list_wrong(random, list, amounts.wrong))
     };
-    let names = [
-        "prove, several lists of wrong lengths",
-        "judge, several lists of wrong lengths",
-    ];
+    let names = ["prove, several lists of wrong lengths", "judge, several lists of wrong lengths"];
     let several = both(library, names, |random| {
         refused::several_lists_wrong(random, amounts.several_lists, amounts.wrong)
     });
@@ -97,41 +78,11 @@ fn lists(library: &Library, amounts: &Amounts) -> Vec<Comparison> {
 }
 
 const NAMES_OF_LISTS: [(List, [&str; 2]); 5] = [
-    (
-        List::Basis,
-        [
-            "prove, list 1 of a wrong length",
-            "judge, list 1 of a wrong length",
-        ],
-    ),
-    (
-        List::Challenges,
-        [
-            "prove, list 2 of a wrong length",
-            "judge, list 2 of a wrong length",
-        ],
-    ),
-    (
-        List::Word,
-        [
-            "prove, list 3 of a wrong length",
-            "judge, list 3 of a wrong length",
-        ],
-    ),
-    (
-        List::Store,
-        [
-            "prove, list 4 of a wrong length",
-            "judge, list 4 of a wrong length",
-        ],
-    ),
-    (
-        List::Last,
-        [
-            "prove, list 5 of a wrong length",
-            "judge, list 5 of a wrong length",
-        ],
-    ),
+    (List::Basis, ["prove, list 1 of a wrong length", "judge, list 1 of a wrong length"]),
+    (List::Challenges, ["prove, list 2 of a wrong length", "judge, list 2 of a wrong length"]),
+    (List::Word, ["prove, list 3 of a wrong length", "judge, list 3 of a wrong length"]),
+    (List::Store, ["prove, list 4 of a wrong length", "judge, list 4 of a wrong length"]),
+    (List::Last, ["prove, list 5 of a wrong length", "judge, list 5 of a wrong length"]),
 ];
 
 // Bases.
@@ -142,29 +93,17 @@ fn bases(library: &Library, amounts: &Amounts) -> Vec<Comparison> {
         both(library, names, |mut random| inputs(&mut random, largest))
     };
     [
+        dependent(["prove, zero in the basis", "judge, zero in the basis"], refused::zero_elements),
         dependent(
-            ["prove, zero in the basis", "judge, zero in the basis"],
-            refused::zero_elements,
-        ),
-        dependent(
-            [
-                "prove, a repeated basis element",
-                "judge, a repeated basis element",
-            ],
+            ["prove, a repeated basis element", "judge, a repeated basis element"],
             refused::repeated_elements,
         ),
         dependent(
-            [
-                "prove, a sum of earlier basis elements",
-                "judge, a sum of earlier basis elements",
-            ],
+            ["prove, a sum of earlier basis elements", "judge, a sum of earlier basis elements"],
             refused::sums_of_elements,
         ),
         dependent(
-            [
-                "prove, a basis dependent at two places",
-                "judge, a basis dependent at two places",
-            ],
+            ["prove, a basis dependent at two places", "judge, a basis dependent at two places"],
             refused::two_dependent_places,
         ),
     ]
@@ -192,9 +131,7 @@ fn other_answers(library: &Library) -> Vec<Comparison> {
         "prove with an answer list of another length",
         "judge with an answer list of another length",
     ];
-    both(library, names, |mut random| {
-        refused::with_other_answers(&mut random)
-    })
+    both(library, names, |mut random| refused::with_other_answers(&mut random))
 }
 
 fn safe_calls(library: &Library, amounts: &Amounts) -> Vec<Comparison> {
@@ -208,12 +145,8 @@ fn safe_calls(library: &Library, amounts: &Amounts) -> Vec<Comparison> {
         |call| safe_proof_of_library(call, library.prove),
     );
     let name = "judge, safe calls";
-    let judgings = compare(
-        name,
-        inputs(name),
-        REFERENCE_AND_LIBRARY,
-        verdict_due,
-        |call| verdict_of_library(call, library.judge),
-    );
+    let judgings = compare(name, inputs(name), REFERENCE_AND_LIBRARY, verdict_due, |call| {
+        verdict_of_library(call, library.judge)
+    });
     vec![proofs, judgings]
 }

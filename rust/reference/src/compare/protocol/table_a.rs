@@ -3,6 +3,7 @@
 use super::call::{Call, List};
 use super::{safe_proof, safe_proof_of_library, verdict_of_library, with};
 use super::{Amounts, Library, Output};
+use crate::answer::Answer;
 use crate::answer::{accepted, done, failed, refused, refused_at, ANSWER_LENGTH};
 use crate::cases::{
     of_case_f, of_case_h, of_case_j, of_case_k, of_case_l, queries_of_case_p, stretched,
@@ -13,7 +14,6 @@ use crate::compare::lent::FILLS;
 use crate::compare::{compare, Comparison, Input, Show, PAPER_AND_LIBRARY};
 use crate::protocol::Run;
 use crate::random::Random;
-use razgwilh::Answer;
 
 pub(super) fn comparisons(library: &Library, amounts: &Amounts) -> Vec<Comparison> {
     [
@@ -62,19 +62,11 @@ struct Proof {
 }
 
 fn writes(store: &[u64], last: &[u64]) -> Proof {
-    Proof {
-        answer: done(),
-        store: Some(store.to_vec()),
-        last: Some(last.to_vec()),
-    }
+    Proof { answer: done(), store: Some(store.to_vec()), last: Some(last.to_vec()) }
 }
 
 fn leaves(answer: Answer) -> Proof {
-    Proof {
-        answer,
-        store: None,
-        last: None,
-    }
+    Proof { answer, store: None, last: None }
 }
 
 impl Proof {
@@ -110,12 +102,8 @@ fn verdicts(library: &Library, name: &'static str, cases: Vec<Case<Answer>>) -> 
 }
 
 fn case<D>(run: &Run, queries: &[u64], due: D) -> Case<D> {
-    let call = Call {
-        run: run.clone(),
-        queries: queries.to_vec(),
-        answer: ANSWER_LENGTH,
-        fill: FILLS[0],
-    };
+    let call =
+        Call { run: run.clone(), queries: queries.to_vec(), answer: ANSWER_LENGTH, fill: FILLS[0] };
     Case { call, due }
 }
 
@@ -136,10 +124,7 @@ fn cases_g_to_i(library: &Library) -> Comparison {
 }
 
 fn case_j(library: &Library) -> Comparison {
-    let too_high = Answer {
-        value: Some(1),
-        ..refused_at(12, 1)
-    };
+    let too_high = Answer { value: Some(1), ..refused_at(12, 1) };
     let cases = vec![
         case(&of_case_j(4), &[], leaves(too_high)),
         case(&of_case_j(2), &[], writes(&[], &[0])),
@@ -183,10 +168,7 @@ fn case_k(library: &Library) -> Vec<Comparison> {
 
 fn case_l(library: &Library) -> Comparison {
     let run = of_case_l();
-    let cases = vec![
-        case(&run, &[0], failed(0, 0, 4)),
-        case(&run, &[7], accepted(4)),
-    ];
+    let cases = vec![case(&run, &[0], failed(0, 0, 4)), case(&run, &[7], accepted(4))];
     verdicts(library, "case L of table A", cases)
 }
 
@@ -197,14 +179,9 @@ fn case_l(library: &Library) -> Comparison {
 fn case_o(library: &Library) -> Vec<Comparison> {
     let run = stretched(with(20, 6, 3), &[7, 6, 5, 4]);
     let queries: Vec<u64> = (0..256).map(|point| (point << 12) + 16 * point).collect();
-    let beyond = Run {
-        parameters: with(21, 6, 3),
-        ..run.clone()
-    };
-    let verdict = vec![
-        case(&run, &queries, accepted(256 * 4 * 8)),
-        case(&beyond, &queries, refused(4)),
-    ];
+    let beyond = Run { parameters: with(21, 6, 3), ..run.clone() };
+    let verdict =
+        vec![case(&run, &queries, accepted(256 * 4 * 8)), case(&beyond, &queries, refused(4))];
     let mut lists = vec![case(&beyond, &[], leaves(refused(4)))];
     for (list, number, right) in [(List::Challenges, 2, 4), (List::Last, 5, 4)] {
         for length in [right - 1, right + 1] {

@@ -21,10 +21,7 @@ const FEW: Amounts = Amounts {
     near_bounds: [0, 0, 1, 1, 1, 0, 0, 0, 0, 0],
     exceptional: [0, 0, 2, 2, 2, 0, 0, 0, 0, 0],
     whole: &[5],
-    known: &[
-        (with(5, 2, 1), Others::Multiples),
-        (with(5, 1, 2), Others::Any),
-    ],
+    known: &[(with(5, 2, 1), Others::Multiples), (with(5, 1, 2), Others::Any)],
     honest: [0, 0, 7, 4, 4, 0, 0, 0, 0, 0],
     each_damaged: [3, 3],
     damaged: [0, 0, 2, 2, 2, 0, 0, 0, 0, 0],
@@ -101,10 +98,7 @@ fn right_part(parameters: Parameters, store: usize, i: u64) -> Range<usize> {
 }
 
 fn part_as_answer(part: Range<usize>) -> Answer {
-    Answer {
-        place: Some(part.start as u64),
-        ..crate::answer::went_well(part.len() as u64)
-    }
+    Answer { place: Some(part.start as u64), ..crate::answer::went_well(part.len() as u64) }
 }
 
 // Libraries of which one operation is another. They are macros because functions
@@ -244,12 +238,7 @@ fn assert_smallest(library: &Library, name: &str, start: &str) {
 /// The names of all comparisons. These are run once, since that takes its time.
 fn names() -> Vec<&'static str> {
     static NAMES: OnceLock<Vec<&str>> = OnceLock::new();
-    let run = || {
-        comparisons(&RIGHT, &FEW)
-            .iter()
-            .map(|one| one.name)
-            .collect()
-    };
+    let run = || comparisons(&RIGHT, &FEW).iter().map(|one| one.name).collect();
     NAMES.get_or_init(run).clone()
 }
 
@@ -301,9 +290,6 @@ fn a_library_that_does_nothing() {
         "judge with an answer list of another length",
         "layer with an answer list of another length",
     ];
-    let due: Vec<&str> = names()
-        .into_iter()
-        .filter(|name| !agreeing.contains(name))
-        .collect();
+    let due: Vec<&str> = names().into_iter().filter(|name| !agreeing.contains(name)).collect();
     assert_differing(&wrong, &due);
 }

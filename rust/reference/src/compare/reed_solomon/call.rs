@@ -76,31 +76,19 @@ impl Input for Call {
 
 impl Call {
     fn with_offset(&self, offset: u64) -> Call {
-        Call {
-            offset,
-            ..self.clone()
-        }
+        Call { offset, ..self.clone() }
     }
 
     fn with_basis(&self, basis: Vec<u64>) -> Call {
-        Call {
-            basis,
-            ..self.clone()
-        }
+        Call { basis, ..self.clone() }
     }
 
     pub fn with_given(&self, given: Vec<u64>) -> Call {
-        Call {
-            given,
-            ..self.clone()
-        }
+        Call { given, ..self.clone() }
     }
 
     pub fn with_output(&self, output: usize) -> Call {
-        Call {
-            output,
-            ..self.clone()
-        }
+        Call { output, ..self.clone() }
     }
 
     /// With half of the basis, and with all of it but one element. A call out of
@@ -128,9 +116,7 @@ impl Call {
             lengths.push(length.min(now));
             lengths.dedup();
         }
-        let fewer = self
-            .with_basis(basis)
-            .with_output(fitted(self.output, before, now));
+        let fewer = self.with_basis(basis).with_output(fitted(self.output, before, now));
         let cut = |length| fewer.with_given(self.given[..length].to_vec());
         lengths.into_iter().map(cut).collect()
     }
@@ -145,24 +131,12 @@ fn points(k: usize) -> usize {
 mod tests {
     use super::*;
 
-    const CALL: Call = Call {
-        offset: 0,
-        basis: Vec::new(),
-        given: Vec::new(),
-        output: 0,
-        answer: 5,
-        fill: 0x100,
-    };
+    const CALL: Call =
+        Call { offset: 0, basis: Vec::new(), given: Vec::new(), output: 0, answer: 5, fill: 0x100 };
 
     #[test]
     fn a_call_is_shown_in_full() {
-        let call = Call {
-            offset: 0x1b,
-            basis: vec![1, 2],
-            given: vec![7, 3],
-            output: 4,
-            ..CALL
-        };
+        let call = Call { offset: 0x1b, basis: vec![1, 2], given: vec![7, 3], output: 4, ..CALL };
         assert_eq!(
             call.show(),
             "offset 1b; basis 1, 2; list 3: 7, 3; list 6 of length 4 \

@@ -212,11 +212,7 @@ pub fn several_causes(random: &mut Random, largest: usize) -> Vec<Call> {
 /// A bit of the choice stands for the basis, one for list 3 and one for list 6.
 fn with_causes(random: &mut Random, k: usize, choice: u32) -> Call {
     let chosen = |bit: u32| (choice >> bit) & 1 == 1;
-    let mut call = if chosen(0) {
-        any_dependent(random, k)
-    } else {
-        any_full(random, k)
-    };
+    let mut call = if chosen(0) { any_dependent(random, k) } else { any_full(random, k) };
     if chosen(1) {
         call.given.push(random.number());
     }
@@ -233,10 +229,7 @@ fn one_of_each(operation: Operation, random: &mut Random, k: usize, turn: usize)
     let right = right(operation, random, k, turn);
     let full = any_full(random, k);
     let longer = random.list((1 << k) + 1);
-    let too_large = Call {
-        basis: any_basis(random, LARGEST_K + 1),
-        ..full.clone()
-    };
+    let too_large = Call { basis: any_basis(random, LARGEST_K + 1), ..full.clone() };
     vec![
         right,
         full.with_given(longer),
@@ -260,10 +253,7 @@ pub fn of_every_sort(operation: Operation, random: &mut Random, turns: usize) ->
 pub fn with_other_answers(operation: Operation, random: &mut Random) -> Vec<Call> {
     let mut calls = Vec::new();
     for call in of_every_sort(operation, random, 1) {
-        calls.extend(other_answer_lengths().map(|answer| Call {
-            answer,
-            ..call.clone()
-        }));
+        calls.extend(other_answer_lengths().map(|answer| Call { answer, ..call.clone() }));
     }
     calls
 }
@@ -321,10 +311,7 @@ mod tests {
         let due = [0, 1, 2, 8, 12, 13, 14, 15, 17, 18, 19, 20, 32];
         assert_eq!(wrong_lengths_of_list_6(4), due);
         assert_eq!(wrong_lengths_of_list_3(Operation::Interpolate, 4), due);
-        assert_eq!(
-            wrong_lengths_of_list_3(Operation::Encode, 4),
-            [17, 18, 19, 20, 32]
-        );
+        assert_eq!(wrong_lengths_of_list_3(Operation::Encode, 4), [17, 18, 19, 20, 32]);
         assert_eq!(wrong_lengths_of_list_6(0), [0, 2, 3, 4, 5]);
     }
 
@@ -397,9 +384,7 @@ mod tests {
     fn a_call_of_every_sort_is_there() {
         for operation in BOTH {
             let calls = of_every_sort(operation, &mut random(), 1);
-            let refusals = calls
-                .iter()
-                .filter_map(|call| refusal(operation, call).err());
+            let refusals = calls.iter().filter_map(|call| refusal(operation, call).err());
             let numbers: HashSet<u64> = refusals.map(|answer| answer.number).collect();
             assert_eq!(numbers, HashSet::from([4, 8, 13]));
             let right = |call: &&Call| refusal(operation, call).is_ok();

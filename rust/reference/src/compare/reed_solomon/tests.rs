@@ -13,13 +13,7 @@ const FEW: Amounts = Amounts {
     interpolations: [5, 15, 15, 15, 5, 0, 0, 1, 0, 0, 0, 0, 0],
     round_trips: [5, 15, 15, 5, 0, 0, 0, 0, 0, 0, 0, 0, 0],
     largest_damaged: 4,
-    too_large: &[
-        (13, 1 << 13),
-        (32, 1),
-        (32 + 12, 1 << 12),
-        (64, 1),
-        (256 + 12, 1 << 12),
-    ],
+    too_large: &[(13, 1 << 13), (32, 1), (32 + 12, 1 << 12), (64, 1), (256 + 12, 1 << 12)],
     safe_calls: 5,
 };
 
@@ -37,9 +31,7 @@ macro_rules! library {
             },
             encode_into: |offset, basis, given, output, answer| {
                 let operation = Operation::Encode;
-                into_five(answer, || {
-                    behave($behaviour, operation, offset, basis, given, output)
-                })
+                into_five(answer, || behave($behaviour, operation, offset, basis, given, output))
             },
             interpolate: |offset, basis, given, output| {
                 let operation = Operation::Interpolate;
@@ -47,9 +39,7 @@ macro_rules! library {
             },
             interpolate_into: |offset, basis, given, output, answer| {
                 let operation = Operation::Interpolate;
-                into_five(answer, || {
-                    behave($behaviour, operation, offset, basis, given, output)
-                })
+                into_five(answer, || behave($behaviour, operation, offset, basis, given, output))
             },
         }
     };
@@ -90,42 +80,23 @@ fn differing(library: &Library) -> Vec<&'static str> {
 
 const SMALL: [&str; 2] = ["encode, k 0 to 6", "interpolate, k 0 to 6"];
 const LARGE: [&str; 2] = ["encode, k 7 to 12", "interpolate, k 7 to 12"];
-const TRIPS: [&str; 2] = [
-    "interpolate after encode gives the coefficients",
-    "encode after interpolate gives the word",
-];
-const LIST_3: [&str; 2] = [
-    "encode, list 3 of a wrong length",
-    "interpolate, list 3 of a wrong length",
-];
-const LIST_6: [&str; 2] = [
-    "encode, list 6 of a wrong length",
-    "interpolate, list 6 of a wrong length",
-];
-const BOTH_LISTS: [&str; 2] = [
-    "encode, lists 3 and 6 of wrong lengths",
-    "interpolate, lists 3 and 6 of wrong lengths",
-];
-const ZERO: [&str; 2] = [
-    "encode, zero in the basis",
-    "interpolate, zero in the basis",
-];
-const REPEATED: [&str; 2] = [
-    "encode, a repeated basis element",
-    "interpolate, a repeated basis element",
-];
-const SUMS: [&str; 2] = [
-    "encode, a sum of earlier basis elements",
-    "interpolate, a sum of earlier basis elements",
-];
-const TWO_PLACES: [&str; 2] = [
-    "encode, a basis dependent at two places",
-    "interpolate, a basis dependent at two places",
-];
-const TOO_LARGE_AND_DAMAGED: [&str; 2] = [
-    "encode, k over 12 and damaged",
-    "interpolate, k over 12 and damaged",
-];
+const TRIPS: [&str; 2] =
+    ["interpolate after encode gives the coefficients", "encode after interpolate gives the word"];
+const LIST_3: [&str; 2] =
+    ["encode, list 3 of a wrong length", "interpolate, list 3 of a wrong length"];
+const LIST_6: [&str; 2] =
+    ["encode, list 6 of a wrong length", "interpolate, list 6 of a wrong length"];
+const BOTH_LISTS: [&str; 2] =
+    ["encode, lists 3 and 6 of wrong lengths", "interpolate, lists 3 and 6 of wrong lengths"];
+const ZERO: [&str; 2] = ["encode, zero in the basis", "interpolate, zero in the basis"];
+const REPEATED: [&str; 2] =
+    ["encode, a repeated basis element", "interpolate, a repeated basis element"];
+const SUMS: [&str; 2] =
+    ["encode, a sum of earlier basis elements", "interpolate, a sum of earlier basis elements"];
+const TWO_PLACES: [&str; 2] =
+    ["encode, a basis dependent at two places", "interpolate, a basis dependent at two places"];
+const TOO_LARGE_AND_DAMAGED: [&str; 2] =
+    ["encode, k over 12 and damaged", "interpolate, k over 12 and damaged"];
 const TOO_LARGE: [&str; 2] = ["encode, k over 12", "interpolate, k over 12"];
 const SEVERAL: [&str; 2] = ["encode, several causes", "interpolate, several causes"];
 const OTHER_ANSWER: [&str; 2] = [
@@ -133,14 +104,8 @@ const OTHER_ANSWER: [&str; 2] = [
     "interpolate with an answer list of another length",
 ];
 const SAFE: [&str; 2] = ["encode, safe calls", "interpolate, safe calls"];
-const CASE_E: [&str; 2] = [
-    "case E of table A, encode",
-    "case E of table A, interpolate",
-];
-const CASE_M: [&str; 2] = [
-    "case M of table A, encode",
-    "case M of table A, interpolate",
-];
+const CASE_E: [&str; 2] = ["case E of table A, encode", "case E of table A, interpolate"];
+const CASE_M: [&str; 2] = ["case M of table A, encode", "case M of table A, interpolate"];
 
 /// In the order of the report.
 const ALL: [[&str; 2]; 17] = [
@@ -223,10 +188,7 @@ fn instead(operation: Operation, call: &Call, other: Call, output: &mut [u64]) -
 }
 
 fn offset_ignored(operation: Operation, call: &Call, output: &mut [u64]) -> Answer {
-    let other = Call {
-        offset: 0,
-        ..call.clone()
-    };
+    let other = Call { offset: 0, ..call.clone() };
     instead(operation, call, other, output)
 }
 
@@ -246,10 +208,7 @@ fn the_points_are_0_1_2_and_so_on() {
     let wrong = library!(|operation, call, output| {
         let other = Call {
             offset: 0,
-            basis: (0..64)
-                .map(|place| 1 << place)
-                .take(call.basis.len())
-                .collect(),
+            basis: (0..64).map(|place| 1 << place).take(call.basis.len()).collect(),
             ..call.clone()
         };
         instead(operation, call, other, output)
@@ -261,10 +220,7 @@ fn the_points_are_0_1_2_and_so_on() {
 fn the_points_go_by_the_bits_from_above() {
     let wrong = library!(|operation, call, output| {
         let basis = call.basis.iter().rev().copied().collect();
-        let other = Call {
-            basis,
-            ..call.clone()
-        };
+        let other = Call { basis, ..call.clone() };
         instead(operation, call, other, output)
     });
     assert_differing(&wrong, &[SMALL, LARGE, SAFE, CASE_E]);
@@ -276,10 +232,7 @@ fn the_points_go_by_the_bits_from_above() {
 #[test]
 fn the_top_bit_of_the_offset_is_lost() {
     let wrong = library!(|operation, call, output| {
-        let other = Call {
-            offset: call.offset & (u64::MAX >> 1),
-            ..call.clone()
-        };
+        let other = Call { offset: call.offset & (u64::MAX >> 1), ..call.clone() };
         instead(operation, call, other, output)
     });
     let small = small_cosets(&wrong, &FEW);
@@ -527,23 +480,14 @@ fn leaving<const PLACE: usize>(
 
 #[test]
 fn a_number_of_the_answer_is_left_unwritten() {
-    let wrong: [CCall; 5] = [
-        leaving::<0>,
-        leaving::<1>,
-        leaving::<2>,
-        leaving::<3>,
-        leaving::<4>,
-    ];
+    let wrong: [CCall; 5] = [leaving::<0>, leaving::<1>, leaving::<2>, leaving::<3>, leaving::<4>];
     let by_the_c_call = |names: &[&'static str; 2]| {
         let others = [TRIPS, OTHER_ANSWER, SAFE, CASE_E, CASE_M];
         (!others.contains(names)).then_some(names[0])
     };
     let due: Vec<&str> = ALL.iter().filter_map(by_the_c_call).collect();
     for encode_into in wrong {
-        let library = Library {
-            encode_into,
-            ..RIGHT
-        };
+        let library = Library { encode_into, ..RIGHT };
         assert_eq!(differing(&library), due);
     }
 }
@@ -570,10 +514,7 @@ fn one_of_the_five_numbers_is_wrong() {
 
 #[test]
 fn only_a_safe_call_is_wrong() {
-    let wrong = Library {
-        encode: library!(changing::<4>).encode,
-        ..RIGHT
-    };
+    let wrong = Library { encode: library!(changing::<4>).encode, ..RIGHT };
     let due = [TRIPS[0], TRIPS[1], SAFE[0], CASE_E[0], CASE_M[0]];
     assert_eq!(differing(&wrong), due);
 }
@@ -727,10 +668,7 @@ fn the_first_element_is_not_tested() {
     let wrong =
         library!(|operation, call, output| { testing(operation, call, output, but_the_first) });
     let names = differing(&wrong);
-    assert!([ZERO, REPEATED, SUMS]
-        .concat()
-        .iter()
-        .all(|name| names.contains(name)));
+    assert!([ZERO, REPEATED, SUMS].concat().iter().all(|name| names.contains(name)));
 }
 
 #[test]
@@ -738,10 +676,7 @@ fn only_zero_is_found_dependent() {
     let wrong = library!(|operation, call, output| { testing(operation, call, output, only_zero) });
     let names = differing(&wrong);
     assert!(!ZERO.iter().any(|name| names.contains(name)));
-    assert!([REPEATED, SUMS]
-        .concat()
-        .iter()
-        .all(|name| names.contains(name)));
+    assert!([REPEATED, SUMS].concat().iter().all(|name| names.contains(name)));
 }
 
 #[test]
@@ -750,10 +685,7 @@ fn only_zero_and_repeated_elements_are_found_dependent() {
         testing(operation, call, output, only_zero_and_repeated)
     });
     let names = differing(&wrong);
-    assert!(![ZERO, REPEATED]
-        .concat()
-        .iter()
-        .any(|name| names.contains(name)));
+    assert!(![ZERO, REPEATED].concat().iter().any(|name| names.contains(name)));
     assert!(SUMS.iter().all(|name| names.contains(name)));
     assert!(CASE_M.iter().all(|name| names.contains(name)));
 }
@@ -763,10 +695,7 @@ fn only_sums_of_two_are_found_dependent() {
     let wrong =
         library!(|operation, call, output| { testing(operation, call, output, only_sums_of_two) });
     let names = differing(&wrong);
-    assert!(![ZERO, REPEATED, CASE_M]
-        .concat()
-        .iter()
-        .any(|name| names.contains(name)));
+    assert!(![ZERO, REPEATED, CASE_M].concat().iter().any(|name| names.contains(name)));
     assert!(SUMS.iter().all(|name| names.contains(name)));
 }
 
@@ -859,10 +788,7 @@ fn a_basis_of_twelve_is_refused() {
         let cause = (call.basis.len() == 12).then(|| refused(4));
         first_of_all(operation, call, output, cause)
     });
-    let twelve = Amounts {
-        largest_damaged: 12,
-        ..FEW
-    };
+    let twelve = Amounts { largest_damaged: 12, ..FEW };
     assert!(list_6_wrong(&RIGHT, &twelve).iter().all(Comparison::agrees));
     assert!(!list_6_wrong(&wrong, &twelve).iter().any(Comparison::agrees));
 }
@@ -888,10 +814,7 @@ fn a_basis_of_thirteen_is_taken() {
 /// what is out of range.
 fn cut_to<const BITS: u32>(operation: Operation, call: &Call, output: &mut [u64]) -> Answer {
     let k = call.basis.len() % (1 << BITS);
-    let cut = Call {
-        basis: call.basis[..k].to_vec(),
-        ..call.clone()
-    };
+    let cut = Call { basis: call.basis[..k].to_vec(), ..call.clone() };
     if call.basis.len() <= 12 || operation.refuses(&cut) {
         right(operation, call, output)
     } else {
@@ -901,11 +824,7 @@ fn cut_to<const BITS: u32>(operation: Operation, call: &Call, output: &mut [u64]
 
 #[test]
 fn the_dimension_is_cut_to_some_bits() {
-    for wrong in [
-        library!(cut_to::<5>),
-        library!(cut_to::<6>),
-        library!(cut_to::<8>),
-    ] {
+    for wrong in [library!(cut_to::<5>), library!(cut_to::<6>), library!(cut_to::<8>)] {
         let names = differing(&wrong);
         assert_eq!(names, TOO_LARGE_AND_DAMAGED);
     }

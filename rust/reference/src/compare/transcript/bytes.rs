@@ -50,13 +50,8 @@ impl Input for Bytes {
     }
 
     fn simpler(&self) -> Vec<Bytes> {
-        [
-            self.beginnings(),
-            self.with_zeros(),
-            self.with_one_smaller(),
-            self.with_simpler_lists(),
-        ]
-        .concat()
+        [self.beginnings(), self.with_zeros(), self.with_one_smaller(), self.with_simpler_lists()]
+            .concat()
     }
 }
 
@@ -122,12 +117,7 @@ impl Bytes {
         let Ok(Judging { run, queries }) = read(bytes) else {
             return Vec::new();
         };
-        let call = Call {
-            run,
-            queries,
-            answer: ANSWER_LENGTH,
-            fill: FILLS[0],
-        };
+        let call = Call { run, queries, answer: ANSWER_LENGTH, fill: FILLS[0] };
         let simpler = call.simpler();
         let written = simpler.iter().filter(|call| can_be_written(call));
         written.map(Bytes::of).collect()
@@ -188,10 +178,7 @@ mod tests {
             .collect();
         let due = [0, 0b1111, 0b1111_1111_0000];
         assert_eq!(zeros[..3], due);
-        assert_eq!(
-            zeros[3..],
-            [0b1111_1111, 0b1111_0000_1111, 0b1111_1111_0000]
-        );
+        assert_eq!(zeros[3..], [0b1111_1111, 0b1111_0000_1111, 0b1111_1111_0000]);
     }
 
     #[test]

@@ -2,6 +2,7 @@
 
 use super::bytes::Bytes;
 use super::{Judges, Printed};
+use crate::answer::Answer;
 use crate::answer::{accepted, failed, refused, refused_at};
 use crate::cases::{
     of_case_f, of_case_h, of_case_k, of_case_l, of_case_m, queries_of_case_p, stretched,
@@ -12,7 +13,6 @@ use crate::compare::{
 };
 use crate::protocol::Run;
 use crate::transcript::{sections, transcript, written};
-use razgwilh::Answer;
 
 /// A byte string, what the paper has for it, and the second line that is printed.
 /// Nothing else stands for it.
@@ -42,20 +42,11 @@ impl Input for Case {
 }
 
 pub(super) fn comparisons(judges: &Judges) -> Vec<Comparison> {
-    let names = [
-        "transcript, cases G, H and I of table A",
-        "program, cases G, H and I of table A",
-    ];
+    let names = ["transcript, cases G, H and I of table A", "program, cases G, H and I of table A"];
     let g_to_i = both(judges, names, &cases_g_to_i());
-    let names = [
-        "transcript, cases K and L of table A",
-        "program, cases K and L of table A",
-    ];
+    let names = ["transcript, cases K and L of table A", "program, cases K and L of table A"];
     let k_and_l = both(judges, names, &cases_k_and_l());
-    let names = [
-        "transcript, cases M to P of table A",
-        "program, cases M to P of table A",
-    ];
+    let names = ["transcript, cases M to P of table A", "program, cases M to P of table A"];
     let m_to_p = both(judges, names, &cases_m_to_p());
     [g_to_i, k_and_l, m_to_p].concat()
 }
@@ -115,11 +106,7 @@ fn cases_m_to_p() -> Vec<Case> {
     let too_many = too_many_queries_of_case_p();
     vec![
         case(&m, &[5], refused_at(8, 2), "refused 8 2 - 0"),
-        Case {
-            bytes: Bytes(Vec::new()),
-            due: refused_at(1, 1),
-            line: "refused 1 1 - 0",
-        },
+        Case { bytes: Bytes(Vec::new()), due: refused_at(1, 1), line: "refused 1 1 - 0" },
         case_o(),
         case(&p, &most, accepted(2_560), "accepted 0 - - 2560"),
         case(&p, &too_many, refused(9), "refused 9 - - 0"),
@@ -130,9 +117,5 @@ fn cases_m_to_p() -> Vec<Case> {
 fn case_o() -> Case {
     let mut sections = sections(&of_case_k(), &[5]);
     sections[0].entries = vec![21, 6, 3];
-    Case {
-        bytes: Bytes(written(&sections)),
-        due: refused(4),
-        line: "refused 4 - - 0",
-    }
+    Case { bytes: Bytes(written(&sections)), due: refused(4), line: "refused 4 - - 0" }
 }

@@ -16,11 +16,7 @@ pub struct Tally {
 
 impl Tally {
     pub fn new() -> Tally {
-        Tally {
-            met: HashSet::new(),
-            library: [0; NUMBERS],
-            program: [0; NUMBERS],
-        }
+        Tally { met: HashSet::new(), library: [0; NUMBERS], program: [0; NUMBERS] }
     }
 
     /// Those that have not come before. Each of them counts from now on.
@@ -39,15 +35,10 @@ impl Tally {
 
     pub fn text(&self) -> String {
         let numbers: [usize; NUMBERS] = std::array::from_fn(|number| number);
-        let rows = [
-            ("number", numbers),
-            ("library", self.library),
-            ("program", self.program),
-        ];
+        let rows = [("number", numbers), ("library", self.library), ("program", self.program)];
         let count = self.byte_strings();
         let title = format!("transcripts: {count} byte strings, no two of them equal\n");
-        rows.into_iter()
-            .fold(title, |text, (name, row)| text + &line(name, row))
+        rows.into_iter().fold(title, |text, (name, row)| text + &line(name, row))
     }
 }
 

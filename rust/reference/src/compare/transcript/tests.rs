@@ -72,10 +72,7 @@ macro_rules! with_judge {
 
 macro_rules! with_program {
     ($program:expr) => {
-        Judges {
-            program: $program,
-            ..RIGHT
-        }
+        Judges { program: $program, ..RIGHT }
     };
 }
 
@@ -200,11 +197,7 @@ fn the_length_of_the_answer_is_not_looked_at() {
 /// But for the largest parameters, which would take long here.
 #[test]
 fn there_are_twenty_thousand_byte_strings() {
-    let amounts = Amounts {
-        large: 3..=3,
-        largest: &[],
-        ..FULL
-    };
+    let amounts = Amounts { large: 3..=3, largest: &[], ..FULL };
     let all = SORTS.iter().flat_map(|sort| sort.inputs(&amounts));
     let different: HashSet<Bytes> = all.collect();
     assert!(different.len() > 20_000, "{}", different.len());

@@ -25,11 +25,7 @@ fn what_a_prover_writes_is_accepted() {
     for parameters in all_up_to(6) {
         let lent = lent(&drawn_low(random, parameters));
         let Proved { store, last, .. } = prove(&lent);
-        let run = Run {
-            store,
-            last,
-            ..lent
-        };
+        let run = Run { store, last, ..lent };
         let queries = drawn_queries(random, parameters);
         assert_eq!(judge(&run, &queries).number, 0);
     }

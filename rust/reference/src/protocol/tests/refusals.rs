@@ -32,11 +32,7 @@ fn parameters_are_refused_in_order() {
         (parameters(4, 2, 3), 7),
     ];
     for (parameters, number) in bad {
-        let run = Run {
-            parameters,
-            basis: vec![0; 4],
-            ..run.clone()
-        };
+        let run = Run { parameters, basis: vec![0; 4], ..run.clone() };
         assert_refused(&run, &queries, refused(number));
         assert_refused(&run, &[], refused(number));
     }
@@ -44,13 +40,7 @@ fn parameters_are_refused_in_order() {
 
 /// The five lists, from 1.
 fn lists(run: &mut Run) -> [&mut Vec<u64>; 5] {
-    [
-        &mut run.basis,
-        &mut run.challenges,
-        &mut run.word,
-        &mut run.store,
-        &mut run.last,
-    ]
+    [&mut run.basis, &mut run.challenges, &mut run.word, &mut run.store, &mut run.last]
 }
 
 #[test]
@@ -106,10 +96,7 @@ fn a_dependent_basis_has_its_place() {
 
 #[test]
 fn a_dependent_later_basis_has_its_round() {
-    let coset = |basis: &[u64]| Coset {
-        offset: 0,
-        basis: basis.to_vec(),
-    };
+    let coset = |basis: &[u64]| Coset { offset: 0, basis: basis.to_vec() };
     let [first, second] = [coset(&[1, 2, 4]), coset(&[6, 0x14])];
     let dependent = coset(&[5, 5]);
     let of = later_layers_independent;

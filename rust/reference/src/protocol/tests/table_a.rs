@@ -64,10 +64,7 @@ fn case_l() {
 
 #[test]
 fn case_o() {
-    let run = Run {
-        parameters: parameters(21, 6, 3),
-        ..of_case_k()
-    };
+    let run = Run { parameters: parameters(21, 6, 3), ..of_case_k() };
     assert_eq!(judge(&run, &[0]), refused(4));
     assert_eq!(prove(&run), left(refused(4), &run));
 }

@@ -167,16 +167,10 @@ fn causes_in_several_sections() {
     assert_next(|sections, _| sections[6].count = 0, refused_at(2, 7));
     assert_next(|sections, _| sections[5].count = 8, refused_at(2, 6));
     assert_next(|sections, _| sections[4].count = 9, refused_at(2, 5));
-    assert_next(
-        |sections, _| sections[3].entries[1] = 1 << 32,
-        refused_at(10, 1),
-    );
+    assert_next(|sections, _| sections[3].entries[1] = 1 << 32, refused_at(10, 1));
     assert_next(|sections, _| sections[3].count = 257, refused(9));
     assert_next(|sections, _| sections[2].count = 1, refused_at(2, 3));
-    assert_next(
-        |sections, _| sections[1].entries = vec![0, 6, 6, 6],
-        refused_at(8, 1),
-    );
+    assert_next(|sections, _| sections[1].entries = vec![0, 6, 6, 6], refused_at(8, 1));
     assert_next(|sections, _| sections[1].count = 3, refused_at(2, 2));
     assert_next(|sections, _| sections[0].entries[1] = 3, refused(7));
     assert_next(|sections, _| sections[0].entries[2] = 4, refused(6));

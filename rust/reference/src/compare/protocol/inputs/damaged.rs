@@ -119,11 +119,7 @@ fn any_place(random: &mut Random, run: &Run) -> usize {
     let parameters = run.parameters;
     let r = parameters.rounds();
     let layer = random.below(r as usize + 1) as u64;
-    let length = if layer == r {
-        run.last.len()
-    } else {
-        parameters.layer_length(layer)
-    };
+    let length = if layer == r { run.last.len() } else { parameters.layer_length(layer) };
     start(parameters, layer) + random.below(length)
 }
 
@@ -181,11 +177,7 @@ mod tests {
     #[test]
     fn all_are_judged() {
         let random = &mut random();
-        let large = [Parameters {
-            k: 9,
-            rate: 2,
-            step: 2,
-        }];
+        let large = [Parameters { k: 9, rate: 2, step: 2 }];
         let all = [
             some(random, &[0, 0, 3, 3, 3]),
             other_challenges(random, &[0, 0, 3, 3, 3]),
@@ -201,25 +193,14 @@ mod tests {
     /// With one entry of the word, of a store of two layers, and the coefficient.
     #[test]
     fn each_entry_is_damaged() {
-        let four = Parameters {
-            k: 4,
-            rate: 1,
-            step: 1,
-        };
+        let four = Parameters { k: 4, rate: 1, step: 1 };
         let random = &mut random();
         let honest = right::honest(random, four, 0);
         let damaged = each_damaged(random, &honest);
         assert_eq!(damaged.len(), 16 + 8 + 4 + 1);
         let changed = |run: &Run| {
-            let pairs = |list: List| {
-                list.of(run)
-                    .clone()
-                    .into_iter()
-                    .zip(list.of(&honest).clone())
-            };
-            let lists = [List::Word, List::Store, List::Last]
-                .into_iter()
-                .flat_map(pairs);
+            let pairs = |list: List| list.of(run).clone().into_iter().zip(list.of(&honest).clone());
+            let lists = [List::Word, List::Store, List::Last].into_iter().flat_map(pairs);
             lists
                 .enumerate()
                 .filter(|(_, (one, other))| one != other)
@@ -260,16 +241,7 @@ mod tests {
     fn many_places_and_rounds_fail() {
         let calls = some(&mut random(), &[0, 0, 6, 6, 6, 6, 6]);
         let met: HashSet<(u64, Option<u64>, Option<u64>)> = calls.iter().map(verdict).collect();
-        for (query, round) in [
-            (0, 0),
-            (0, 1),
-            (0, 3),
-            (1, 0),
-            (1, 1),
-            (2, 0),
-            (3, 0),
-            (4, 0),
-        ] {
+        for (query, round) in [(0, 0), (0, 1), (0, 3), (1, 0), (1, 1), (2, 0), (3, 0), (4, 0)] {
             assert!(met.contains(&(11, Some(query), Some(round))));
         }
         assert!(met.contains(&(0, None, None)));

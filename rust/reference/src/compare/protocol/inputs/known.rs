@@ -70,10 +70,7 @@ pub fn known(
     run.store = layers[1..layers.len() - 1].concat();
     polynomial.resize(parameters.last_count(), 0);
     run.last = polynomial;
-    Known {
-        call: call_of(random, run),
-        degree,
-    }
+    Known { call: call_of(random, run), degree }
 }
 
 /// Layers 0 to r over the cosets of a run, the last one with the values of a
@@ -155,9 +152,7 @@ pub fn large(mut random: Random, all: &[(Parameters, Others)]) -> impl Iterator<
 /// An honest run that may be too large for the reference to fold.
 pub fn honest(random: &mut Random, parameters: Parameters) -> Run {
     let degree = parameters.last_count() - 1;
-    known(random, parameters, degree, Others::Multiples, 0)
-        .call
-        .run
+    known(random, parameters, degree, Others::Multiples, 0).call.run
 }
 
 #[cfg(test)]

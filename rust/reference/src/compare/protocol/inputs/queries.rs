@@ -26,11 +26,8 @@ pub fn of_all_counts(random: &mut Random, amounts: &[usize]) -> Vec<Call> {
 pub fn repeated(random: &mut Random, amounts: &[usize]) -> Vec<Call> {
     with_lists(random, amounts, |random, parameters| {
         let [one, other] = [0, 1].map(|_| any_query(random, parameters));
-        let mut lists = vec![
-            vec![one, one],
-            vec![one, other, one],
-            vec![one, one, one, other, other],
-        ];
+        let mut lists =
+            vec![vec![one, one], vec![one, other, one], vec![one, one, one, other, other]];
         for layer in 0..parameters.rounds() {
             let bits = parameters.step * (layer + 1);
             let first = one >> bits << bits;
@@ -62,16 +59,7 @@ pub fn out_of_range(random: &mut Random, amounts: &[usize]) -> Vec<Call> {
 /// The least ones, the most, and some whose lowest bits are in range.
 fn queries_out_of_range(parameters: Parameters) -> [u64; 8] {
     let all = 1 << parameters.k;
-    [
-        all,
-        all + 1,
-        2 * all - 1,
-        2 * all,
-        1 << 32,
-        1 << 63,
-        u64::MAX - 1,
-        u64::MAX,
-    ]
+    [all, all + 1, 2 * all - 1, 2 * all, 1 << 32, 1 << 63, u64::MAX - 1, u64::MAX]
 }
 
 /// Two queries out of range, the first of which is to be named, and as many as are
@@ -134,20 +122,15 @@ mod tests {
         let calls = of_all_counts(&mut random(), &FEW);
         assert_eq!(calls.len(), 4 * COUNTS.len() * 4);
         assert_eq!(numbers(&calls), HashSet::from([0, 9, 11]));
-        assert_eq!(
-            numbers(&repeated(&mut random(), &FEW)),
-            HashSet::from([0, 11])
-        );
+        assert_eq!(numbers(&repeated(&mut random(), &FEW)), HashSet::from([0, 11]));
     }
 
     #[test]
     fn each_place_is_out_of_range() {
         let calls = out_of_range(&mut random(), &FEW);
         assert_eq!(numbers(&calls), HashSet::from([10]));
-        let places: HashSet<Option<u64>> = calls
-            .iter()
-            .map(|call| judge(&call.run, &call.queries).place)
-            .collect();
+        let places: HashSet<Option<u64>> =
+            calls.iter().map(|call| judge(&call.run, &call.queries).place).collect();
         let due = (0..8).chain(248..256).map(Some);
         assert_eq!(places, due.collect());
     }

@@ -29,10 +29,7 @@ fn any_over(random: &mut Random, parameters: Parameters, basis: Vec<u64>) -> Cal
         offset: random.number(),
         basis,
     };
-    let in_range = Parameters {
-        k: parameters.k.min(LARGEST_K),
-        ..parameters
-    };
+    let in_range = Parameters { k: parameters.k.min(LARGEST_K), ..parameters };
     let queries = any_queries(random, in_range, 3);
     call_of(random, run).with_queries(queries)
 }
@@ -182,11 +179,7 @@ pub fn k_too_small(random: &mut Random) -> Vec<Call> {
     let mut calls = Vec::new();
     for (k, rate, step) in too_small() {
         let parameters = Parameters { k, rate, step };
-        let right = Parameters {
-            k,
-            rate: 1,
-            step: 1,
-        };
+        let right = Parameters { k, rate: 1, step: 1 };
         let call = any(random, parameters);
         let zeros = vec![0; call.length(List::Basis)];
         calls.push(taken_for(random, parameters, right));
@@ -367,23 +360,10 @@ fn one_of_each(random: &mut Random, parameters: Parameters, turn: usize) -> Vec<
     failing.run.last[0] ^= 1;
     let any = any(random, parameters);
     let mut calls = vec![
-        any.with_parameters(Parameters {
-            k: LARGEST_K + 1,
-            ..parameters
-        }),
-        any.with_parameters(Parameters {
-            rate: 7,
-            ..parameters
-        }),
-        any.with_parameters(Parameters {
-            step: 4,
-            ..parameters
-        }),
-        any.with_parameters(Parameters {
-            k: 2,
-            rate: 2,
-            step: 1,
-        }),
+        any.with_parameters(Parameters { k: LARGEST_K + 1, ..parameters }),
+        any.with_parameters(Parameters { rate: 7, ..parameters }),
+        any.with_parameters(Parameters { step: 4, ..parameters }),
+        any.with_parameters(Parameters { k: 2, rate: 2, step: 1 }),
         honest.with_queries(Vec::new()),
         honest.with_queries(vec![0, 1 << parameters.k]),
     ];
@@ -408,10 +388,7 @@ pub fn of_every_sort(random: &mut Random, turns: usize) -> Vec<Call> {
 pub fn with_other_answers(random: &mut Random) -> Vec<Call> {
     let mut calls = Vec::new();
     for call in of_every_sort(random, 1) {
-        calls.extend(other_answer_lengths().map(|answer| Call {
-            answer,
-            ..call.clone()
-        }));
+        calls.extend(other_answer_lengths().map(|answer| Call { answer, ..call.clone() }));
     }
     calls
 }

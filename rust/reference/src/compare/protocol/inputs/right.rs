@@ -18,15 +18,7 @@ use crate::random::Random;
 pub fn coset_and_challenges(random: &mut Random, parameters: Parameters, turn: usize) -> Run {
     let basis = cosets::basis(random, parameters.k as usize, turn);
     let offset = cosets::offset(random, &basis, turn);
-    let challenges = challenges(
-        random,
-        parameters,
-        &Coset {
-            offset,
-            basis: basis.clone(),
-        },
-        turn,
-    );
+    let challenges = challenges(random, parameters, &Coset { offset, basis: basis.clone() }, turn);
     zero_run(parameters, offset, basis, challenges)
 }
 
@@ -81,12 +73,7 @@ pub fn all_degrees(random: &mut Random, largest_k: u64) -> Vec<Call> {
     let mut calls = Vec::new();
     for parameters in all_up_to(largest_k) {
         for coefficients in 0..=parameters.layer_length(0) {
-            calls.push(of_coefficients(
-                random,
-                parameters,
-                coefficients,
-                coefficients,
-            ));
+            calls.push(of_coefficients(random, parameters, coefficients, coefficients));
         }
     }
     calls
@@ -108,10 +95,7 @@ pub fn near_bounds(random: &mut Random, amounts: &[usize]) -> Vec<Call> {
 /// least ones and the most.
 fn near_bounds_of(parameters: Parameters) -> Vec<usize> {
     let all = parameters.layer_length(0);
-    let (d, points) = (
-        parameters.last_count(),
-        parameters.layer_length(parameters.rounds()),
-    );
+    let (d, points) = (parameters.last_count(), parameters.layer_length(parameters.rounds()));
     let folded = all / points;
     let of_last_layer = [0, d - 1, d, d + 1, points / 2, points];
     let near = |count: usize| {
@@ -285,14 +269,8 @@ mod tests {
 
     #[test]
     fn the_numbers_of_coefficients_are_near_the_bounds() {
-        let six = Parameters {
-            k: 6,
-            rate: 2,
-            step: 3,
-        };
-        let due = [
-            0, 1, 2, 7, 8, 9, 10, 15, 16, 17, 18, 23, 24, 25, 26, 31, 32, 33, 34, 63, 64,
-        ];
+        let six = Parameters { k: 6, rate: 2, step: 3 };
+        let due = [0, 1, 2, 7, 8, 9, 10, 15, 16, 17, 18, 23, 24, 25, 26, 31, 32, 33, 34, 63, 64];
         assert_eq!(near_bounds_of(six), due);
     }
 

@@ -31,17 +31,8 @@ const CASE_O: &str = "case O of table A, judged";
 const CASE_P: &str = "case P of table A";
 
 /// All in which some query fails.
-const FAILING: [&str; 9] = [
-    HIGH_DEGREES,
-    EACH_ALONE,
-    EACH,
-    SOME,
-    LARGE,
-    CHALLENGES,
-    COUNTS,
-    REPEATED,
-    SAFE,
-];
+const FAILING: [&str; 9] =
+    [HIGH_DEGREES, EACH_ALONE, EACH, SOME, LARGE, CHALLENGES, COUNTS, REPEATED, SAFE];
 
 /// All comparisons of the prover and of the lookup alone.
 fn of_others() -> Vec<&'static str> {
@@ -72,24 +63,12 @@ pub(super) const TAKING_ALL: Library = with_judge!(|given, queries, store, last|
 fn all_are_turned_away() {
     let due = [HONEST, OUTSIDE, SEVERAL_OUTSIDE, ACCEPTED];
     let cases = [CASES_G_TO_I, CASE_K, CASE_L, CASE_O, CASE_P];
-    assert_shown(
-        &TURNING_ALL_AWAY,
-        &[&FAILING, &due, &cases],
-        &[OTHER_ANSWER],
-    );
+    assert_shown(&TURNING_ALL_AWAY, &[&FAILING, &due, &cases], &[OTHER_ANSWER]);
 }
 
 #[test]
 fn nothing_is_refused_before_a_round() {
-    let due = [
-        COUNTS,
-        OUTSIDE,
-        SEVERAL_OUTSIDE,
-        SEVERAL,
-        SAFE,
-        CASE_O,
-        CASE_P,
-    ];
+    let due = [COUNTS, OUTSIDE, SEVERAL_OUTSIDE, SEVERAL, SAFE, CASE_O, CASE_P];
     assert_shown(&TAKING_ALL, &[&due], &[HONEST, EACH, CASE_L]);
 }
 
@@ -124,10 +103,7 @@ fn with_checks(
             return failed(place, round, reads_if_failing(parameters, place, round));
         }
     }
-    accepted(entries(
-        parameters,
-        queries.len() as u64 * parameters.rounds(),
-    ))
+    accepted(entries(parameters, queries.len() as u64 * parameters.rounds()))
 }
 
 /// Whether a round check holds over these cosets.
@@ -174,11 +150,7 @@ fn every_run_is_accepted() {
     let wrong = with_judge!(|given, queries, store, last| {
         with_checks(given, queries, store, last, |_, _, _| true)
     });
-    assert_shown(
-        &wrong,
-        &[&FAILING, &[CASES_G_TO_I, CASE_L]],
-        &[HONEST, ACCEPTED],
-    );
+    assert_shown(&wrong, &[&FAILING, &[CASES_G_TO_I, CASE_L]], &[HONEST, ACCEPTED]);
     let start = "k 2; rate 1; step 1; offset 0; basis 1, 2; challenges 0; word 0 (4 times); \
                  store nothing; last 1; queries 0; ";
     assert_smallest(&wrong, EACH, start);
@@ -203,21 +175,13 @@ fn one_round_is_not_checked() {
             round == 0 || holds(run, query, round)
         })
     });
-    assert_shown(
-        &first,
-        &[&[EACH_ALONE, EACH, SOME, CASES_G_TO_I, CASE_L]],
-        &[HONEST],
-    );
+    assert_shown(&first, &[&[EACH_ALONE, EACH, SOME, CASES_G_TO_I, CASE_L]], &[HONEST]);
     let last_one = with_judge!(|given, queries, store, last| {
         with_checks(given, queries, store, last, |run, query, round| {
             round + 1 == run.parameters.rounds() || holds(run, query, round)
         })
     });
-    assert_shown(
-        &last_one,
-        &[&[HIGH_DEGREES, EACH, CASES_G_TO_I]],
-        &[HONEST, CASE_L],
-    );
+    assert_shown(&last_one, &[&[HIGH_DEGREES, EACH, CASES_G_TO_I]], &[HONEST, CASE_L]);
 }
 
 #[test]
@@ -228,11 +192,7 @@ fn only_the_first_query_is_checked() {
             Some(query) != first || holds(run, query, round)
         })
     });
-    assert_shown(
-        &wrong,
-        &[&[EACH, SOME, CASES_G_TO_I]],
-        &[HONEST, EACH_ALONE],
-    );
+    assert_shown(&wrong, &[&[EACH, SOME, CASES_G_TO_I]], &[HONEST, EACH_ALONE]);
 }
 
 #[test]
@@ -243,31 +203,17 @@ fn entries_are_paired_with_those_half_the_length_away() {
             holds_over(&cosets, Pairing::HalfTheLengthAway, run, query, round)
         })
     });
-    assert_shown(
-        &wrong,
-        &[&[HONEST, EACH, SOME, LARGE, ACCEPTED, CASE_K]],
-        &[],
-    );
+    assert_shown(&wrong, &[&[HONEST, EACH, SOME, LARGE, ACCEPTED, CASE_K]], &[]);
 }
 
 #[test]
 fn round_1_folds_over_the_basis_of_layer_0() {
     let wrong = with_judge!(|given, queries, store, last| {
         with_checks(given, queries, store, last, |run, query, round| {
-            holds_over(
-                &with_first_basis(run),
-                Pairing::Neighbours,
-                run,
-                query,
-                round,
-            )
+            holds_over(&with_first_basis(run), Pairing::Neighbours, run, query, round)
         })
     });
-    assert_shown(
-        &wrong,
-        &[&[HONEST, EACH, LARGE, ACCEPTED, CASE_K]],
-        &[CASES_G_TO_I],
-    );
+    assert_shown(&wrong, &[&[HONEST, EACH, LARGE, ACCEPTED, CASE_K]], &[CASES_G_TO_I]);
     assert_smallest(&wrong, HONEST, "k 3; rate 1; step 1; ");
 }
 
@@ -275,20 +221,10 @@ fn round_1_folds_over_the_basis_of_layer_0() {
 fn later_layers_have_the_points_0_1_2_and_so_on() {
     let wrong = with_judge!(|given, queries, store, last| {
         with_checks(given, queries, store, last, |run, query, round| {
-            holds_over(
-                &with_plain_points(run),
-                Pairing::Neighbours,
-                run,
-                query,
-                round,
-            )
+            holds_over(&with_plain_points(run), Pairing::Neighbours, run, query, round)
         })
     });
-    assert_shown(
-        &wrong,
-        &[&[HONEST, EACH, LARGE, ACCEPTED, CASE_O]],
-        &[CASES_G_TO_I],
-    );
+    assert_shown(&wrong, &[&[HONEST, EACH, LARGE, ACCEPTED, CASE_O]], &[CASES_G_TO_I]);
 }
 
 #[test]
@@ -298,11 +234,7 @@ fn only_the_constant_of_the_last_polynomial_counts() {
         constant.iter_mut().skip(1).for_each(|rest| *rest = 0);
         right_judge(given, queries, store, &constant)
     });
-    assert_shown(
-        &wrong,
-        &[&[HONEST, SOME, ACCEPTED, CASE_O]],
-        &[CASES_G_TO_I, CASE_L],
-    );
+    assert_shown(&wrong, &[&[HONEST, SOME, ACCEPTED, CASE_O]], &[CASES_G_TO_I, CASE_L]);
     // The least parameters with two last coefficients.
     assert_smallest(&wrong, HONEST, "k 4; rate 1; step 2; ");
 }
@@ -310,22 +242,11 @@ fn only_the_constant_of_the_last_polynomial_counts() {
 #[test]
 fn the_top_bit_of_an_entry_is_lost() {
     let wrong = with_judge!(|given, queries, store, last| {
-        let word: Vec<u64> = given
-            .word
-            .iter()
-            .map(|entry| entry & (u64::MAX >> 1))
-            .collect();
-        let other = razgwilh::Run {
-            word: &word,
-            ..given
-        };
+        let word: Vec<u64> = given.word.iter().map(|entry| entry & (u64::MAX >> 1)).collect();
+        let other = razgwilh::Run { word: &word, ..given };
         right_judge(other, queries, store, last)
     });
-    assert_shown(
-        &wrong,
-        &[&[HONEST, EACH, ACCEPTED]],
-        &[CASES_G_TO_I, CASE_K, CASE_L],
-    );
+    assert_shown(&wrong, &[&[HONEST, EACH, ACCEPTED]], &[CASES_G_TO_I, CASE_K, CASE_L]);
 }
 
 // Where it stops.
@@ -367,11 +288,7 @@ fn it_stops_at_the_lowest_round_of_all_queries() {
             all.into_iter().min_by_key(|&(query, round)| (round, query))
         })
     });
-    assert_shown(
-        &wrong,
-        &[&[EACH, SOME]],
-        &[HONEST, EACH_ALONE, CASES_G_TO_I],
-    );
+    assert_shown(&wrong, &[&[EACH, SOME]], &[HONEST, EACH_ALONE, CASES_G_TO_I]);
 }
 
 #[test]
@@ -382,11 +299,7 @@ fn it_stops_at_the_last_query_that_fails() {
             all.into_iter().find(|&(query, _)| Some(query) == last)
         })
     });
-    assert_shown(
-        &wrong,
-        &[&[EACH, SOME, COUNTS]],
-        &[HONEST, EACH_ALONE, CASES_G_TO_I],
-    );
+    assert_shown(&wrong, &[&[EACH, SOME, COUNTS]], &[HONEST, EACH_ALONE, CASES_G_TO_I]);
 }
 
 #[test]
@@ -397,11 +310,7 @@ fn it_stops_at_the_last_round_that_fails() {
             all.into_iter().rfind(|&(query, _)| Some(query) == first)
         })
     });
-    assert_shown(
-        &wrong,
-        &[&[EACH, EACH_ALONE, SOME, CASE_L]],
-        &[HONEST, CASES_G_TO_I],
-    );
+    assert_shown(&wrong, &[&[EACH, EACH_ALONE, SOME, CASE_L]], &[HONEST, CASES_G_TO_I]);
 }
 
 // Answers.
@@ -441,9 +350,5 @@ fn one_of_the_five_numbers_is_wrong() {
     }
     // The round is made 0.
     let round = with_judge!(changing::<2>);
-    assert_shown(
-        &round,
-        &[&[HONEST, EACH, OUTSIDE, SAFE, ACCEPTED]],
-        &[OTHER_ANSWER],
-    );
+    assert_shown(&round, &[&[HONEST, EACH, OUTSIDE, SAFE, ACCEPTED]], &[OTHER_ANSWER]);
 }

@@ -28,11 +28,7 @@ pub(super) const NEXT_LAYER: Library =
 #[test]
 fn the_layer_is_off_by_one() {
     assert_differing(&NEXT_LAYER, &[PROVED, ALL, OTHERS, SAFE, CASE_K]);
-    assert_smallest(
-        &NEXT_LAYER,
-        OTHERS,
-        "k 3; rate 1; step 1; store of length 4; layer 0; ",
-    );
+    assert_smallest(&NEXT_LAYER, OTHERS, "k 3; rate 1; step 1; store of length 4; layer 0; ");
     let before =
         with_lookup!(|parameters, store, i| right_part(parameters, store, i.saturating_sub(1)));
     assert_differing(&before, &[PROVED, ALL, OTHERS, SAFE, CASE_K]);
@@ -150,18 +146,10 @@ fn changing<const PLACE: usize>(
 /// The empty part has a number 0 too.
 #[test]
 fn one_of_the_five_numbers_is_wrong() {
-    let wrong: [LayerInto; 5] = [
-        changing::<0>,
-        changing::<1>,
-        changing::<2>,
-        changing::<3>,
-        changing::<4>,
-    ];
+    let wrong: [LayerInto; 5] =
+        [changing::<0>, changing::<1>, changing::<2>, changing::<3>, changing::<4>];
     for layer_into in wrong {
-        let library = Library {
-            layer_into,
-            ..RIGHT
-        };
+        let library = Library { layer_into, ..RIGHT };
         assert_differing(&library, &[ALL, OTHERS, STORES, PARAMETERS]);
     }
 }
@@ -174,10 +162,7 @@ fn the_empty_part_is_refused() {
             let part = right_part(parameters, store.len(), i as u64);
             let refusal = crate::answer::refused(4);
             let empty = part.is_empty();
-            into_five(
-                answer,
-                || if empty { refusal } else { part_as_answer(part) },
-            )
+            into_five(answer, || if empty { refusal } else { part_as_answer(part) })
         },
         ..RIGHT
     };

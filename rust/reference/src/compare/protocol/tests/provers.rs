@@ -54,11 +54,7 @@ pub(super) const TAKING_ALL: Library = with_prover!(|given, store, last| {
 fn all_are_turned_away() {
     let due = [KNOWN, ACCEPTED, SAFE, CASE_F, CASE_J, CASE_J_ALL, CASE_K];
     // The layers are then those of a store that was not written.
-    assert_shown(
-        &TURNING_ALL_AWAY,
-        &[&TAKEN, &due, &[LAYERS]],
-        &[OTHER_ANSWER],
-    );
+    assert_shown(&TURNING_ALL_AWAY, &[&TAKEN, &due, &[LAYERS]], &[OTHER_ANSWER]);
 }
 
 #[test]
@@ -95,10 +91,7 @@ fn with_layers(
 }
 
 fn too_high(degree: u64) -> Answer {
-    Answer {
-        value: Some(degree),
-        ..refused_at(12, degree)
-    }
+    Answer { value: Some(degree), ..refused_at(12, degree) }
 }
 
 /// All layers, folded over these cosets.
@@ -183,15 +176,7 @@ fn only_layer_1_is_folded() {
             store[first..].fill(0)
         })
     });
-    let due = [
-        ANY_WORDS,
-        NEAR_BOUNDS,
-        EXCEPTIONAL,
-        LARGE,
-        KNOWN,
-        ACCEPTED,
-        LAYERS,
-    ];
+    let due = [ANY_WORDS, NEAR_BOUNDS, EXCEPTIONAL, LARGE, KNOWN, ACCEPTED, LAYERS];
     assert_shown(&wrong, &[&due], &[CASE_F, CASE_J, CASE_K]);
     // With three rounds there are two layers in the store.
     assert_smallest(&wrong, ANY_WORDS, "k 4; rate 1; step 1; ");
@@ -212,10 +197,7 @@ fn the_layers_are_joined_from_behind() {
 fn the_challenges_are_taken_from_behind() {
     let wrong = with_prover!(|given, store, last| {
         let challenges: Vec<u64> = given.challenges.iter().rev().copied().collect();
-        let other = razgwilh::Run {
-            challenges: &challenges,
-            ..given
-        };
+        let other = razgwilh::Run { challenges: &challenges, ..given };
         right_prove(other, store, last)
     });
     // With one round there is one challenge.
@@ -231,11 +213,7 @@ fn the_store_is_not_written() {
         store.copy_from_slice(&before);
         answer
     });
-    assert_shown(
-        &wrong,
-        &[&TAKEN, &[KNOWN, ACCEPTED, LAYERS, SAFE, CASE_K]],
-        &[CASE_F, CASE_J],
-    );
+    assert_shown(&wrong, &[&TAKEN, &[KNOWN, ACCEPTED, LAYERS, SAFE, CASE_K]], &[CASE_F, CASE_J]);
 }
 
 // Wrong last coefficients.
@@ -265,11 +243,7 @@ fn the_last_layer_is_sent_as_values() {
         }
         answer
     });
-    assert_shown(
-        &wrong,
-        &[&[ANY_WORDS, ACCEPTED]],
-        &[CASE_F, CASE_J, CASE_K, LAYERS],
-    );
+    assert_shown(&wrong, &[&[ANY_WORDS, ACCEPTED]], &[CASE_F, CASE_J, CASE_K, LAYERS]);
     // One coefficient is the value at any point, and these are the least with two.
     assert_smallest(&wrong, NEAR_BOUNDS, "k 4; rate 1; step 2; ");
 }
@@ -307,9 +281,7 @@ fn at_high_degrees(
 #[test]
 fn the_store_is_left_at_a_high_degree() {
     let wrong = with_prover!(|given, store, last| {
-        at_high_degrees(given, store, last, |before, store, _| {
-            store.copy_from_slice(&before.store)
-        })
+        at_high_degrees(given, store, last, |before, store, _| store.copy_from_slice(&before.store))
     });
     let due = [ANY_WORDS, NEAR_BOUNDS, LARGE, KNOWN, SAFE];
     assert_shown(&wrong, &[&due], &[EXCEPTIONAL, ACCEPTED, LAYERS, CASE_J]);
@@ -348,12 +320,10 @@ fn a_high_degree_has_another_answer() {
         with_prover!(|given, store, last| saying(given, store, last, |_| refused(12))),
         with_prover!(|given, store, last| saying(given, store, last, |d| refused_at(12, d))),
         with_prover!(|given, store, last| saying(given, store, last, |d| too_high(d + 1))),
-        with_prover!(
-            |given, store, last| saying(given, store, last, |degree| Answer {
-                place: None,
-                ..too_high(degree)
-            })
-        ),
+        with_prover!(|given, store, last| saying(given, store, last, |degree| Answer {
+            place: None,
+            ..too_high(degree)
+        })),
     ];
     let due = [ANY_WORDS, DEGREES, NEAR_BOUNDS, LARGE, KNOWN, SAFE, CASE_J];
     for library in wrong {
@@ -374,9 +344,7 @@ fn a_word_of_a_high_degree_is_never_proved() {
         let points = crate::coset::points(run.offset, &run.basis);
         let polynomial = interpolant(&points, &run.word);
         let bound = polynomial.len() >> given.rate;
-        let low = polynomial[bound..]
-            .iter()
-            .all(|&coefficient| coefficient == 0);
+        let low = polynomial[bound..].iter().all(|&coefficient| coefficient == 0);
         if low {
             answer
         } else {
@@ -399,11 +367,7 @@ fn a_degree_of_d_is_proved() {
         last.copy_from_slice(&protocol::honest_last(&before));
         done()
     });
-    assert_shown(
-        &wrong,
-        &[&[ANY_WORDS, DEGREES, NEAR_BOUNDS, CASE_J]],
-        &[EXCEPTIONAL, ACCEPTED],
-    );
+    assert_shown(&wrong, &[&[ANY_WORDS, DEGREES, NEAR_BOUNDS, CASE_J]], &[EXCEPTIONAL, ACCEPTED]);
 }
 
 // Wrong answers.

@@ -191,9 +191,7 @@ fn instead(run: &Run, number: u64, other: impl FnOnce(Answer) -> Option<Answer>)
 #[test]
 fn a_list_is_named_wrongly() {
     let wrong = [
-        refusing!(|run| instead(run, 13, |refusal| {
-            Some(refused_at(13, refusal.place? - 1))
-        })),
+        refusing!(|run| instead(run, 13, |refusal| { Some(refused_at(13, refusal.place? - 1)) })),
         refusing!(|run| instead(run, 13, |_| Some(refused(13)))),
     ];
     let due = [&ALONE[..], &[SEVERAL_LISTS, SEVERAL, SAFE]].concat();
@@ -214,8 +212,7 @@ fn the_highest_list_is_named() {
 fn longer<const PLACE: usize>(run: &Run) -> Option<Answer> {
     let list = LISTS[PLACE];
     let mut cut = run.clone();
-    list.of_mut(&mut cut)
-        .truncate(list.right_length(run.parameters));
+    list.of_mut(&mut cut).truncate(list.right_length(run.parameters));
     right_refusal(&cut)
 }
 
@@ -268,9 +265,8 @@ fn a_shorter_list_is_taken() {
 
 #[test]
 fn the_place_is_counted_from_1() {
-    let wrong = refusing!(|run| instead(run, 8, |refusal| {
-        Some(refused_at(8, refusal.place? + 1))
-    }));
+    let wrong =
+        refusing!(|run| instead(run, 8, |refusal| { Some(refused_at(8, refusal.place? + 1)) }));
     assert_both(&wrong, &[ZERO, REPEATED, SUMS, TWO_PLACES, SAFE], &ALONE);
     let start =
         "k 2; rate 1; step 1; offset 0; basis 0 (2 times); challenges 0; word 0 (4 times); ";
@@ -287,9 +283,7 @@ fn the_last_dependent_place_is_given() {
 
 /// Takes a basis if this test of it finds nothing.
 fn testing(run: &Run, test: BasisTest) -> Option<Answer> {
-    instead(run, 8, |_| {
-        test(&run.basis).map(|place| refused_at(8, place as u64))
-    })
+    instead(run, 8, |_| test(&run.basis).map(|place| refused_at(8, place as u64)))
 }
 
 #[test]
@@ -333,17 +327,14 @@ fn parameters_in_range_are_refused() {
 #[test]
 fn all_parameters_up_to_nine_are_taken() {
     let amounts = FULL.any_words.iter().zip(FULL.honest).skip(2);
-    assert!(amounts
-        .into_iter()
-        .all(|(prove, judge)| *prove > 0 && judge > 0));
+    assert!(amounts.into_iter().all(|(prove, judge)| *prove > 0 && judge > 0));
 }
 
 #[test]
 fn parameters_out_of_range_are_taken() {
     let unless = |wrong: Library, due: &[&str]| assert_both(&wrong, due, &ALONE);
     unless(
-        refusing!(|run| instead(run, 4, |refusal| (run.parameters.k != 21)
-            .then_some(refusal))),
+        refusing!(|run| instead(run, 4, |refusal| (run.parameters.k != 21).then_some(refusal))),
         &[K_OUT_AND_DAMAGED, SAFE],
     );
     unless(
@@ -351,29 +342,22 @@ fn parameters_out_of_range_are_taken() {
         &[K_OUT_AND_DAMAGED, K_OUT, SEVERAL],
     );
     unless(
-        refusing!(|run| instead(run, 5, |refusal| (run.parameters.rate != 0)
-            .then_some(refusal))),
+        refusing!(|run| instead(run, 5, |refusal| (run.parameters.rate != 0).then_some(refusal))),
         &[RATE_OUT, SEVERAL],
     );
     unless(
-        refusing!(|run| instead(run, 5, |refusal| (run.parameters.rate != 7)
-            .then_some(refusal))),
+        refusing!(|run| instead(run, 5, |refusal| (run.parameters.rate != 7).then_some(refusal))),
         &[RATE_OUT, SEVERAL, SAFE],
     );
     unless(
-        refusing!(|run| instead(run, 6, |refusal| (run.parameters.step != 0)
-            .then_some(refusal))),
+        refusing!(|run| instead(run, 6, |refusal| (run.parameters.step != 0).then_some(refusal))),
         &[STEP_OUT, SEVERAL],
     );
     unless(
-        refusing!(|run| instead(run, 6, |refusal| (run.parameters.step != 4)
-            .then_some(refusal))),
+        refusing!(|run| instead(run, 6, |refusal| (run.parameters.step != 4).then_some(refusal))),
         &[STEP_OUT, SEVERAL, SAFE],
     );
-    unless(
-        refusing!(|run| instead(run, 7, |_| None)),
-        &[TOO_SMALL, SEVERAL, SAFE],
-    );
+    unless(refusing!(|run| instead(run, 7, |_| None)), &[TOO_SMALL, SEVERAL, SAFE]);
 }
 
 /// Takes the lowest bits of all parameters if there is no other cause.
@@ -402,15 +386,12 @@ fn parameters_are_cut_to_some_bits() {
 fn large_dimensions_are_not_tried_once_they_are_taken() {
     let inputs = |library: &Library| {
         let all = comparisons(library, &FEW);
-        let mut named = all
-            .into_iter()
-            .filter(|one| one.name == "prove, k out of range");
+        let mut named = all.into_iter().filter(|one| one.name == "prove, k out of range");
         named.next().expect("a comparison of this name").inputs
     };
     assert!(inputs(&RIGHT) > 15);
-    let wrong = refusing!(|run| instead(run, 4, |refusal| {
-        (run.parameters.k != 21).then_some(refusal)
-    }));
+    let wrong =
+        refusing!(|run| instead(run, 4, |refusal| { (run.parameters.k != 21).then_some(refusal) }));
     assert_eq!(inputs(&wrong), 1);
 }
 
@@ -445,10 +426,6 @@ fn a_refusal_writes_to_a_list() {
             "prove, several causes",
             "prove, safe calls",
         ];
-        assert_among(
-            &library,
-            &differ,
-            &["prove, any words", "judge, safe calls"],
-        );
+        assert_among(&library, &differ, &["prove, any words", "judge, safe calls"]);
     }
 }

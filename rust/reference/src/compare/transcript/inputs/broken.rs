@@ -65,12 +65,7 @@ pub fn with_bytes_behind(random: &mut Random, amounts: &Amounts) -> Vec<Bytes> {
 pub fn with_another_count(random: &mut Random, amounts: &Amounts) -> Vec<Bytes> {
     with_each_section(random, amounts, |section| {
         let counts = other_counts(section.count).into_iter();
-        counts
-            .map(|count| Section {
-                count,
-                ..section.clone()
-            })
-            .collect()
+        counts.map(|count| Section { count, ..section.clone() }).collect()
     })
 }
 
@@ -139,19 +134,14 @@ pub fn with_sections_out_of_order(random: &mut Random, amounts: &Amounts) -> Vec
 
 /// Every single bit, of cases G and K of table A and of runs of other parameters.
 pub fn with_a_bit_flipped(random: &mut Random, amounts: &Amounts) -> Vec<Bytes> {
-    let cases = [
-        transcript(&of_case_f(), &[0, 3]),
-        transcript(&of_case_k(), &[5]),
-    ];
+    let cases = [transcript(&of_case_f(), &[0, 3]), transcript(&of_case_k(), &[5])];
     let others = amounts.flipped.iter().zip(1..);
     let others = others.map(|(&parameters, turn)| {
         let sections = honest_sections(random, parameters, turn);
         written(&sections)
     });
     let all: Vec<Vec<u8>> = cases.into_iter().chain(others).collect();
-    all.iter()
-        .flat_map(|bytes| each_bit_flipped(bytes))
-        .collect()
+    all.iter().flat_map(|bytes| each_bit_flipped(bytes)).collect()
 }
 
 fn each_bit_flipped(bytes: &[u8]) -> impl Iterator<Item = Bytes> + '_ {
@@ -194,11 +184,8 @@ pub fn any_behind_a_front(random: &mut Random, amounts: &Amounts) -> Vec<Bytes> 
             let front = &bytes[..place + random.below(2) * random.below(4)];
             let left = bytes.len() - front.len();
             let few = random.below(40);
-            let others = [
-                any_bytes(random, few),
-                any_bytes(random, left),
-                mostly_zeros(random, left),
-            ];
+            let others =
+                [any_bytes(random, few), any_bytes(random, left), mostly_zeros(random, left)];
             all.extend(others.map(|behind| Bytes([front, &behind].concat())));
         }
     }
@@ -266,9 +253,7 @@ mod tests {
         all.extend(with_other_entries(&mut random(), &FEW));
         let due = HashSet::from([1, 2, 9, 10]);
         assert!(due.is_subset(&numbers(&all)));
-        let answers = all
-            .iter()
-            .map(|Bytes(bytes)| crate::transcript::judge(bytes));
+        let answers = all.iter().map(|Bytes(bytes)| crate::transcript::judge(bytes));
         let wrong = answers.filter(|answer| answer.number == 2);
         let places: HashSet<Option<u64>> = wrong.map(|answer| answer.place).collect();
         for section in [1, 2, 3, 5, 6, 7] {

@@ -9,11 +9,7 @@ use crate::random::Random;
 use crate::transcript::{sections, transcript, written, Section, LARGEST_INPUT};
 
 /// Parameters whose transcripts can be exactly as long as the program takes them.
-const LARGEST: Parameters = Parameters {
-    k: 12,
-    rate: 5,
-    step: 1,
-};
+const LARGEST: Parameters = Parameters { k: 12, rate: 5, step: 1 };
 
 /// How many queries make such a transcript so long.
 const QUERIES: usize = 34;
@@ -122,9 +118,7 @@ mod tests {
         let all = all();
         let of = |length| all.iter().filter(move |Bytes(bytes)| bytes.len() == length);
         let numbers = |length| -> HashSet<u64> {
-            of(length)
-                .map(|Bytes(bytes)| judge_of_program(bytes).number)
-                .collect()
+            of(length).map(|Bytes(bytes)| judge_of_program(bytes).number).collect()
         };
         assert_eq!(numbers(65_536), HashSet::from([0, 1, 2, 3, 4, 11]));
         assert_eq!(numbers(65_537), HashSet::from([14]));
@@ -134,9 +128,7 @@ mod tests {
     /// Over bytes there is no limit: one that the program does not take is accepted.
     #[test]
     fn longer_ones_are_judged() {
-        let longer = all()
-            .into_iter()
-            .filter(|Bytes(bytes)| bytes.len() > 65_536);
+        let longer = all().into_iter().filter(|Bytes(bytes)| bytes.len() > 65_536);
         let numbers: HashSet<u64> = longer.map(|Bytes(bytes)| judge(&bytes).number).collect();
         assert_eq!(numbers, HashSet::from([0, 1, 2, 3, 4]));
     }

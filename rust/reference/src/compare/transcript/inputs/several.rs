@@ -23,10 +23,7 @@ pub fn several_causes(random: &mut Random, amounts: &Amounts) -> Vec<Bytes> {
     let two = choices.clone().filter(|choice| choice.count_ones() == 2);
     let mut all: Vec<u32> = two.flat_map(|choice| vec![choice; times]).collect();
     all.extend((0..drawn).map(|_| random.below(choices.len()) as u32));
-    let whole: Vec<Bytes> = all
-        .into_iter()
-        .map(|choice| with_causes(random, choice))
-        .collect();
+    let whole: Vec<Bytes> = all.into_iter().map(|choice| with_causes(random, choice)).collect();
     let cut = whole.iter().map(|Bytes(bytes)| {
         let length = random.below(bytes.len());
         Bytes(bytes[..length].to_vec())
@@ -66,9 +63,7 @@ fn make(random: &mut Random, sections: &mut [Section], cause: u32) {
         // A rate and a step in range that no dimension here is enough for. Causes
         // above stay.
         4 => {
-            for (entry, largest) in sections[OF_THE_PARAMETERS].entries[1..]
-                .iter_mut()
-                .zip([6, 3])
+            for (entry, largest) in sections[OF_THE_PARAMETERS].entries[1..].iter_mut().zip([6, 3])
             {
                 if (1..=largest).contains(entry) {
                     *entry = largest;

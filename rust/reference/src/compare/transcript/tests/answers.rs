@@ -10,31 +10,20 @@ fn with_place(bytes: &[u8], numbers: &[u64], place: impl Fn(Option<u64>) -> Opti
     if !numbers.contains(&answer.number) {
         return answer;
     }
-    Answer {
-        place: place(answer.place),
-        ..answer
-    }
+    Answer { place: place(answer.place), ..answer }
 }
 
 #[test]
 fn sections_are_counted_from_0() {
     let wrong = with_judge!(|bytes| with_place(bytes, &[1, 2], |place| place.map(|n| n - 1)));
-    assert_judge(
-        &wrong,
-        &[CUT, COUNTS, ENTRIES, ORDER],
-        &[HONEST, BEHIND, BASES],
-    );
+    assert_judge(&wrong, &[CUT, COUNTS, ENTRIES, ORDER], &[HONEST, BEHIND, BASES]);
     assert_smallest(&wrong, CUT, "0 bytes: nothing");
 }
 
 #[test]
 fn sections_are_not_named() {
     let wrong = with_judge!(|bytes| with_place(bytes, &[2], |_| None));
-    assert_judge(
-        &wrong,
-        &[COUNTS, ENTRIES, ALL_PARAMETERS],
-        &[HONEST, CUT, BASES],
-    );
+    assert_judge(&wrong, &[COUNTS, ENTRIES, ALL_PARAMETERS], &[HONEST, CUT, BASES]);
     assert_smallest(&wrong, COUNTS, "4 bytes: 00 (4 times)");
 }
 
@@ -43,11 +32,7 @@ fn sections_are_not_named() {
 fn the_offset_is_counted_with_the_basis() {
     let wrong = with_judge!(|bytes| with_place(bytes, &[8], |place| place.map(|n| n + 1)));
     assert_judge(&wrong, &[BASES, SEVERAL], &[HONEST, CUT, COUNTS]);
-    assert_smallest(
-        &wrong,
-        BASES,
-        "56 bytes: 03, 00 (3 times), 02, 00 (7 times), ",
-    );
+    assert_smallest(&wrong, BASES, "56 bytes: 03, 00 (3 times), 02, 00 (7 times), ");
 }
 
 #[test]
@@ -129,11 +114,7 @@ fn one_number_is_left_out() {
 #[test]
 fn numbers_are_taken_for_one_another() {
     let wrong = with_judge!(|bytes| match transcript::judge(bytes) {
-        Answer {
-            number: 1,
-            place: Some(place),
-            ..
-        } => refused_at(2, place),
+        Answer { number: 1, place: Some(place), .. } => refused_at(2, place),
         answer => answer,
     });
     assert_judge(&wrong, &[CUT, CUT_NEAR, FRONT], &[HONEST, BASES, BEHIND]);

@@ -19,16 +19,10 @@ fn after(bytes: &[u8], change: impl Fn(&str) -> String) -> Vec<u8> {
 #[test]
 fn lines_are_wrong() {
     let without_header = with_program!(|bytes| after(bytes, |text| {
-        text.lines()
-            .skip(1)
-            .map(|line| format!("{line}\n"))
-            .collect()
+        text.lines().skip(1).map(|line| format!("{line}\n")).collect()
     }));
     let header_alone = with_program!(|bytes| after(bytes, |text| {
-        text.lines()
-            .take(1)
-            .map(|line| format!("{line}\n"))
-            .collect()
+        text.lines().take(1).map(|line| format!("{line}\n")).collect()
     }));
     let without_last_end = with_program!(|bytes| after(bytes, |text| text.trim_end().to_string()));
     let with_blank_line = with_program!(|bytes| after(bytes, |text| format!("{text}\n")));
@@ -88,11 +82,7 @@ fn numbers_are_printed_wrongly() {
 
 /// The program with another limit.
 fn with_limit(bytes: &[u8], limit: usize) -> Vec<u8> {
-    let answer = if bytes.len() > limit {
-        refused(14)
-    } else {
-        transcript::judge(bytes)
-    };
+    let answer = if bytes.len() > limit { refused(14) } else { transcript::judge(bytes) };
     lines(&answer).into_bytes()
 }
 

@@ -186,15 +186,7 @@ impl Slices<'_> {
         let mut word = self.layers(parameters)?;
         let store = word.split_off(parameters.layer_length(0));
         let last = self.section_of(5 + parameters.rounds(), parameters.last_count() as u64)?;
-        let run = Run {
-            parameters,
-            offset,
-            basis,
-            challenges,
-            word,
-            store,
-            last,
-        };
+        let run = Run { parameters, offset, basis, challenges, word, store, last };
         let verdict = || protocol::judge(&run, &queries);
         let behind = self.place < self.bytes.len() && self.mistake != TakesBytesBehind;
         if behind && !(self.mistake == JudgesBeforeTheEnd && verdict().number == 11) {
@@ -205,12 +197,7 @@ impl Slices<'_> {
 }
 
 fn judge_with(mistake: Mistake, bytes: &[u8]) -> Answer {
-    let mut slices = Slices {
-        bytes,
-        place: 0,
-        section: 1,
-        mistake,
-    };
+    let mut slices = Slices { bytes, place: 0, section: 1, mistake };
     slices.judge().unwrap_or_else(|refusal| refusal)
 }
 

@@ -1,8 +1,8 @@
 use super::*;
+use crate::answer::Answer;
 use crate::answer::{self, refused_at};
 use crate::coset::first_dependent;
 use crate::protocol::{may_judge, may_take};
-use razgwilh::Answer;
 use std::collections::HashSet;
 
 fn random() -> Random {
@@ -33,10 +33,7 @@ fn dimensions_out_of_range_are_so() {
     assert_eq!(right.len(), 2 + 9);
     for call in &right {
         let k = call.length(List::Basis) as u64;
-        let taken_for = call.with_parameters(Parameters {
-            k,
-            ..call.run.parameters
-        });
+        let taken_for = call.with_parameters(Parameters { k, ..call.run.parameters });
         assert_eq!(may_take(&taken_for.run), Ok(()));
     }
     assert!(right.into_iter().all(is(answer::refused(4))));
@@ -151,14 +148,10 @@ fn the_later_causes_are_there() {
 #[test]
 fn a_call_of_every_sort_is_there() {
     let calls = of_every_sort(&mut random(), 1);
-    let answers = calls
-        .iter()
-        .map(|call| crate::protocol::judge(&call.run, &call.queries));
+    let answers = calls.iter().map(|call| crate::protocol::judge(&call.run, &call.queries));
     let numbers: HashSet<u64> = answers.map(|answer| answer.number).collect();
     assert_eq!(numbers, HashSet::from([0, 4, 5, 6, 7, 8, 9, 10, 11, 13]));
-    let answers = calls
-        .iter()
-        .map(|call| crate::protocol::prove(&call.run).answer);
+    let answers = calls.iter().map(|call| crate::protocol::prove(&call.run).answer);
     let numbers: HashSet<u64> = answers.map(|answer| answer.number).collect();
     assert_eq!(numbers, HashSet::from([0, 4, 5, 6, 7, 8, 12, 13]));
 }

@@ -9,11 +9,7 @@ fn queries_beyond_the_most_are_not_looked_at() {
     let wrong = with_judge!(|given, queries, store, last| {
         right_judge(given, &queries[..queries.len().min(256)], store, last)
     });
-    assert_shown(
-        &wrong,
-        &[&[COUNTS, SEVERAL, CASE_P]],
-        &[HONEST, OUTSIDE, SAFE],
-    );
+    assert_shown(&wrong, &[&[COUNTS, SEVERAL, CASE_P]], &[HONEST, OUTSIDE, SAFE]);
 }
 
 #[test]
@@ -37,11 +33,7 @@ fn the_most_queries_are_refused() {
         }
         answer
     });
-    assert_shown(
-        &wrong,
-        &[&[COUNTS, OUTSIDE, SEVERAL_OUTSIDE, CASE_O, CASE_P]],
-        &[HONEST, EACH],
-    );
+    assert_shown(&wrong, &[&[COUNTS, OUTSIDE, SEVERAL_OUTSIDE, CASE_O, CASE_P]], &[HONEST, EACH]);
 }
 
 /// As where only the lowest bits of an index count.
@@ -52,11 +44,7 @@ fn queries_out_of_range_are_taken() {
         let queries: Vec<u64> = queries.iter().map(cut).collect();
         right_judge(given, &queries, store, last)
     });
-    assert_shown(
-        &wrong,
-        &[&[OUTSIDE, SEVERAL_OUTSIDE, SAFE]],
-        &[HONEST, COUNTS],
-    );
+    assert_shown(&wrong, &[&[OUTSIDE, SEVERAL_OUTSIDE, SAFE]], &[HONEST, COUNTS]);
     let shown = smallest(&comparisons(&wrong, &FEW), OUTSIDE);
     assert!(shown.contains("; queries 4; answer of length 5"), "{shown}");
 }
@@ -70,11 +58,7 @@ fn another_query_out_of_range_is_named() {
             _ => answer,
         }
     });
-    assert_shown(
-        &from_1,
-        &[&[OUTSIDE, SEVERAL_OUTSIDE, SAFE]],
-        &[HONEST, COUNTS],
-    );
+    assert_shown(&from_1, &[&[OUTSIDE, SEVERAL_OUTSIDE, SAFE]], &[HONEST, COUNTS]);
     let last_one = with_judge!(|given, queries, store, last| {
         let answer = right_judge(given, queries, store, last);
         let outside = |&query: &u64| query >> given.k.min(20) != 0;
@@ -101,9 +85,5 @@ fn the_rounds_come_before_the_queries() {
             answer
         }
     });
-    assert_shown(
-        &wrong,
-        &[&[OUTSIDE, SEVERAL_OUTSIDE]],
-        &[HONEST, COUNTS, EACH],
-    );
+    assert_shown(&wrong, &[&[OUTSIDE, SEVERAL_OUTSIDE]], &[HONEST, COUNTS, EACH]);
 }

@@ -15,10 +15,7 @@ fn with_reads(
     let answer = right_judge(given, queries, store, last);
     let Run { parameters, .. } = run_of(given, store, last);
     match answer.number {
-        0 | 11 => Answer {
-            reads: reads(parameters, &answer, queries),
-            ..answer
-        },
+        0 | 11 => Answer { reads: reads(parameters, &answer, queries), ..answer },
         _ => answer,
     }
 }
@@ -26,18 +23,12 @@ fn with_reads(
 #[test]
 fn it_answers_before_reading() {
     let wrong = with_judge!(|given, queries, store, last| {
-        with_reads(given, queries, store, last, |_, answer, _| {
-            match answer.number {
-                11 => 0,
-                _ => answer.reads,
-            }
+        with_reads(given, queries, store, last, |_, answer, _| match answer.number {
+            11 => 0,
+            _ => answer.reads,
         })
     });
-    assert_shown(
-        &wrong,
-        &[&FAILING, &[CASES_G_TO_I, CASE_L]],
-        &[HONEST, ACCEPTED],
-    );
+    assert_shown(&wrong, &[&FAILING, &[CASES_G_TO_I, CASE_L]], &[HONEST, ACCEPTED]);
 }
 
 #[test]
@@ -45,11 +36,7 @@ fn the_reads_are_invented() {
     let fixed = with_judge!(|given, queries, store, last| {
         with_reads(given, queries, store, last, |_, _, _| 4)
     });
-    assert_shown(
-        &fixed,
-        &[&FAILING, &[HONEST, ACCEPTED, CASE_O]],
-        &[CASE_K, CASE_L],
-    );
+    assert_shown(&fixed, &[&FAILING, &[HONEST, ACCEPTED, CASE_O]], &[CASE_K, CASE_L]);
     let all = with_judge!(|given, queries, store, last| {
         with_reads(given, queries, store, last, |parameters, _, queries| {
             entries(parameters, queries.len() as u64 * parameters.rounds())
@@ -63,59 +50,47 @@ fn a_failing_query_is_counted_wrongly() {
     let wrong = [
         // Without the coset of the next layer.
         with_judge!(|given, queries, store, last| {
-            with_reads(given, queries, store, last, |parameters, answer, _| match (
-                answer.place,
-                answer.round,
-            ) {
-                (Some(query), Some(round)) => {
-                    entries(parameters, query * parameters.rounds() + round + 1)
+            with_reads(given, queries, store, last, |parameters, answer, _| {
+                match (answer.place, answer.round) {
+                    (Some(query), Some(round)) => {
+                        entries(parameters, query * parameters.rounds() + round + 1)
+                    }
+                    _ => answer.reads,
                 }
-                _ => answer.reads,
             })
         }),
         // The last polynomial taken for a coset.
         with_judge!(|given, queries, store, last| {
-            with_reads(given, queries, store, last, |parameters, answer, _| match (
-                answer.place,
-                answer.round,
-            ) {
-                (Some(query), Some(round)) => {
-                    entries(parameters, query * parameters.rounds() + round + 2)
+            with_reads(given, queries, store, last, |parameters, answer, _| {
+                match (answer.place, answer.round) {
+                    (Some(query), Some(round)) => {
+                        entries(parameters, query * parameters.rounds() + round + 2)
+                    }
+                    _ => answer.reads,
                 }
-                _ => answer.reads,
             })
         }),
     ];
     for library in wrong {
-        assert_shown(
-            &library,
-            &[&[EACH_ALONE, EACH, SOME]],
-            &[HONEST, ACCEPTED, CASE_K],
-        );
+        assert_shown(&library, &[&[EACH_ALONE, EACH, SOME]], &[HONEST, ACCEPTED, CASE_K]);
     }
 }
 
 #[test]
 fn a_coset_is_counted_once_in_all_queries() {
     let wrong = with_judge!(|given, queries, store, last| {
-        with_reads(
-            given,
-            queries,
-            store,
-            last,
-            |parameters, answer, queries| {
-                if answer.number != 0 {
-                    return answer.reads;
-                }
-                let rounds = 0..parameters.rounds();
-                let met = |query| {
-                    let used = rounds.clone();
-                    used.map(move |i| (i, parameters.coset_used(query, i)))
-                };
-                let met: BTreeSet<(u64, u64)> = queries.iter().copied().flat_map(met).collect();
-                entries(parameters, met.len() as u64)
-            },
-        )
+        with_reads(given, queries, store, last, |parameters, answer, queries| {
+            if answer.number != 0 {
+                return answer.reads;
+            }
+            let rounds = 0..parameters.rounds();
+            let met = |query| {
+                let used = rounds.clone();
+                used.map(move |i| (i, parameters.coset_used(query, i)))
+            };
+            let met: BTreeSet<(u64, u64)> = queries.iter().copied().flat_map(met).collect();
+            entries(parameters, met.len() as u64)
+        })
     });
     assert_shown(
         &wrong,
@@ -133,9 +108,5 @@ fn a_refusal_has_reads() {
             _ => answer,
         }
     });
-    assert_shown(
-        &wrong,
-        &[&[OUTSIDE, SEVERAL_OUTSIDE, SAFE]],
-        &[HONEST, EACH, CASE_P],
-    );
+    assert_shown(&wrong, &[&[OUTSIDE, SEVERAL_OUTSIDE, SAFE]], &[HONEST, EACH, CASE_P]);
 }
