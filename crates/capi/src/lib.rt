@@ -11,6 +11,7 @@ ghost use Rattle.lone_fold.specs.Calls.{FoldCall};
 ghost use Rattle.fri.specs.Judge.{verdictOf};
 ghost use Rattle.layout.specs.Parameters.{runOf};
 ghost use Rattle.layout.specs.Parts.{partOf};
+ghost use Rattle.layout.specs.Lengths.{lengthsOf};
 ghost use Rattle.transcript.specs.Judge.{transcriptVerdict};
 ghost use Rattle.c_answers.specs.Answers.{answerOfInverted, answerOfOutcome, answerOfPart, answerOfVerdict};
 ghost use Rattle.c_answers.specs.Answers.{answered, whereAnswered};
@@ -127,6 +128,30 @@ pub extern "C" fn rz_fold(
         next_basis,
     );
     Answer::of_folded(folded).write(answer);
+}
+
+#[no_mangle]
+pub extern "C" fn rz_rounds(k: usize, rate: usize, step: usize) -> usize
+    ensures { λ r. ⌜ r ≡ lengthsOf (record { k = k; rate = rate; step = step }) .rounds ⌝ }
+{
+    let parameters = Parameters { k, rate, step };
+    parameters.lengths().rounds
+}
+
+#[no_mangle]
+pub extern "C" fn rz_store_length(k: usize, rate: usize, step: usize) -> usize
+    ensures { λ r. ⌜ r ≡ lengthsOf (record { k = k; rate = rate; step = step }) .store ⌝ }
+{
+    let parameters = Parameters { k, rate, step };
+    parameters.lengths().store
+}
+
+#[no_mangle]
+pub extern "C" fn rz_last_length(k: usize, rate: usize, step: usize) -> usize
+    ensures { λ r. ⌜ r ≡ lengthsOf (record { k = k; rate = rate; step = step }) .last ⌝ }
+{
+    let parameters = Parameters { k, rate, step };
+    parameters.lengths().last
 }
 
 #[no_mangle]

@@ -1,2 +1,3 @@
 pub mod Parameters
 pub mod Parts
+pub mod Lengths

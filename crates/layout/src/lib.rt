@@ -9,6 +9,7 @@ ghost use Rattle.fri.specs.Checks.{parametersOutcome};
 ghost use Rattle.fri.specs.Lookup.{layerPart};
 ghost use Rattle.layout.specs.Parameters.{stepsBy, Valid};
 ghost use Rattle.layout.specs.Parts.{partOf, partIn};
+ghost use Rattle.layout.specs.Lengths.{lengthsOf};
 
 // k, R and η.
 pub struct Parameters {
@@ -21,6 +22,13 @@ pub struct Parameters {
 pub struct Part {
     pub start: usize,
     pub length: usize,
+}
+
+// How many challenges, entries of the store and last coefficients a run has.
+pub struct Lengths {
+    pub rounds: usize,
+    pub store: usize,
+    pub last: usize,
 }
 
 // Layer i of a store, 1 ≤ i < r, or the empty part for bad parameters, another i or a store of another length.
@@ -91,6 +99,28 @@ impl Parameters {
             before += 1;
         }
         start
+    }
+
+    // What prover and judge are to be lent; all 0 for parameters out of range.
+    pub fn lengths(self) -> Lengths
+        ensures { λ r. ⌜ r ≡ lengthsOf self ⌝ }
+    {
+        let outcome = self.checked();
+        match outcome {
+            Outcome::Done => {
+                let rounds = self.rounds();
+                Lengths {
+                    rounds,
+                    store: self.layer_start(rounds),
+                    last: self.last_count(),
+                }
+            }
+            Outcome::Refused(_) => Lengths {
+                rounds: 0,
+                store: 0,
+                last: 0,
+            },
+        }
     }
 
     // Where layer i lies in a store of that length; the empty part, from 0, where `layer` hands it back.
