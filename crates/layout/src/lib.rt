@@ -127,31 +127,22 @@ impl Parameters {
     pub fn part(self, store_length: usize, i: usize) -> Part
         ensures { λ r. ⌜ r ≡ partOf self «store_length» i ⌝ }
     {
-        let outcome = self.checked();
-        match outcome {
-            Outcome::Done => {
-                let rounds = self.rounds();
-                if i < 1 || i >= rounds {
-                    return Part {
-                        start: 0,
-                        length: 0,
-                    };
-                }
-                if store_length != self.layer_start(rounds) {
-                    return Part {
-                        start: 0,
-                        length: 0,
-                    };
-                }
-                Part {
-                    start: self.layer_start(i),
-                    length: 1 << self.dimension(i),
-                }
-            }
-            Outcome::Refused(_) => Part {
+        let lengths = self.lengths();
+        if i < 1 || i >= lengths.rounds {
+            return Part {
                 start: 0,
                 length: 0,
-            },
+            };
+        }
+        if store_length != lengths.store {
+            return Part {
+                start: 0,
+                length: 0,
+            };
+        }
+        Part {
+            start: self.layer_start(i),
+            length: 1 << self.dimension(i),
         }
     }
 }
