@@ -1,10 +1,16 @@
-/* Calls every function through include/razgwilh.h, so that a declaration that does not fit the library shows. */
+/* Calls every function through include/razgwilh.h, so that a declaration that does not fit the
+ * library shows: the raw ones with answer lists of every length, and the others, which are given
+ * null pointers too. C and C++ both compile it, with tests/second_file.c. */
 #include "razgwilh.h"
 
 #include <stdio.h>
+#include <string.h>
 
+#define LENGTH(list) (sizeof(list) / sizeof((list)[0]))
 #define PATTERN UINT64_C(0x0123456789abcdef)
-#define LENGTHS 8
+#define ROOM 8
+
+int accepted_elsewhere(const uint8_t *bytes, size_t length);
 
 static int failures = 0;
 
@@ -15,144 +21,304 @@ static void expect(int holds, const char *what) {
     }
 }
 
-static void fill(uint64_t list[LENGTHS]) {
-    for (size_t i = 0; i < LENGTHS; i++) {
+static void fill(uint64_t list[ROOM]) {
+    for (size_t i = 0; i < ROOM; i++) {
         list[i] = PATTERN;
     }
 }
 
 /* The list holds `written` in its first `length` entries, and the pattern in the others. */
-static void expect_list(const uint64_t list[LENGTHS], const uint64_t *written, size_t length, const char *what) {
-    for (size_t i = 0; i < LENGTHS; i++) {
+static void expect_list(const uint64_t list[ROOM], const uint64_t *written, size_t length,
+                        const char *what) {
+    for (size_t i = 0; i < ROOM; i++) {
         expect(list[i] == (i < length ? written[i] : PATTERN), what);
     }
 }
 
-/* A list of another length than that of an answer is left alone. */
-static void expect_answer(const uint64_t list[LENGTHS], size_t length, const uint64_t *answer, const char *what) {
-    expect_list(list, answer, length == RZ_ANSWER_LENGTH ? RZ_ANSWER_LENGTH : 0, what);
+static void expect_untouched(const uint64_t list[ROOM], const char *what) {
+    expect_list(list, list, 0, what);
 }
 
-static void expect_inverse(uint64_t a, size_t length, const uint64_t answer[RZ_ANSWER_LENGTH]) {
-    uint64_t list[LENGTHS];
+static struct rz_answer answer_with(uint64_t number, uint64_t place, uint64_t round,
+                                    uint64_t reads, uint64_t value) {
+    struct rz_answer answer;
+
+    answer.number = number;
+    answer.place = place;
+    answer.round = round;
+    answer.reads = reads;
+    answer.value = value;
+    return answer;
+}
+
+static struct rz_answer done(void) {
+    return answer_with(RZ_ACCEPTED, RZ_NONE, RZ_NONE, 0, RZ_NONE);
+}
+
+static struct rz_answer given(uint64_t value) {
+    return answer_with(RZ_ACCEPTED, RZ_NONE, RZ_NONE, 0, value);
+}
+
+static struct rz_answer accepted(uint64_t reads) {
+    return answer_with(RZ_ACCEPTED, RZ_NONE, RZ_NONE, reads, RZ_NONE);
+}
+
+static struct rz_answer refused(uint64_t number, uint64_t place) {
+    return answer_with(number, place, RZ_NONE, 0, RZ_NONE);
+}
+
+static struct rz_answer nothing_done(void) {
+    return refused(RZ_NONE, RZ_NONE);
+}
+
+static void expect_answer(struct rz_answer answer, struct rz_answer due, const char *what) {
+    expect(answer.number == due.number, what);
+    expect(answer.place == due.place, what);
+    expect(answer.round == due.round, what);
+    expect(answer.reads == due.reads, what);
+    expect(answer.value == due.value, what);
+    expect(rz_accepted(answer) == (due.number == 0), what);
+}
+
+/* A raw answer. A list of another length than that of an answer is left alone. */
+static void expect_raw(const uint64_t list[ROOM], size_t length, struct rz_answer due,
+                       const char *what) {
+    const uint64_t numbers[] = {due.number, due.place, due.round, due.reads, due.value};
+
+    expect_list(list, numbers, length == RZ_ANSWER_LENGTH ? RZ_ANSWER_LENGTH : 0, what);
+}
+
+/* Cases E, F and G: one round over four points, with an empty store. */
+static const uint64_t basis[] = {1, 2}, coefficients[] = {7, 3}, word[] = {7, 4, 1, 2};
+static const uint64_t filled_in[] = {7, 3, 0, 0}, challenge[] = {4}, last_g[] = {0xb};
+static const uint64_t queries_g[] = {0, 3};
+
+/* Case K: two rounds over eight points. Query 8 is out of range. */
+static const uint64_t basis_k[] = {1, 2, 4}, challenges_k[] = {2, 3}, queries_k[] = {5, 8};
+static const uint64_t word_k[] = {0, 1, 4, 5, 0x10, 0x11, 0x14, 0x15};
+static const uint64_t layer_k[] = {2, 4, 0x16, 0x10}, last_k[] = {1};
+
+static struct rz_run run_g(void) {
+    struct rz_run run = {2, 1, 1, 0, {basis, 2}, {challenge, 1}, {word, 4}};
+
+    return run;
+}
+
+static struct rz_run run_k(void) {
+    struct rz_run run = {3, 1, 1, 0, {basis_k, 3}, {challenges_k, 2}, {word_k, 8}};
+
+    return run;
+}
+
+/* Case D with the word of case E. */
+static struct rz_fold_call fold_d(void) {
+    struct rz_fold_call call = {2, 1, 8, {basis, 2}, {word, 4}, 4};
+
+    return call;
+}
+
+static void expect_version(void) {
+    char numbers[64];
+
+    snprintf(numbers, sizeof numbers, "%d.%d.%d", RZ_VERSION_MAJOR, RZ_VERSION_MINOR,
+             RZ_VERSION_PATCH);
+    expect(strcmp(numbers, RZ_VERSION) == 0, "RZ_VERSION");
+    expect(sizeof(struct rz_answer) == RZ_ANSWER_LENGTH * sizeof(uint64_t), "RZ_ANSWER_LENGTH");
+}
+
+static void expect_inverse(uint64_t a, size_t length, struct rz_answer due) {
+    uint64_t list[ROOM];
+
     fill(list);
     rz_inverse(a, list, length);
-    expect_answer(list, length, answer, "rz_inverse");
+    expect_raw(list, length, due, "rz_inverse");
+    expect_answer(rz_inverse_answer(a), due, "rz_inverse_answer");
 }
 
-static const uint64_t basis[] = {1, 2};
-static const uint64_t coefficients[] = {7, 3};
-static const uint64_t word[] = {7, 4, 1, 2};
-static const uint64_t filled_in[] = {7, 3, 0, 0};
-static const uint64_t done[] = {0, RZ_NONE, RZ_NONE, 0, RZ_NONE};
+static void expect_arithmetic(size_t length) {
+    expect(rz_sum(UINT64_C(0xf00000000000000f), 5) == UINT64_C(0xf00000000000000a), "rz_sum");
+    expect(rz_product(UINT64_C(0x8000000000000000), 2) == 0x1b, "rz_product");
+    expect_inverse(2, length, given(UINT64_C(0x800000000000000d)));
+    expect_inverse(0, length, refused(RZ_INVERSE_OF_ZERO, RZ_NONE));
+}
 
 /* Case E there and back, with an answer's list of any length. */
-static void expect_codes(size_t length) {
-    uint64_t answer[LENGTHS], output[LENGTHS];
+static void expect_raw_codes(size_t length) {
+    uint64_t answer[ROOM], output[ROOM];
     size_t written = length == RZ_ANSWER_LENGTH ? 4 : 0;
 
     fill(answer);
     fill(output);
     rz_encode(0, basis, 2, coefficients, 2, output, 4, answer, length);
-    expect_answer(answer, length, done, "rz_encode: answer");
+    expect_raw(answer, length, done(), "rz_encode: answer");
     expect_list(output, word, written, "rz_encode: values");
 
     fill(answer);
     fill(output);
     rz_interpolate(0, basis, 2, word, 4, output, 4, answer, length);
-    expect_answer(answer, length, done, "rz_interpolate: answer");
+    expect_raw(answer, length, done(), "rz_interpolate: answer");
     expect_list(output, filled_in, written, "rz_interpolate: coefficients");
 }
 
-/* Case D with the word of case E, with an answer's list of any length. */
-static void expect_fold(size_t length) {
-    const uint64_t next_offset[] = {0, RZ_NONE, RZ_NONE, 0, 0x48};
-    const uint64_t folded[] = {0x13, 0x13}, six[] = {6};
-    uint64_t answer[LENGTHS], values[LENGTHS], next_basis[LENGTHS];
-    size_t answers = length == RZ_ANSWER_LENGTH;
+static void expect_codes(void) {
+    const struct rz_list both = rz_list_of(basis, 2);
+    uint64_t output[ROOM];
+
+    fill(output);
+    expect_answer(rz_encode_answer(0, both, rz_list_of(coefficients, 2), rz_output_of(output, 4)),
+                  done(), "rz_encode_answer");
+    expect_list(output, word, 4, "rz_encode_answer: values");
+
+    fill(output);
+    expect_answer(rz_interpolate_answer(0, both, rz_list_of(word, 4), rz_output_of(output, 4)),
+                  done(), "rz_interpolate_answer");
+    expect_list(output, filled_in, 4, "rz_interpolate_answer: coefficients");
+}
+
+/* Each length stands in its own place: a refusal names the list, and the output is left alone. */
+static void expect_encoding_refused(struct rz_list points, struct rz_list input,
+                                    size_t output_length, struct rz_answer due) {
+    uint64_t answer[ROOM], output[ROOM];
+
+    fill(answer);
+    fill(output);
+    rz_encode(0, points.entries, points.length, input.entries, input.length, output,
+              output_length, answer, RZ_ANSWER_LENGTH);
+    expect_raw(answer, RZ_ANSWER_LENGTH, due, "rz_encode: refusal");
+    expect_answer(rz_encode_answer(0, points, input, rz_output_of(output, output_length)), due,
+                  "rz_encode_answer: refusal");
+    expect_untouched(output, "values after a refusal");
+}
+
+static void expect_interpolation_refused(struct rz_list points, struct rz_list input,
+                                         size_t output_length, struct rz_answer due) {
+    uint64_t answer[ROOM], output[ROOM];
+
+    fill(answer);
+    fill(output);
+    rz_interpolate(0, points.entries, points.length, input.entries, input.length, output,
+                   output_length, answer, RZ_ANSWER_LENGTH);
+    expect_raw(answer, RZ_ANSWER_LENGTH, due, "rz_interpolate: refusal");
+    expect_answer(rz_interpolate_answer(0, points, input, rz_output_of(output, output_length)),
+                  due, "rz_interpolate_answer: refusal");
+    expect_untouched(output, "coefficients after a refusal");
+}
+
+static void expect_codes_refused(void) {
+    const uint64_t twice[] = {1, 1};
+    const struct rz_list one = rz_list_of(basis, 1), both = rz_list_of(basis, 2);
+    const struct rz_list dependent = rz_list_of(twice, 2);
+    const struct rz_list three = rz_list_of(word, 3), four = rz_list_of(word, 4);
+
+    expect_encoding_refused(one, three, 2, refused(RZ_WRONG_LENGTH, 3));
+    expect_encoding_refused(both, four, 5, refused(RZ_WRONG_LENGTH, 6));
+    expect_encoding_refused(dependent, four, 4, refused(RZ_BASIS_DEPENDENT, 1));
+    expect_interpolation_refused(both, three, 4, refused(RZ_WRONG_LENGTH, 3));
+    expect_interpolation_refused(both, four, 3, refused(RZ_WRONG_LENGTH, 6));
+    expect_interpolation_refused(dependent, four, 4, refused(RZ_BASIS_DEPENDENT, 1));
+}
+
+static const uint64_t folded_d[] = {0x13, 0x13}, next_basis_d[] = {6};
+
+/* With an answer's list of any length. */
+static void expect_raw_fold(size_t length) {
+    uint64_t answer[ROOM], values[ROOM], next_basis[ROOM];
+    int answers = length == RZ_ANSWER_LENGTH;
 
     fill(answer);
     fill(values);
     fill(next_basis);
     rz_fold(2, 1, 8, basis, 2, word, 4, 4, values, 2, next_basis, 1, answer, length);
-    expect_answer(answer, length, next_offset, "rz_fold: answer");
-    expect_list(values, folded, answers ? 2 : 0, "rz_fold: values");
-    expect_list(next_basis, six, answers ? 1 : 0, "rz_fold: next basis");
+    expect_raw(answer, length, given(0x48), "rz_fold: answer");
+    expect_list(values, folded_d, answers ? 2 : 0, "rz_fold: values");
+    expect_list(next_basis, next_basis_d, answers ? 1 : 0, "rz_fold: next basis");
 }
 
-/* Each argument of a fold stands in its own place: a refusal names it, and both lists are left alone. */
-static void expect_fold_refused(size_t k, size_t step, size_t basis_length, size_t word_length, size_t values_length,
-                                size_t next_length, uint64_t number, uint64_t place) {
-    const uint64_t refused[] = {number, place, RZ_NONE, 0, RZ_NONE};
-    uint64_t answer[LENGTHS], values[LENGTHS], next_basis[LENGTHS];
+static void expect_fold(void) {
+    const struct rz_fold_call call = fold_d();
+    uint64_t values[ROOM], next_basis[ROOM];
+
+    fill(values);
+    fill(next_basis);
+    expect_answer(rz_fold_answer(&call, rz_output_of(values, 2), rz_output_of(next_basis, 1)),
+                  given(0x48), "rz_fold_answer");
+    expect_list(values, folded_d, 2, "rz_fold_answer: values");
+    expect_list(next_basis, next_basis_d, 1, "rz_fold_answer: next basis");
+}
+
+/* Each argument of a fold stands in its own place: a refusal names it, and both lists are left
+ * alone. */
+static void expect_fold_refused(size_t k, size_t step, size_t basis_length, size_t word_length,
+                                size_t values_length, size_t next_length, struct rz_answer due) {
+    const struct rz_fold_call call = {k, step, 8, {basis, basis_length}, {word, word_length}, 4};
+    uint64_t answer[ROOM], values[ROOM], next_basis[ROOM];
 
     fill(answer);
     fill(values);
     fill(next_basis);
-    rz_fold(k, step, 8, basis, basis_length, word, word_length, 4, values, values_length, next_basis, next_length,
-            answer, RZ_ANSWER_LENGTH);
-    expect_answer(answer, RZ_ANSWER_LENGTH, refused, "rz_fold: refusal");
-    expect_list(values, word, 0, "rz_fold: values after a refusal");
-    expect_list(next_basis, word, 0, "rz_fold: next basis after a refusal");
+    rz_fold(k, step, 8, basis, basis_length, word, word_length, 4, values, values_length,
+            next_basis, next_length, answer, RZ_ANSWER_LENGTH);
+    expect_raw(answer, RZ_ANSWER_LENGTH, due, "rz_fold: refusal");
+    expect_answer(rz_fold_answer(&call, rz_output_of(values, values_length),
+                                 rz_output_of(next_basis, next_length)),
+                  due, "rz_fold_answer: refusal");
+    expect_untouched(values, "values after a refused fold");
+    expect_untouched(next_basis, "next basis after a refused fold");
 }
 
 static void expect_folds_refused(void) {
-    expect_fold_refused(1, 1, 2, 4, 2, 1, 4, RZ_NONE);
-    expect_fold_refused(2, 4, 2, 4, 2, 1, 6, RZ_NONE);
-    expect_fold_refused(2, 3, 2, 4, 2, 1, 7, RZ_NONE);
-    expect_fold_refused(2, 1, 1, 3, 3, 2, 13, 1);
-    expect_fold_refused(2, 1, 2, 3, 3, 2, 13, 3);
-    expect_fold_refused(2, 1, 2, 4, 3, 2, 13, 6);
-    expect_fold_refused(2, 1, 2, 4, 2, 2, 13, 7);
+    expect_fold_refused(1, 1, 2, 4, 2, 1, refused(RZ_DIMENSION_OUT_OF_RANGE, RZ_NONE));
+    expect_fold_refused(2, 4, 2, 4, 2, 1, refused(RZ_STEP_OUT_OF_RANGE, RZ_NONE));
+    expect_fold_refused(2, 3, 2, 4, 2, 1, refused(RZ_DIMENSION_TOO_SMALL, RZ_NONE));
+    expect_fold_refused(2, 1, 1, 3, 3, 2, refused(RZ_WRONG_LENGTH, 1));
+    expect_fold_refused(2, 1, 2, 3, 3, 2, refused(RZ_WRONG_LENGTH, 3));
+    expect_fold_refused(2, 1, 2, 4, 3, 2, refused(RZ_WRONG_LENGTH, 6));
+    expect_fold_refused(2, 1, 2, 4, 2, 2, refused(RZ_WRONG_LENGTH, 7));
 }
 
-/* Each length stands in its own place: a refusal names the list, and the output is left alone. */
-static void expect_refused(void) {
-    const uint64_t list_3[] = {13, 3, RZ_NONE, 0, RZ_NONE};
-    const uint64_t list_6[] = {13, 6, RZ_NONE, 0, RZ_NONE};
-    const uint64_t dependent[] = {8, 1, RZ_NONE, 0, RZ_NONE};
-    const uint64_t twice[] = {1, 1};
-    uint64_t answer[LENGTHS], output[LENGTHS];
-
-    fill(answer);
-    fill(output);
-    rz_encode(0, basis, 1, word, 3, output, 2, answer, RZ_ANSWER_LENGTH);
-    expect_answer(answer, RZ_ANSWER_LENGTH, list_3, "rz_encode: list 3");
-    rz_encode(0, basis, 2, word, 4, output, 5, answer, RZ_ANSWER_LENGTH);
-    expect_answer(answer, RZ_ANSWER_LENGTH, list_6, "rz_encode: list 6");
-    rz_encode(0, twice, 2, word, 4, output, 4, answer, RZ_ANSWER_LENGTH);
-    expect_answer(answer, RZ_ANSWER_LENGTH, dependent, "rz_encode: basis");
-    rz_interpolate(0, basis, 2, word, 3, output, 4, answer, RZ_ANSWER_LENGTH);
-    expect_answer(answer, RZ_ANSWER_LENGTH, list_3, "rz_interpolate: list 3");
-    rz_interpolate(0, basis, 2, word, 4, output, 3, answer, RZ_ANSWER_LENGTH);
-    expect_answer(answer, RZ_ANSWER_LENGTH, list_6, "rz_interpolate: list 6");
-    expect_list(output, word, 0, "output after a refusal");
+/* Layer 1 of case K, the whole store. */
+static struct rz_answer part_k(void) {
+    return answer_with(RZ_ACCEPTED, 0, RZ_NONE, 0, 4);
 }
-
-static const uint64_t basis_k[] = {1, 2, 4}, challenges_k[] = {2, 3}, queries_k[] = {5, 8}, last_k[] = {1};
-static const uint64_t word_k[] = {0, 1, 4, 5, 0x10, 0x11, 0x14, 0x15}, layer_k[] = {2, 4, 0x16, 0x10};
 
 /* Case K proved, looked up and judged, with an answer's list of any length. */
-static void expect_run(size_t length) {
-    const uint64_t part[] = {0, 0, RZ_NONE, 0, 4}, accepted[] = {0, RZ_NONE, RZ_NONE, 4, RZ_NONE};
-    uint64_t answer[LENGTHS], store[LENGTHS], last[LENGTHS];
-    size_t answers = length == RZ_ANSWER_LENGTH;
+static void expect_raw_run(size_t length) {
+    uint64_t answer[ROOM], store[ROOM], last[ROOM];
+    int answers = length == RZ_ANSWER_LENGTH;
 
     fill(answer);
     fill(store);
     fill(last);
-    rz_prove(3, 1, 1, 0, basis_k, 3, challenges_k, 2, word_k, 8, store, 4, last, 1, answer, length);
-    expect_answer(answer, length, done, "rz_prove: answer");
+    rz_prove(3, 1, 1, 0, basis_k, 3, challenges_k, 2, word_k, 8, store, 4, last, 1, answer,
+             length);
+    expect_raw(answer, length, done(), "rz_prove: answer");
     expect_list(store, layer_k, answers ? 4 : 0, "rz_prove: store");
     expect_list(last, last_k, answers ? 1 : 0, "rz_prove: last coefficients");
 
     fill(answer);
     rz_layer(3, 1, 1, layer_k, 4, 1, answer, length);
-    expect_answer(answer, length, part, "rz_layer");
+    expect_raw(answer, length, part_k(), "rz_layer");
 
     fill(answer);
-    rz_judge(3, 1, 1, 0, basis_k, 3, challenges_k, 2, queries_k, 1, word_k, 8, layer_k, 4, last_k, 1, answer, length);
-    expect_answer(answer, length, accepted, "rz_judge");
+    rz_judge(3, 1, 1, 0, basis_k, 3, challenges_k, 2, queries_k, 1, word_k, 8, layer_k, 4, last_k,
+             1, answer, length);
+    expect_raw(answer, length, accepted(4), "rz_judge");
+}
+
+static void expect_run(void) {
+    const struct rz_run run = run_k();
+    uint64_t store[ROOM], last[ROOM];
+
+    fill(store);
+    fill(last);
+    expect_answer(rz_prove_answer(&run, rz_output_of(store, 4), rz_output_of(last, 1)), done(),
+                  "rz_prove_answer");
+    expect_list(store, layer_k, 4, "rz_prove_answer: store");
+    expect_list(last, last_k, 1, "rz_prove_answer: last coefficients");
+    expect_answer(rz_layer_answer(3, 1, 1, rz_list_of(store, 4), 1), part_k(), "rz_layer_answer");
+    expect_answer(rz_judge_answer(&run, rz_list_of(queries_k, 1), rz_list_of(store, 4),
+                                  rz_list_of(last, 1)),
+                  accepted(4), "rz_judge_answer");
 }
 
 /* What is given to prover and judge beside case K's numbers. */
@@ -160,92 +326,390 @@ struct lengths {
     size_t k, rate, step, basis, challenges, word, store, last;
 };
 
-/* Each argument stands in its own place: prover and judge refuse it alike, and both lists are left alone. */
-static void expect_run_refused(struct lengths n, uint64_t number, uint64_t place) {
-    const uint64_t refused[] = {number, place, RZ_NONE, 0, RZ_NONE};
-    uint64_t answer[LENGTHS], store[LENGTHS], last[LENGTHS];
+/* Each argument stands in its own place: prover and judge refuse it alike, and both lists are left
+ * alone. */
+static void expect_run_refused(struct lengths n, struct rz_answer due) {
+    const struct rz_run run = {n.k, n.rate, n.step, 0, {basis_k, n.basis},
+                               {challenges_k, n.challenges}, {word_k, n.word}};
+    uint64_t answer[ROOM], store[ROOM], last[ROOM];
 
     fill(answer);
     fill(store);
     fill(last);
-    rz_prove(n.k, n.rate, n.step, 0, basis_k, n.basis, challenges_k, n.challenges, word_k, n.word, store, n.store,
-             last, n.last, answer, RZ_ANSWER_LENGTH);
-    expect_answer(answer, RZ_ANSWER_LENGTH, refused, "rz_prove: refusal");
-    expect_list(store, word, 0, "rz_prove: store after a refusal");
-    expect_list(last, word, 0, "rz_prove: last coefficients after a refusal");
-    rz_judge(n.k, n.rate, n.step, 0, basis_k, n.basis, challenges_k, n.challenges, queries_k, 1, word_k, n.word,
-             layer_k, n.store, last_k, n.last, answer, RZ_ANSWER_LENGTH);
-    expect_answer(answer, RZ_ANSWER_LENGTH, refused, "rz_judge: refusal");
+    rz_prove(n.k, n.rate, n.step, 0, basis_k, n.basis, challenges_k, n.challenges, word_k, n.word,
+             store, n.store, last, n.last, answer, RZ_ANSWER_LENGTH);
+    expect_raw(answer, RZ_ANSWER_LENGTH, due, "rz_prove: refusal");
+    expect_answer(rz_prove_answer(&run, rz_output_of(store, n.store), rz_output_of(last, n.last)),
+                  due, "rz_prove_answer: refusal");
+    expect_untouched(store, "store after a refusal");
+    expect_untouched(last, "last coefficients after a refusal");
+
+    fill(answer);
+    rz_judge(n.k, n.rate, n.step, 0, basis_k, n.basis, challenges_k, n.challenges, queries_k, 1,
+             word_k, n.word, layer_k, n.store, last_k, n.last, answer, RZ_ANSWER_LENGTH);
+    expect_raw(answer, RZ_ANSWER_LENGTH, due, "rz_judge: refusal");
+    expect_answer(rz_judge_answer(&run, rz_list_of(queries_k, 1), rz_list_of(layer_k, n.store),
+                                  rz_list_of(last_k, n.last)),
+                  due, "rz_judge_answer: refusal");
 }
 
 static void expect_runs_refused(void) {
-    expect_run_refused((struct lengths){1, 1, 1, 3, 2, 8, 4, 1}, 4, RZ_NONE);
-    expect_run_refused((struct lengths){3, 7, 1, 3, 2, 8, 4, 1}, 5, RZ_NONE);
-    expect_run_refused((struct lengths){3, 1, 4, 3, 2, 8, 4, 1}, 6, RZ_NONE);
-    expect_run_refused((struct lengths){3, 3, 1, 3, 2, 8, 4, 1}, 7, RZ_NONE);
-    expect_run_refused((struct lengths){3, 1, 1, 2, 1, 7, 3, 0}, 13, 1);
-    expect_run_refused((struct lengths){3, 1, 1, 3, 1, 7, 3, 0}, 13, 2);
-    expect_run_refused((struct lengths){3, 1, 1, 3, 2, 7, 3, 0}, 13, 3);
-    expect_run_refused((struct lengths){3, 1, 1, 3, 2, 8, 3, 0}, 13, 4);
-    expect_run_refused((struct lengths){3, 1, 1, 3, 2, 8, 4, 0}, 13, 5);
+    static const struct {
+        struct lengths lengths;
+        uint64_t number, place;
+    } runs[] = {
+        {{1, 1, 1, 3, 2, 8, 4, 1}, RZ_DIMENSION_OUT_OF_RANGE, RZ_NONE},
+        {{3, 7, 1, 3, 2, 8, 4, 1}, RZ_RATE_OUT_OF_RANGE, RZ_NONE},
+        {{3, 1, 4, 3, 2, 8, 4, 1}, RZ_STEP_OUT_OF_RANGE, RZ_NONE},
+        {{3, 3, 1, 3, 2, 8, 4, 1}, RZ_DIMENSION_TOO_SMALL, RZ_NONE},
+        {{3, 1, 1, 2, 1, 7, 3, 0}, RZ_WRONG_LENGTH, 1},
+        {{3, 1, 1, 3, 1, 7, 3, 0}, RZ_WRONG_LENGTH, 2},
+        {{3, 1, 1, 3, 2, 7, 3, 0}, RZ_WRONG_LENGTH, 3},
+        {{3, 1, 1, 3, 2, 8, 3, 0}, RZ_WRONG_LENGTH, 4},
+        {{3, 1, 1, 3, 2, 8, 4, 0}, RZ_WRONG_LENGTH, 5},
+    };
+
+    for (size_t i = 0; i < LENGTH(runs); i++) {
+        expect_run_refused(runs[i].lengths, refused(runs[i].number, runs[i].place));
+    }
+}
+
+/* Case K judged with as many queries and with a last coefficient. */
+static void expect_judged(size_t queries, const uint64_t *last, struct rz_answer due) {
+    const struct rz_run run = run_k();
+    uint64_t answer[ROOM];
+
+    fill(answer);
+    rz_judge(3, 1, 1, 0, basis_k, 3, challenges_k, 2, queries_k, queries, word_k, 8, layer_k, 4,
+             last, 1, answer, RZ_ANSWER_LENGTH);
+    expect_raw(answer, RZ_ANSWER_LENGTH, due, "rz_judge: queries");
+    expect_answer(rz_judge_answer(&run, rz_list_of(queries_k, queries), rz_list_of(layer_k, 4),
+                                  rz_list_of(last, 1)),
+                  due, "rz_judge_answer: queries");
 }
 
 /* The numbers that one of the two alone gives: 9, 10 and 11 of the judge, 12 of the prover. */
 static void expect_own_numbers(void) {
-    const uint64_t no_query[] = {9, RZ_NONE, RZ_NONE, 0, RZ_NONE}, outside[] = {10, 1, RZ_NONE, 0, RZ_NONE};
-    const uint64_t fails[] = {11, 0, 1, 4, RZ_NONE}, degree[] = {12, 1, RZ_NONE, 0, 1};
     const uint64_t last_one[] = {0, 0, 0, 1}, zero[] = {0};
-    uint64_t answer[LENGTHS], store[LENGTHS], last[LENGTHS];
+    const struct rz_answer degree = answer_with(RZ_DEGREE_TOO_LARGE, 1, RZ_NONE, 0, 1);
+    struct rz_run run = run_g();
+    uint64_t answer[ROOM], store[ROOM], last[ROOM];
+
+    expect_judged(0, last_k, refused(RZ_QUERY_COUNT_OUT_OF_RANGE, RZ_NONE));
+    expect_judged(2, last_k, refused(RZ_QUERY_OUT_OF_RANGE, 1));
+    expect_judged(1, zero, answer_with(RZ_ROUND_CHECK_FAILS, 0, 1, 4, RZ_NONE));
 
     fill(answer);
+    fill(store);
     fill(last);
-    rz_judge(3, 1, 1, 0, basis_k, 3, challenges_k, 2, queries_k, 0, word_k, 8, layer_k, 4, last_k, 1, answer,
+    rz_prove(2, 1, 1, 0, basis, 2, challenge, 1, last_one, 4, store, 0, last, 1, answer,
              RZ_ANSWER_LENGTH);
-    expect_answer(answer, RZ_ANSWER_LENGTH, no_query, "rz_judge: no query");
-    rz_judge(3, 1, 1, 0, basis_k, 3, challenges_k, 2, queries_k, 2, word_k, 8, layer_k, 4, last_k, 1, answer,
-             RZ_ANSWER_LENGTH);
-    expect_answer(answer, RZ_ANSWER_LENGTH, outside, "rz_judge: query out of range");
-    rz_judge(3, 1, 1, 0, basis_k, 3, challenges_k, 2, queries_k, 1, word_k, 8, layer_k, 4, zero, 1, answer,
-             RZ_ANSWER_LENGTH);
-    expect_answer(answer, RZ_ANSWER_LENGTH, fails, "rz_judge: round check");
-    rz_prove(2, 1, 1, 0, basis, 2, coefficients, 1, last_one, 4, store, 0, last, 1, answer, RZ_ANSWER_LENGTH);
-    expect_answer(answer, RZ_ANSWER_LENGTH, degree, "rz_prove: degree");
-    expect_list(last, word, 0, "rz_prove: last coefficients after a degree that is told");
+    expect_raw(answer, RZ_ANSWER_LENGTH, degree, "rz_prove: degree");
+    run.word = rz_list_of(last_one, 4);
+    expect_answer(rz_prove_answer(&run, rz_output_of(store, 0), rz_output_of(last, 1)), degree,
+                  "rz_prove_answer: degree");
+    expect_untouched(last, "last coefficients after a degree that is told");
 }
 
-/* Case G as a transcript, 136 bytes, and the empty one, into answer lists of every length. */
-static void expect_transcripts(size_t length) {
-    const uint64_t accepted[] = {0, RZ_NONE, RZ_NONE, 4, RZ_NONE}, empty[] = {1, 1, RZ_NONE, 0, RZ_NONE};
-    const uint8_t case_g[136] = {
-        [0] = 3, [4] = 2, [12] = 1, [20] = 1, [28] = 3, [40] = 1, [48] = 2, [56] = 1, [60] = 4, [68] = 2, [80] = 3,
-        [88] = 4, [92] = 7, [100] = 4, [108] = 1, [116] = 2, [124] = 1, [128] = 0xb};
-    uint64_t answer[LENGTHS];
+/* Case G as a transcript: a row for each count and for each entry. */
+static const uint8_t case_g[] = {
+    /* k, rate, step */
+    3, 0, 0, 0,
+    2, 0, 0, 0, 0, 0, 0, 0,
+    1, 0, 0, 0, 0, 0, 0, 0,
+    1, 0, 0, 0, 0, 0, 0, 0,
+    /* offset, basis */
+    3, 0, 0, 0,
+    0, 0, 0, 0, 0, 0, 0, 0,
+    1, 0, 0, 0, 0, 0, 0, 0,
+    2, 0, 0, 0, 0, 0, 0, 0,
+    /* challenge */
+    1, 0, 0, 0,
+    4, 0, 0, 0, 0, 0, 0, 0,
+    /* queries */
+    2, 0, 0, 0,
+    0, 0, 0, 0, 0, 0, 0, 0,
+    3, 0, 0, 0, 0, 0, 0, 0,
+    /* word */
+    4, 0, 0, 0,
+    7, 0, 0, 0, 0, 0, 0, 0,
+    4, 0, 0, 0, 0, 0, 0, 0,
+    1, 0, 0, 0, 0, 0, 0, 0,
+    2, 0, 0, 0, 0, 0, 0, 0,
+    /* last coefficient */
+    1, 0, 0, 0,
+    0xb, 0, 0, 0, 0, 0, 0, 0,
+};
+
+/* Case G and the empty transcript, with answer lists of every length. */
+static void expect_raw_transcripts(size_t length) {
+    uint64_t answer[ROOM];
 
     fill(answer);
     rz_judge_transcript(case_g, sizeof case_g, answer, length);
-    expect_answer(answer, length, accepted, "rz_judge_transcript: case G");
+    expect_raw(answer, length, accepted(4), "rz_judge_transcript: case G");
     fill(answer);
     rz_judge_transcript(case_g, 0, answer, length);
-    expect_answer(answer, length, empty, "rz_judge_transcript: no bytes");
+    expect_raw(answer, length, refused(RZ_BYTES_END, 1), "rz_judge_transcript: no bytes");
+}
+
+static void expect_transcripts(void) {
+    expect_answer(rz_judge_transcript_answer(case_g, sizeof case_g), accepted(4),
+                  "rz_judge_transcript_answer: case G");
+    expect_answer(rz_judge_transcript_answer(case_g, 0), refused(RZ_BYTES_END, 1),
+                  "rz_judge_transcript_answer: no bytes");
+    expect(accepted_elsewhere(case_g, sizeof case_g) == 1, "case G in another file");
+    expect(accepted_elsewhere(case_g, sizeof case_g - 1) == 0, "less than G in another file");
+}
+
+/* The trap of the raw functions: a list of zeros with its length in bytes reads as accepted, on
+ * case L's damaged store. What the caller should call instead refuses it. */
+static void expect_trap(void) {
+    const uint64_t damaged[] = {3, 4, 0x16, 0x10}, query[] = {0};
+    const struct rz_run run = run_k();
+    uint64_t a[5] = {0};
+
+    rz_judge(3, 1, 1, 0, basis_k, 3, challenges_k, 2, query, 1, word_k, 8, damaged, 4, last_k, 1,
+             a, sizeof a);
+    for (size_t i = 0; i < LENGTH(a); i++) {
+        expect(a[i] == 0, "rz_judge: a list of 40 numbers is left alone");
+    }
+    expect_answer(rz_judge_answer(&run, rz_list_of(query, 1), rz_list_of(damaged, 4),
+                                  rz_list_of(last_k, 1)),
+                  answer_with(RZ_ROUND_CHECK_FAILS, 0, 0, 4, RZ_NONE),
+                  "rz_judge_answer: a damaged store");
+}
+
+static int in_range(size_t k, size_t rate, size_t step) {
+    return k >= 2 && k <= 20 && rate >= 1 && rate <= 6 && step >= 1 && step <= 3 &&
+           k >= rate + step;
+}
+
+/* The layers that the lookup finds in a store of the length told fill it, and there are as many as
+ * the rounds say. */
+static void expect_layers(size_t k, size_t rate, size_t step) {
+    static const uint64_t room[1 << 20] = {0};
+    const uint64_t rounds = rz_rounds(k, rate, step);
+    const struct rz_list store = rz_list_of(room, rz_store_length(k, rate, step));
+    uint64_t end = 0;
+
+    for (size_t i = 0; i <= rounds; i++) {
+        struct rz_answer part = rz_layer_answer(k, rate, step, store, i);
+        int stored = i >= 1 && i < rounds;
+        uint64_t length = stored ? UINT64_C(1) << (k - i * step) : 0;
+
+        expect_answer(part, answer_with(RZ_ACCEPTED, stored ? end : 0, RZ_NONE, 0, length),
+                      "rz_layer_answer: every layer");
+        end += length;
+    }
+    expect(end == store.length, "rz_store_length: the layers fill it");
+}
+
+static void expect_lengths(size_t k, size_t rate, size_t step) {
+    if (!in_range(k, rate, step)) {
+        expect(rz_rounds(k, rate, step) == 0, "rz_rounds: out of range");
+        expect(rz_store_length(k, rate, step) == 0, "rz_store_length: out of range");
+        expect(rz_last_length(k, rate, step) == 0, "rz_last_length: out of range");
+        return;
+    }
+    size_t rounds = (k - rate) / step;
+    expect(rz_rounds(k, rate, step) == rounds, "rz_rounds");
+    expect(rz_last_length(k, rate, step) == UINT64_C(1) << (k - rate - rounds * step),
+           "rz_last_length");
+    expect_layers(k, rate, step);
+}
+
+static void expect_all_lengths(void) {
+    for (size_t k = 0; k <= 21; k++) {
+        for (size_t rate = 0; rate <= 7; rate++) {
+            for (size_t step = 0; step <= 4; step++) {
+                expect_lengths(k, rate, step);
+            }
+        }
+    }
+    expect_lengths(SIZE_MAX, 1, 1);
+    expect_lengths(3, SIZE_MAX, 1);
+    expect_lengths(3, 1, SIZE_MAX);
+    expect_lengths(3, SIZE_MAX, SIZE_MAX);
+    expect(rz_store_length(2, 1, 1) == 0, "rz_store_length: one round");
+    expect(rz_store_length(3, 1, 1) == 4, "rz_store_length: case K");
+    expect(rz_store_length(20, 6, 3) == 149504, "rz_store_length: case O");
+}
+
+/* Null pointers. One with length 0 is a list without entries; with another length it leaves all
+ * undone. */
+static const struct rz_list no_entries = {NULL, 0}, missing = {NULL, 1};
+static const struct rz_output no_room = {NULL, 0}, missing_room = {NULL, 1};
+
+static void expect_nulls_in_encoding(void) {
+    const uint64_t zeros[] = {0, 0, 0, 0};
+    const struct rz_list both = rz_list_of(basis, 2), seven = rz_list_of(coefficients, 1);
+    uint64_t values[ROOM];
+    const struct rz_output one = {values, 1}, four = {values, 4};
+
+    fill(values);
+    expect_answer(rz_encode_answer(0, missing, seven, four), nothing_done(), "null: basis");
+    expect_answer(rz_encode_answer(0, both, missing, four), nothing_done(), "null: coefficients");
+    expect_answer(rz_encode_answer(0, both, seven, missing_room), nothing_done(), "null: values");
+    expect_untouched(values, "null: values where nothing was done");
+    expect_answer(rz_encode_answer(0, both, seven, no_room), refused(RZ_WRONG_LENGTH, 6),
+                  "null: no values");
+    expect_answer(rz_encode_answer(0, no_entries, seven, one), done(), "null: no basis");
+    expect_list(values, coefficients, 1, "null: the value at one point");
+    expect_answer(rz_encode_answer(0, both, no_entries, four), done(), "null: no coefficients");
+    expect_list(values, zeros, 4, "null: values of zero");
+}
+
+static void expect_nulls_in_interpolation(void) {
+    const struct rz_list both = rz_list_of(basis, 2), seven = rz_list_of(word, 1);
+    const struct rz_list all = rz_list_of(word, 4);
+    uint64_t found[ROOM];
+    const struct rz_output one = {found, 1}, four = {found, 4};
+
+    fill(found);
+    expect_answer(rz_interpolate_answer(0, missing, all, four), nothing_done(), "null: basis");
+    expect_answer(rz_interpolate_answer(0, both, missing, four), nothing_done(), "null: word");
+    expect_answer(rz_interpolate_answer(0, both, all, missing_room), nothing_done(),
+                  "null: coefficients found");
+    expect_answer(rz_interpolate_answer(0, both, no_entries, four), refused(RZ_WRONG_LENGTH, 3),
+                  "null: no word");
+    expect_answer(rz_interpolate_answer(0, both, all, no_room), refused(RZ_WRONG_LENGTH, 6),
+                  "null: no coefficients found");
+    expect_untouched(found, "null: coefficients where nothing was done");
+    expect_answer(rz_interpolate_answer(0, no_entries, seven, one), done(), "null: no basis");
+    expect_list(found, word, 1, "null: the coefficient of one point");
+}
+
+static void expect_fold_with(struct rz_list points, struct rz_list input, struct rz_output values,
+                             struct rz_output next_basis, struct rz_answer due) {
+    struct rz_fold_call call = fold_d();
+
+    call.basis = points;
+    call.word = input;
+    expect_answer(rz_fold_answer(&call, values, next_basis), due, "null: rz_fold_answer");
+}
+
+static void expect_nulls_in_folds(void) {
+    const struct rz_list both = rz_list_of(basis, 2), all = rz_list_of(word, 4);
+    struct rz_fold_call call = fold_d();
+    uint64_t list[ROOM], other[ROOM];
+    const struct rz_output values = {list, 2}, one = {list, 1}, next_basis = {other, 1};
+
+    fill(list);
+    fill(other);
+    expect_fold_with(missing, all, values, next_basis, nothing_done());
+    expect_fold_with(both, missing, values, next_basis, nothing_done());
+    expect_fold_with(both, all, missing_room, next_basis, nothing_done());
+    expect_fold_with(both, all, values, missing_room, nothing_done());
+    expect_answer(rz_fold_answer(NULL, values, next_basis), nothing_done(), "null: fold call");
+    expect_fold_with(no_entries, all, values, next_basis, refused(RZ_WRONG_LENGTH, 1));
+    expect_fold_with(both, no_entries, values, next_basis, refused(RZ_WRONG_LENGTH, 3));
+    expect_fold_with(both, all, no_room, next_basis, refused(RZ_WRONG_LENGTH, 6));
+    expect_fold_with(both, all, values, no_room, refused(RZ_WRONG_LENGTH, 7));
+    expect_untouched(list, "null: values where nothing was done");
+    expect_untouched(other, "null: next basis where nothing was done");
+
+    call.step = 2;
+    expect(rz_accepted(rz_fold_answer(&call, one, no_room)), "null: no next basis");
+    expect(list[0] != PATTERN, "null: the value of a fold to one point");
+}
+
+/* Prover and judge with what they share. */
+static void expect_both(const struct rz_run *run, struct rz_answer due, const char *what) {
+    uint64_t last[ROOM];
+
+    fill(last);
+    expect_answer(rz_prove_answer(run, no_room, rz_output_of(last, 1)), due, what);
+    expect_untouched(last, what);
+    expect_answer(rz_judge_answer(run, rz_list_of(queries_g, 2), no_entries,
+                                  rz_list_of(last_g, 1)),
+                  due, what);
+}
+
+static void expect_nulls_in_shared_lists(void) {
+    struct rz_run run;
+    struct rz_list *lists[] = {&run.basis, &run.challenges, &run.word};
+
+    for (size_t i = 0; i < LENGTH(lists); i++) {
+        run = run_g();
+        *lists[i] = missing;
+        expect_both(&run, nothing_done(), "null: a list of the run");
+        *lists[i] = no_entries;
+        expect_both(&run, refused(RZ_WRONG_LENGTH, i + 1), "null: no entries in the run");
+    }
+    expect_both(NULL, nothing_done(), "null: run");
+}
+
+/* Case G's one round: its store is a list without entries. */
+static void expect_nulls_in_proofs(void) {
+    const struct rz_run run = run_g();
+    uint64_t list[ROOM];
+    const struct rz_output last = {list, 1};
+
+    fill(list);
+    expect_answer(rz_prove_answer(&run, missing_room, last), nothing_done(), "null: store");
+    expect_answer(rz_prove_answer(&run, no_room, missing_room), nothing_done(), "null: last");
+    expect_answer(rz_prove_answer(&run, no_room, no_room), refused(RZ_WRONG_LENGTH, 5),
+                  "null: no last");
+    expect_untouched(list, "null: last coefficients where nothing was done");
+    expect_answer(rz_prove_answer(&run, no_room, last), done(), "null: no store");
+    expect_list(list, last_g, 1, "null: last coefficient with no store");
+}
+
+static void expect_nulls_in_judging(void) {
+    const struct rz_run run = run_g();
+    const struct rz_list queries = rz_list_of(queries_g, 2), last = rz_list_of(last_g, 1);
+
+    expect_answer(rz_judge_answer(&run, missing, no_entries, last), nothing_done(),
+                  "null: queries");
+    expect_answer(rz_judge_answer(&run, queries, missing, last), nothing_done(), "null: store");
+    expect_answer(rz_judge_answer(&run, queries, no_entries, missing), nothing_done(),
+                  "null: last");
+    expect_answer(rz_judge_answer(&run, no_entries, no_entries, last),
+                  refused(RZ_QUERY_COUNT_OUT_OF_RANGE, RZ_NONE), "null: no queries");
+    expect_answer(rz_judge_answer(&run, queries, no_entries, no_entries),
+                  refused(RZ_WRONG_LENGTH, 5), "null: no last");
+    expect_answer(rz_judge_answer(&run, queries, no_entries, last), accepted(4), "null: no store");
+}
+
+static void expect_other_nulls(void) {
+    const struct rz_answer empty_part = answer_with(RZ_ACCEPTED, 0, RZ_NONE, 0, 0);
+
+    expect_answer(rz_layer_answer(3, 1, 1, missing, 1), nothing_done(), "null: layers");
+    expect_answer(rz_layer_answer(3, 1, 1, no_entries, 1), empty_part, "null: no layers");
+    expect_answer(rz_judge_transcript_answer(NULL, 1), nothing_done(), "null: bytes");
+    expect_answer(rz_judge_transcript_answer(NULL, 0), refused(RZ_BYTES_END, 1), "null: no bytes");
+}
+
+static void expect_nulls(void) {
+    expect_nulls_in_encoding();
+    expect_nulls_in_interpolation();
+    expect_nulls_in_folds();
+    expect_nulls_in_shared_lists();
+    expect_nulls_in_proofs();
+    expect_nulls_in_judging();
+    expect_other_nulls();
 }
 
 int main(void) {
-    const uint64_t of_two[] = {0, RZ_NONE, RZ_NONE, 0, UINT64_C(0x800000000000000d)};
-    const uint64_t of_zero[] = {15, RZ_NONE, RZ_NONE, 0, RZ_NONE};
-
-    expect(rz_sum(UINT64_C(0xf00000000000000f), 5) == UINT64_C(0xf00000000000000a), "rz_sum");
-    expect(rz_product(UINT64_C(0x8000000000000000), 2) == 0x1b, "rz_product");
-    for (size_t length = 0; length <= LENGTHS; length++) {
-        expect_inverse(2, length, of_two);
-        expect_inverse(0, length, of_zero);
-        expect_codes(length);
-        expect_fold(length);
-        expect_run(length);
-        expect_transcripts(length);
+    expect_version();
+    for (size_t length = 0; length <= ROOM; length++) {
+        expect_arithmetic(length);
+        expect_raw_codes(length);
+        expect_raw_fold(length);
+        expect_raw_run(length);
+        expect_raw_transcripts(length);
     }
-    expect_refused();
+    expect_codes();
+    expect_codes_refused();
+    expect_fold();
     expect_folds_refused();
+    expect_run();
     expect_runs_refused();
     expect_own_numbers();
+    expect_transcripts();
+    expect_trap();
+    expect_all_lengths();
+    expect_nulls();
     return failures != 0;
 }
