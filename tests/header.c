@@ -88,15 +88,14 @@ static void expect_raw(const uint64_t list[ROOM], size_t length, struct rz_answe
     expect_list(list, numbers, length == RZ_ANSWER_LENGTH ? RZ_ANSWER_LENGTH : 0, what);
 }
 
-/* Cases E, F and G: one round over four points, with an empty store. */
-static const uint64_t basis[] = {1, 2}, coefficients[] = {7, 3}, word[] = {7, 4, 1, 2};
-static const uint64_t filled_in[] = {7, 3, 0, 0}, challenge[] = {4}, last_g[] = {0xb};
-static const uint64_t queries_g[] = {0, 3};
+/* Cases F and G: one round over four points, with an empty store. */
+static const uint64_t basis[] = {1, 2}, word[] = {7, 4, 1, 2}, challenge[] = {4};
+static const uint64_t queries_g[] = {0, 3}, last_g[] = {0xb};
 
-/* Case K: two rounds over eight points. Query 8 is out of range. */
+/* Case K, but from offset 8: two rounds over eight points. Query 8 is out of range. */
 static const uint64_t basis_k[] = {1, 2, 4}, challenges_k[] = {2, 3}, queries_k[] = {5, 8};
 static const uint64_t word_k[] = {0, 1, 4, 5, 0x10, 0x11, 0x14, 0x15};
-static const uint64_t layer_k[] = {2, 4, 0x16, 0x10}, last_k[] = {1};
+static const uint64_t layer_k[] = {0xa, 0xc, 0x1e, 0x18}, last_k[] = {0x41};
 
 static struct rz_run run_g(void) {
     struct rz_run run = {2, 1, 1, 0, {basis, 2}, {challenge, 1}, {word, 4}};
@@ -105,7 +104,7 @@ static struct rz_run run_g(void) {
 }
 
 static struct rz_run run_k(void) {
-    struct rz_run run = {3, 1, 1, 0, {basis_k, 3}, {challenges_k, 2}, {word_k, 8}};
+    struct rz_run run = {3, 1, 1, 8, {basis_k, 3}, {challenges_k, 2}, {word_k, 8}};
 
     return run;
 }
@@ -142,37 +141,40 @@ static void expect_arithmetic(size_t length) {
     expect_inverse(0, length, refused(RZ_INVERSE_OF_ZERO, RZ_NONE));
 }
 
-/* Case E there and back, with an answer's list of any length. */
+/* Case E there and back, but from offset 8. */
+static const uint64_t coefficients[] = {7, 3}, filled_in[] = {7, 3, 0, 0};
+static const uint64_t encoded[] = {0x1f, 0x1c, 0x19, 0x1a};
+
+/* With an answer's list of any length. */
 static void expect_raw_codes(size_t length) {
     uint64_t answer[ROOM], output[ROOM];
     size_t written = length == RZ_ANSWER_LENGTH ? 4 : 0;
 
     fill(answer);
     fill(output);
-    rz_encode(0, basis, 2, coefficients, 2, output, 4, answer, length);
+    rz_encode(8, basis, 2, coefficients, 2, output, 4, answer, length);
     expect_raw(answer, length, done(), "rz_encode: answer");
-    expect_list(output, word, written, "rz_encode: values");
+    expect_list(output, encoded, written, "rz_encode: values");
 
     fill(answer);
     fill(output);
-    rz_interpolate(0, basis, 2, word, 4, output, 4, answer, length);
+    rz_interpolate(8, basis, 2, encoded, 4, output, 4, answer, length);
     expect_raw(answer, length, done(), "rz_interpolate: answer");
     expect_list(output, filled_in, written, "rz_interpolate: coefficients");
 }
 
 static void expect_codes(void) {
-    const struct rz_list both = rz_list_of(basis, 2);
-    uint64_t output[ROOM];
+    const struct rz_list both = {basis, 2}, polynomial = {coefficients, 2}, values = {encoded, 4};
+    uint64_t list[ROOM];
+    const struct rz_output output = {list, 4};
 
-    fill(output);
-    expect_answer(rz_encode_answer(0, both, rz_list_of(coefficients, 2), rz_output_of(output, 4)),
-                  done(), "rz_encode_answer");
-    expect_list(output, word, 4, "rz_encode_answer: values");
+    fill(list);
+    expect_answer(rz_encode_answer(8, both, polynomial, output), done(), "rz_encode_answer");
+    expect_list(list, encoded, 4, "rz_encode_answer: values");
 
-    fill(output);
-    expect_answer(rz_interpolate_answer(0, both, rz_list_of(word, 4), rz_output_of(output, 4)),
-                  done(), "rz_interpolate_answer");
-    expect_list(output, filled_in, 4, "rz_interpolate_answer: coefficients");
+    fill(list);
+    expect_answer(rz_interpolate_answer(8, both, values, output), done(), "rz_interpolate_answer");
+    expect_list(list, filled_in, 4, "rz_interpolate_answer: coefficients");
 }
 
 /* Each length stands in its own place: a refusal names the list, and the output is left alone. */
@@ -289,7 +291,7 @@ static void expect_raw_run(size_t length) {
     fill(answer);
     fill(store);
     fill(last);
-    rz_prove(3, 1, 1, 0, basis_k, 3, challenges_k, 2, word_k, 8, store, 4, last, 1, answer,
+    rz_prove(3, 1, 1, 8, basis_k, 3, challenges_k, 2, word_k, 8, store, 4, last, 1, answer,
              length);
     expect_raw(answer, length, done(), "rz_prove: answer");
     expect_list(store, layer_k, answers ? 4 : 0, "rz_prove: store");
@@ -300,7 +302,7 @@ static void expect_raw_run(size_t length) {
     expect_raw(answer, length, part_k(), "rz_layer");
 
     fill(answer);
-    rz_judge(3, 1, 1, 0, basis_k, 3, challenges_k, 2, queries_k, 1, word_k, 8, layer_k, 4, last_k,
+    rz_judge(3, 1, 1, 8, basis_k, 3, challenges_k, 2, queries_k, 1, word_k, 8, layer_k, 4, last_k,
              1, answer, length);
     expect_raw(answer, length, accepted(4), "rz_judge");
 }
@@ -329,14 +331,14 @@ struct lengths {
 /* Each argument stands in its own place: prover and judge refuse it alike, and both lists are left
  * alone. */
 static void expect_run_refused(struct lengths n, struct rz_answer due) {
-    const struct rz_run run = {n.k, n.rate, n.step, 0, {basis_k, n.basis},
+    const struct rz_run run = {n.k, n.rate, n.step, 8, {basis_k, n.basis},
                                {challenges_k, n.challenges}, {word_k, n.word}};
     uint64_t answer[ROOM], store[ROOM], last[ROOM];
 
     fill(answer);
     fill(store);
     fill(last);
-    rz_prove(n.k, n.rate, n.step, 0, basis_k, n.basis, challenges_k, n.challenges, word_k, n.word,
+    rz_prove(n.k, n.rate, n.step, 8, basis_k, n.basis, challenges_k, n.challenges, word_k, n.word,
              store, n.store, last, n.last, answer, RZ_ANSWER_LENGTH);
     expect_raw(answer, RZ_ANSWER_LENGTH, due, "rz_prove: refusal");
     expect_answer(rz_prove_answer(&run, rz_output_of(store, n.store), rz_output_of(last, n.last)),
@@ -345,7 +347,7 @@ static void expect_run_refused(struct lengths n, struct rz_answer due) {
     expect_untouched(last, "last coefficients after a refusal");
 
     fill(answer);
-    rz_judge(n.k, n.rate, n.step, 0, basis_k, n.basis, challenges_k, n.challenges, queries_k, 1,
+    rz_judge(n.k, n.rate, n.step, 8, basis_k, n.basis, challenges_k, n.challenges, queries_k, 1,
              word_k, n.word, layer_k, n.store, last_k, n.last, answer, RZ_ANSWER_LENGTH);
     expect_raw(answer, RZ_ANSWER_LENGTH, due, "rz_judge: refusal");
     expect_answer(rz_judge_answer(&run, rz_list_of(queries_k, 1), rz_list_of(layer_k, n.store),
@@ -380,7 +382,7 @@ static void expect_judged(size_t queries, const uint64_t *last, struct rz_answer
     uint64_t answer[ROOM];
 
     fill(answer);
-    rz_judge(3, 1, 1, 0, basis_k, 3, challenges_k, 2, queries_k, queries, word_k, 8, layer_k, 4,
+    rz_judge(3, 1, 1, 8, basis_k, 3, challenges_k, 2, queries_k, queries, word_k, 8, layer_k, 4,
              last, 1, answer, RZ_ANSWER_LENGTH);
     expect_raw(answer, RZ_ANSWER_LENGTH, due, "rz_judge: queries");
     expect_answer(rz_judge_answer(&run, rz_list_of(queries_k, queries), rz_list_of(layer_k, 4),
@@ -462,14 +464,14 @@ static void expect_transcripts(void) {
     expect(accepted_elsewhere(case_g, sizeof case_g - 1) == 0, "less than G in another file");
 }
 
-/* The trap of the raw functions: a list of zeros with its length in bytes reads as accepted, on
- * case L's damaged store. What the caller should call instead refuses it. */
+/* The trap of the raw functions: a list of zeros with its length in bytes reads as accepted, on a
+ * damaged store. What the caller should call instead refuses it. */
 static void expect_trap(void) {
-    const uint64_t damaged[] = {3, 4, 0x16, 0x10}, query[] = {0};
+    const uint64_t damaged[] = {0xb, 0xc, 0x1e, 0x18}, query[] = {0};
     const struct rz_run run = run_k();
     uint64_t a[5] = {0};
 
-    rz_judge(3, 1, 1, 0, basis_k, 3, challenges_k, 2, query, 1, word_k, 8, damaged, 4, last_k, 1,
+    rz_judge(3, 1, 1, 8, basis_k, 3, challenges_k, 2, query, 1, word_k, 8, damaged, 4, last_k, 1,
              a, sizeof a);
     for (size_t i = 0; i < LENGTH(a); i++) {
         expect(a[i] == 0, "rz_judge: a list of 40 numbers is left alone");
