@@ -210,8 +210,8 @@ static void case_o(void) {
     const struct rz_list store = {layers, rz_store_length(20, 6, 3)}, none = {NULL, 0};
     const struct rz_run larger = {.k = 21, .rate = 6, .step = 3};
 
-    printf("O  k 20, R 6, step 3: rounds %" PRIu64, rz_rounds(20, 6, 3));
-    printf(", last coefficients %" PRIu64 ", layers of ", rz_last_length(20, 6, 3));
+    printf("O  k 20, R 6, step 3: rounds %zu", rz_rounds(20, 6, 3));
+    printf(", last coefficients %zu, layers of ", rz_last_length(20, 6, 3));
     for (size_t i = 1; i <= 4; i++) {
         printf("%s%" PRIu64, i > 1 ? ", " : "", rz_layer_answer(20, 6, 3, store, i).value);
     }
@@ -256,7 +256,7 @@ static size_t put_front(uint8_t *out, const struct rz_run *run, struct rz_list q
 /* A whole transcript, each stored layer in its own section; answers how many bytes it has. */
 static size_t put_run(uint8_t *out, const struct rz_run *run, struct rz_list queries,
                       struct rz_list store, struct rz_list last) {
-    const uint64_t rounds = rz_rounds(run->k, run->rate, run->step);
+    const size_t rounds = rz_rounds(run->k, run->rate, run->step);
     size_t at = put_front(out, run, queries);
 
     at = put_section(out, at, run->word);

@@ -154,13 +154,13 @@ static inline struct rz_output rz_output_of(uint64_t *entries, size_t length);
  *   next basis of a lone fold         k - step */
 
 /* r, how many rounds there are: (k - rate) / step, rounded down. */
-uint64_t rz_rounds(size_t k, size_t rate, size_t step);
+size_t rz_rounds(size_t k, size_t rate, size_t step);
 
 /* How many entries the store has: the sum of 2^(k - i * step) for i from 1 to r - 1. */
-uint64_t rz_store_length(size_t k, size_t rate, size_t step);
+size_t rz_store_length(size_t k, size_t rate, size_t step);
 
 /* d, how many last coefficients there are: 2^(k - rate - r * step), which is 1, 2 or 4. */
-uint64_t rz_last_length(size_t k, size_t rate, size_t step);
+size_t rz_last_length(size_t k, size_t rate, size_t step);
 
 /* 6. THE FUNCTIONS */
 

@@ -491,7 +491,7 @@ static int in_range(size_t k, size_t rate, size_t step) {
  * the rounds say. */
 static void expect_layers(size_t k, size_t rate, size_t step) {
     static const uint64_t room[1 << 20] = {0};
-    const uint64_t rounds = rz_rounds(k, rate, step);
+    const size_t rounds = rz_rounds(k, rate, step);
     const struct rz_list store = rz_list_of(room, rz_store_length(k, rate, step));
     uint64_t end = 0;
 
