@@ -1,24 +1,30 @@
-//! Safe calls of Razgwilh's proved library: FRI over additive cosets of the field of 2^64 elements.
+//! Safe calls of Razgwilh's proved library: FRI over cosets of the field of 2^64 elements.
 //!
-//! An element is a 64-bit number: bit i is the coefficient of t^i, modulo t^64 + t^4 + t^3 + t + 1. A
-//! coset has an offset, any element, and a basis of k independent elements; its point j is the offset plus
-//! the sum of all basis elements t whose bit t of j is set. A word lists 2^k values in point order. A
-//! polynomial is the list of its coefficients, constant first.
+//! An element is a 64-bit number: bit i is the coefficient of t^i, and elements multiply modulo
+//! t^64 + t^4 + t^3 + t + 1. A coset has an offset, any element, and a basis of k independent
+//! elements; its point j is the offset plus the sum of all basis elements t whose bit t of j is
+//! set. A word lists 2^k values in point order. A polynomial is the list of its coefficients,
+//! constant first.
 //!
-//! There is arithmetic ([`sum`], [`product`], [`inverse`]), [`encode`] and [`interpolate`], a lone
-//! [`fold`], the prover ([`prove`]), the [`layer`] of a store, and the judge, over lists ([`judge`]) and
-//! over the bytes of a transcript ([`judge_transcript`]). Nothing is refused by a panic: an [`Answer`] has
-//! the number of the cause, which `docs/NUMBERS.md` lists; number 16 is checked for and never comes about.
-//! `include/razgwilh.h` describes each function in full, with the order of its refusals.
+//! There is arithmetic ([`sum`], [`product`], [`inverse`]), [`encode`] and [`interpolate`], a
+//! lone [`fold`], the lengths of a run's lists ([`Run::store_length`] and others), the prover
+//! ([`prove`]), the [`layer`] of a store, and the judge, over lists ([`judge`]) and over the
+//! bytes of a transcript ([`judge_transcript`]). `include/razgwilh.h` describes each function
+//! in full, with the order of its refusals; [`raw`] has them by the C convention.
+//!
+//! Whatever a caller passes, a refusal is an `Err` with its [`Cause`], whose number
+//! `docs/NUMBERS.md` lists. Only number 0 reads as done or accepted: the five numbers of an
+//! answer are preset to one that no cause has, so that a call that wrote nothing is seen, and a
+//! number that no cause has, as from a library of another version, is a panic that names it.
 //!
 //! # Example
 //!
-//! Eight values over the coset of all numbers below 8 are proved and judged. Then the same is judged as a
-//! transcript: sections in a fixed order, each after its count, the count in 4 bytes and each entry in 8,
-//! little-endian.
+//! Eight values over the coset of all numbers below 8 are proved and judged. Then the same is
+//! judged as a transcript: sections in a fixed order, each after its count, the count in 4
+//! bytes and each entry in 8, little-endian.
 //!
 //! ```
-//! use razgwilh::{judge, judge_transcript, prove, Run};
+//! use razgwilh::{judge, judge_transcript, prove, Accepted, Cause, Run};
 //!
 //! let run = Run {
 //!     k: 3,
@@ -32,13 +38,13 @@
 //!
 //! // In two rounds there is one layer to store, of four entries, and one last coefficient.
 //! let (mut store, mut last) = ([0; 4], [0; 1]);
-//! assert_eq!(prove(run, &mut store, &mut last).number, 0);
+//! prove(run, &mut store, &mut last)?;
 //! assert_eq!(store, [2, 4, 0x16, 0x10]);
 //! assert_eq!(last, [1]);
 //!
 //! // A query reads two entries of each layer.
 //! let verdict = judge(run, &[5], &store, &last);
-//! assert_eq!((verdict.number, verdict.reads), (0, 4));
+//! assert_eq!(verdict, Ok(Accepted { reads: 4 }));
 //!
 //! // Parameters; offset and basis; challenges; queries; layers 0 and 1; last coefficients.
 //! let sections: [&[u64]; 7] = [
@@ -58,240 +64,64 @@
 //! assert_eq!(judge_transcript(&bytes), verdict);
 //!
 //! // Without its last byte it ends in the entries of section 7.
-//! let cut = judge_transcript(&bytes[..bytes.len() - 1]);
-//! assert_eq!((cut.number, cut.place), (1, Some(7)));
+//! let refusal = judge_transcript(&bytes[..bytes.len() - 1]).unwrap_err();
+//! assert_eq!(refusal.cause, Cause::BytesEnd);
+//! assert_eq!(
+//!     refusal.to_string(),
+//!     "number 1: the bytes end in a count or its entries, place 7"
+//! );
+//! # Ok::<(), razgwilh::Refusal>(())
 //! ```
 
+#![no_std]
 #![warn(missing_docs)]
 
-// The declarations are the only ones: nothing checks them against the library, so they stand in one
-// place, beside `include/razgwilh.h`.
-extern "C" {
-    fn rz_sum(a: u64, b: u64) -> u64;
-    fn rz_product(a: u64, b: u64) -> u64;
-    fn rz_inverse(a: u64, answer: *mut u64, length: usize);
-    fn rz_encode(
-        offset: u64,
-        basis: *const u64,
-        basis_length: usize,
-        coefficients: *const u64,
-        coefficients_length: usize,
-        values: *mut u64,
-        values_length: usize,
-        answer: *mut u64,
-        answer_length: usize,
-    );
-    fn rz_interpolate(
-        offset: u64,
-        basis: *const u64,
-        basis_length: usize,
-        word: *const u64,
-        word_length: usize,
-        coefficients: *mut u64,
-        coefficients_length: usize,
-        answer: *mut u64,
-        answer_length: usize,
-    );
-    fn rz_fold(
-        k: usize,
-        step: usize,
-        offset: u64,
-        basis: *const u64,
-        basis_length: usize,
-        word: *const u64,
-        word_length: usize,
-        challenge: u64,
-        values: *mut u64,
-        values_length: usize,
-        next_basis: *mut u64,
-        next_basis_length: usize,
-        answer: *mut u64,
-        answer_length: usize,
-    );
-    fn rz_prove(
-        k: usize,
-        rate: usize,
-        step: usize,
-        offset: u64,
-        basis: *const u64,
-        basis_length: usize,
-        challenges: *const u64,
-        challenges_length: usize,
-        word: *const u64,
-        word_length: usize,
-        store: *mut u64,
-        store_length: usize,
-        last: *mut u64,
-        last_length: usize,
-        answer: *mut u64,
-        answer_length: usize,
-    );
-    fn rz_layer(
-        k: usize,
-        rate: usize,
-        step: usize,
-        store: *const u64,
-        store_length: usize,
-        i: usize,
-        answer: *mut u64,
-        answer_length: usize,
-    );
-    fn rz_judge(
-        k: usize,
-        rate: usize,
-        step: usize,
-        offset: u64,
-        basis: *const u64,
-        basis_length: usize,
-        challenges: *const u64,
-        challenges_length: usize,
-        queries: *const u64,
-        queries_length: usize,
-        word: *const u64,
-        word_length: usize,
-        store: *const u64,
-        store_length: usize,
-        last: *const u64,
-        last_length: usize,
-        answer: *mut u64,
-        answer_length: usize,
-    );
-    fn rz_judge_transcript(
-        bytes: *const u8,
-        bytes_length: usize,
-        answer: *mut u64,
-        answer_length: usize,
-    );
-}
+pub mod raw;
+mod refusal;
 
-/// How many numbers an answer has.
-pub const ANSWER_LENGTH: usize = 5;
+pub use refusal::{Cause, Refusal};
 
-/// Stands for a place, a round or a value that there is none of.
-pub const NONE: u64 = u64::MAX;
-
-/// What an operation answers: `number` is 0 when it went well, else that of the cause.
-#[derive(Clone, Copy, Debug, PartialEq, Eq)]
-pub struct Answer {
-    /// 0 when it went well, else the number of the cause.
-    pub number: u64,
-    /// The section (numbers 1, 2), basis place (8), query (10, 11), degree (12) or list (13).
-    pub place: Option<u64>,
-    /// The round, with numbers 11 and 16.
-    pub round: Option<u64>,
-    /// How many entries a judge read: 0 where none were, and for every other operation.
-    pub reads: u64,
-    /// What the operation gives, where it gives a number; for a prover, the degree on number 12.
-    pub value: Option<u64>,
-}
-
-impl Answer {
-    /// Reads the five numbers of an operation that gives a value whenever it goes well. Such a value
-    /// may be any element, 2^64 - 1 among them, so that `number` decides and not the value itself.
-    fn with_value(numbers: [u64; ANSWER_LENGTH]) -> Answer {
-        let [number, .., value] = numbers;
-        Answer { value: (number == 0).then_some(value), ..Answer::without_value(numbers) }
-    }
-
-    /// Reads the five numbers of an operation that gives no element. Its value, where it has one, is a
-    /// degree, and so another number than `NONE`, whatever `number` is.
-    fn without_value(numbers: [u64; ANSWER_LENGTH]) -> Answer {
-        let [number, place, round, reads, value] = numbers;
-        Answer { number, place: given(place), round: given(round), reads, value: given(value) }
-    }
-}
-
-fn given(n: u64) -> Option<u64> {
-    (n != NONE).then_some(n)
-}
+use raw::Answer;
 
 /// The sum of two elements: the exclusive or.
 pub fn sum(a: u64, b: u64) -> u64 {
     // SAFETY: numbers in, a number out.
-    unsafe { rz_sum(a, b) }
+    unsafe { raw::rz_sum(a, b) }
 }
 
 /// The product of two elements.
 pub fn product(a: u64, b: u64) -> u64 {
     // SAFETY: numbers in, a number out.
-    unsafe { rz_product(a, b) }
+    unsafe { raw::rz_product(a, b) }
 }
 
 /// The inverse of `a`, or number 15 where `a` is zero.
-pub fn inverse(a: u64) -> Answer {
-    let mut numbers = [0; ANSWER_LENGTH];
-    inverse_into(a, &mut numbers);
-    Answer::with_value(numbers)
+pub fn inverse(a: u64) -> Result<u64, Refusal> {
+    let done = Answer::of(|answer| raw::inverse(a, answer)).result()?;
+    Ok(done.value)
 }
 
-/// The same by the C convention: five numbers where `answer` has length 5, and otherwise nothing.
-pub fn inverse_into(a: u64, answer: &mut [u64]) {
-    // SAFETY: the pointer and the length are those of one exclusive slice.
-    unsafe { rz_inverse(a, answer.as_mut_ptr(), answer.len()) }
-}
-
-/// Encodes: `values` gets the polynomial's value at each point of the coset, in point order. A refusal,
-/// number 4, 13 or 8, leaves `values` as it was.
-pub fn encode(offset: u64, basis: &[u64], coefficients: &[u64], values: &mut [u64]) -> Answer {
-    let mut numbers = [0; ANSWER_LENGTH];
-    encode_into(offset, basis, coefficients, values, &mut numbers);
-    Answer::without_value(numbers)
-}
-
-/// The same by the C convention: where `answer` has another length than 5, nothing is written or done.
-pub fn encode_into(
+/// Encodes: `values` gets the polynomial's value at each point of the coset, in point order. A
+/// refusal, number 4, 13 or 8, leaves `values` as it was.
+pub fn encode(
     offset: u64,
     basis: &[u64],
     coefficients: &[u64],
     values: &mut [u64],
-    answer: &mut [u64],
-) {
-    // SAFETY: each pointer and length are those of one slice, and the exclusive ones overlap no other.
-    unsafe {
-        rz_encode(
-            offset,
-            basis.as_ptr(),
-            basis.len(),
-            coefficients.as_ptr(),
-            coefficients.len(),
-            values.as_mut_ptr(),
-            values.len(),
-            answer.as_mut_ptr(),
-            answer.len(),
-        )
-    }
+) -> Result<(), Refusal> {
+    done(|answer| raw::encode(offset, basis, coefficients, values, answer))
 }
 
-/// Interpolates: `coefficients` gets those of the one polynomial of degree below 2^k that has the word's
-/// values, constant first. A refusal, number 4, 13 or 8, leaves `coefficients` as it was.
-pub fn interpolate(offset: u64, basis: &[u64], word: &[u64], coefficients: &mut [u64]) -> Answer {
-    let mut numbers = [0; ANSWER_LENGTH];
-    interpolate_into(offset, basis, word, coefficients, &mut numbers);
-    Answer::without_value(numbers)
-}
-
-/// The same by the C convention: where `answer` has another length than 5, nothing is written or done.
-pub fn interpolate_into(
+/// Interpolates: `coefficients` gets those of the one polynomial of degree below 2^k that has
+/// the word's values, constant first. A refusal, number 4, 13 or 8, leaves `coefficients` as it
+/// was.
+pub fn interpolate(
     offset: u64,
     basis: &[u64],
     word: &[u64],
     coefficients: &mut [u64],
-    answer: &mut [u64],
-) {
-    // SAFETY: each pointer and length are those of one slice, and the exclusive ones overlap no other.
-    unsafe {
-        rz_interpolate(
-            offset,
-            basis.as_ptr(),
-            basis.len(),
-            word.as_ptr(),
-            word.len(),
-            coefficients.as_mut_ptr(),
-            coefficients.len(),
-            answer.as_mut_ptr(),
-            answer.len(),
-        )
-    }
+) -> Result<(), Refusal> {
+    done(|answer| raw::interpolate(offset, basis, word, coefficients, answer))
 }
 
 /// What is given to a fold.
@@ -311,36 +141,12 @@ pub struct Fold<'a> {
     pub challenge: u64,
 }
 
-/// Folds: `values` gets the fold of the word at the challenge, `next_basis` the basis of the next coset, and
-/// the value of the answer is that coset's offset. A refusal, number 4, 6, 7, 13, 8 or 16, leaves both lists as
-/// they were.
-pub fn fold(given: Fold, values: &mut [u64], next_basis: &mut [u64]) -> Answer {
-    let mut numbers = [0; ANSWER_LENGTH];
-    fold_into(given, values, next_basis, &mut numbers);
-    Answer::with_value(numbers)
-}
-
-/// The same by the C convention: where `answer` has another length than 5, nothing is written or done.
-pub fn fold_into(given: Fold, values: &mut [u64], next_basis: &mut [u64], answer: &mut [u64]) {
-    // SAFETY: each pointer and length are those of one slice, and the exclusive ones overlap no other.
-    unsafe {
-        rz_fold(
-            given.k,
-            given.step,
-            given.offset,
-            given.basis.as_ptr(),
-            given.basis.len(),
-            given.word.as_ptr(),
-            given.word.len(),
-            given.challenge,
-            values.as_mut_ptr(),
-            values.len(),
-            next_basis.as_mut_ptr(),
-            next_basis.len(),
-            answer.as_mut_ptr(),
-            answer.len(),
-        )
-    }
+/// Folds: `values` gets the fold of the word at the challenge, `next_basis` the basis of the
+/// next coset, and that coset's offset is returned. A refusal, number 4, 6, 7, 13, 8 or 16,
+/// leaves both lists as they were.
+pub fn fold(given: Fold, values: &mut [u64], next_basis: &mut [u64]) -> Result<u64, Refusal> {
+    let done = Answer::of(|answer| raw::fold(given, values, next_basis, answer)).result()?;
+    Ok(done.value)
 }
 
 /// What a prover and a judge are both given.
@@ -362,103 +168,83 @@ pub struct Run<'a> {
     pub word: &'a [u64],
 }
 
-/// Proves: `store` gets layers 1 to r - 1, joined, and `last` the last coefficients. Number 12 has the degree
-/// of layer r for its place and for its value; the store then has its layers, and `last` is as it was. Any other
-/// refusal, number 4, 5, 6, 7, 13, 8 or 16, leaves both lists as they were.
-pub fn prove(run: Run, store: &mut [u64], last: &mut [u64]) -> Answer {
-    let mut numbers = [0; ANSWER_LENGTH];
-    prove_into(run, store, last, &mut numbers);
-    Answer::without_value(numbers)
-}
+impl Run<'_> {
+    /// How many rounds there are, and so challenges: as [`rounds`].
+    pub fn rounds(&self) -> usize {
+        rounds(self.k, self.rate, self.step)
+    }
 
-/// The same by the C convention: where `answer` has another length than 5, nothing is written or done.
-pub fn prove_into(run: Run, store: &mut [u64], last: &mut [u64], answer: &mut [u64]) {
-    // SAFETY: each pointer and length are those of one slice, and the exclusive ones overlap no other.
-    unsafe {
-        rz_prove(
-            run.k,
-            run.rate,
-            run.step,
-            run.offset,
-            run.basis.as_ptr(),
-            run.basis.len(),
-            run.challenges.as_ptr(),
-            run.challenges.len(),
-            run.word.as_ptr(),
-            run.word.len(),
-            store.as_mut_ptr(),
-            store.len(),
-            last.as_mut_ptr(),
-            last.len(),
-            answer.as_mut_ptr(),
-            answer.len(),
-        )
+    /// How many entries the store has: as [`store_length`].
+    pub fn store_length(&self) -> usize {
+        store_length(self.k, self.rate, self.step)
+    }
+
+    /// How many last coefficients there are: as [`last_length`].
+    pub fn last_length(&self) -> usize {
+        last_length(self.k, self.rate, self.step)
     }
 }
 
-/// Layer `i` of a store, for `i` from 1 to r - 1, as a part of it. Bad parameters, another `i` or a store of
-/// another length give the empty part.
+/// The rounds of a run, r = (k - rate) / step rounded down; 0 for parameters out of range.
+pub fn rounds(k: usize, rate: usize, step: usize) -> usize {
+    // SAFETY: numbers in, a number out.
+    unsafe { raw::rz_rounds(k, rate, step) as usize }
+}
+
+/// The entries of a run's store, that is of layers 1 to r - 1 together; 0 where r is 1, and for
+/// parameters out of range.
+pub fn store_length(k: usize, rate: usize, step: usize) -> usize {
+    // SAFETY: numbers in, a number out.
+    unsafe { raw::rz_store_length(k, rate, step) as usize }
+}
+
+/// The last coefficients of a run, d = 2^(k - rate - r * step); 0 for parameters out of range.
+pub fn last_length(k: usize, rate: usize, step: usize) -> usize {
+    // SAFETY: numbers in, a number out.
+    unsafe { raw::rz_last_length(k, rate, step) as usize }
+}
+
+/// Proves: `store` gets layers 1 to r - 1, joined, and `last` the last coefficients. Number 12
+/// has the degree of layer r for its place; the store then has its layers, and `last` is as it
+/// was. Any other refusal, number 4, 5, 6, 7, 13, 8 or 16, leaves both lists as they were.
+pub fn prove(run: Run, store: &mut [u64], last: &mut [u64]) -> Result<(), Refusal> {
+    done(|answer| raw::prove(run, store, last, answer))
+}
+
+/// Layer `i` of a store, for `i` from 1 to r - 1, as a part of it. Bad parameters, another `i`
+/// or a store of another length give the empty part.
 pub fn layer(k: usize, rate: usize, step: usize, store: &[u64], i: usize) -> &[u64] {
-    let mut numbers = [0; ANSWER_LENGTH];
-    layer_into(k, rate, step, store, i, &mut numbers);
-    let [_, place, _, _, length] = numbers.map(|number| number as usize);
-    &store[place..][..length]
+    let part = Answer::of(|answer| raw::layer(k, rate, step, store, i, answer))
+        .result()
+        .expect("the lookup refuses nothing");
+    &store[part.place as usize..][..part.value as usize]
 }
 
-/// The same by the C convention: the place is where the layer begins and the value is its length, where
-/// `answer` has length 5, and otherwise nothing is written.
-pub fn layer_into(k: usize, rate: usize, step: usize, store: &[u64], i: usize, answer: &mut [u64]) {
-    // SAFETY: each pointer and length are those of one slice, and the exclusive one overlaps no other.
-    unsafe {
-        rz_layer(k, rate, step, store.as_ptr(), store.len(), i, answer.as_mut_ptr(), answer.len())
-    }
+/// What a judge says that refuses nothing. What that means, and what it does not, is said in
+/// `docs/NUMBERS.md` under number 0.
+#[derive(Clone, Copy, Debug, PartialEq, Eq, Hash)]
+#[must_use]
+pub struct Accepted {
+    /// How many entries the judge read.
+    pub reads: u64,
 }
 
-/// Judges what was sent, the word, the store and the last coefficients, at the queries. Number 0 accepts; a
-/// refusal has number 4, 5, 6, 7, 13, 8, 16, 9, 10 or 11. The answer carries the reads.
-pub fn judge(run: Run, queries: &[u64], store: &[u64], last: &[u64]) -> Answer {
-    let mut numbers = [0; ANSWER_LENGTH];
-    judge_into(run, queries, store, last, &mut numbers);
-    Answer::without_value(numbers)
+/// Judges what was sent, the word, the store and the last coefficients, at the queries. A
+/// refusal has number 4, 5, 6, 7, 13, 8, 16, 9, 10 or 11.
+pub fn judge(run: Run, queries: &[u64], store: &[u64], last: &[u64]) -> Result<Accepted, Refusal> {
+    accepted(|answer| raw::judge(run, queries, store, last, answer))
 }
 
-/// The same by the C convention: where `answer` has another length than 5, nothing is written or done.
-pub fn judge_into(run: Run, queries: &[u64], store: &[u64], last: &[u64], answer: &mut [u64]) {
-    // SAFETY: each pointer and length are those of one slice, and the exclusive one overlaps no other.
-    unsafe {
-        rz_judge(
-            run.k,
-            run.rate,
-            run.step,
-            run.offset,
-            run.basis.as_ptr(),
-            run.basis.len(),
-            run.challenges.as_ptr(),
-            run.challenges.len(),
-            queries.as_ptr(),
-            queries.len(),
-            run.word.as_ptr(),
-            run.word.len(),
-            store.as_ptr(),
-            store.len(),
-            last.as_ptr(),
-            last.len(),
-            answer.as_mut_ptr(),
-            answer.len(),
-        )
-    }
+/// Judges the bytes of a transcript, of any length. A refusal has one of the numbers 1 to 11 or
+/// 16, of which 1 and 2 have the section for their place.
+pub fn judge_transcript(bytes: &[u8]) -> Result<Accepted, Refusal> {
+    accepted(|answer| raw::judge_transcript(bytes, answer))
 }
 
-/// Judges the bytes of a transcript, of any length. Number 0 accepts; a refusal has one of the numbers 1
-/// to 11 or 16, of which 1 and 2 have the section for their place. The answer carries the reads.
-pub fn judge_transcript(bytes: &[u8]) -> Answer {
-    let mut numbers = [0; ANSWER_LENGTH];
-    judge_transcript_into(bytes, &mut numbers);
-    Answer::without_value(numbers)
+fn done(call: impl FnOnce(&mut [u64])) -> Result<(), Refusal> {
+    Answer::of(call).result().map(|_| ())
 }
 
-/// The same by the C convention: where `answer` has another length than 5, nothing is written or done.
-pub fn judge_transcript_into(bytes: &[u8], answer: &mut [u64]) {
-    // SAFETY: each pointer and length are those of one slice, and the exclusive one overlaps no other.
-    unsafe { rz_judge_transcript(bytes.as_ptr(), bytes.len(), answer.as_mut_ptr(), answer.len()) }
+fn accepted(call: impl FnOnce(&mut [u64])) -> Result<Accepted, Refusal> {
+    Answer::of(call).result().map(|answer| Accepted { reads: answer.reads })
 }
