@@ -37,7 +37,8 @@
 //! };
 //!
 //! // In two rounds there is one layer to store, of four entries, and one last coefficient.
-//! let (mut store, mut last) = ([0; 4], [0; 1]);
+//! let mut store = vec![0; run.store_length()];
+//! let mut last = vec![0; run.last_length()];
 //! prove(run, &mut store, &mut last)?;
 //! assert_eq!(store, [2, 4, 0x16, 0x10]);
 //! assert_eq!(last, [1]);

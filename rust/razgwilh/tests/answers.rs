@@ -1,7 +1,8 @@
 //! The causes are those of docs/NUMBERS.md, and no answer reads as accepted but number 0.
 
 use razgwilh::raw::{self, Answer, NONE};
-use razgwilh::{fold, inverse, judge, layer, prove, Accepted, Cause, Fold, Refusal, Run};
+use razgwilh::{fold, inverse, judge, last_length, layer, prove, rounds, store_length};
+use razgwilh::{Accepted, Cause, Fold, Refusal, Run};
 
 const WORD: [u64; 8] = [0, 1, 4, 5, 0x10, 0x11, 0x14, 0x15];
 
@@ -88,6 +89,21 @@ fn a_fold_gives_the_next_offset() {
     let (mut values, mut next_basis) = ([0; 2], [0; 1]);
     assert_eq!(fold(given, &mut values, &mut next_basis), Ok(0x48));
     assert_eq!(next_basis, [6]);
+}
+
+#[test]
+fn lengths_are_told_beforehand() {
+    let lengths = |k, rate, step| {
+        (rounds(k, rate, step), store_length(k, rate, step), last_length(k, rate, step))
+    };
+    assert_eq!(lengths(20, 6, 3), (4, (1 << 17) + (1 << 14) + (1 << 11), 4));
+    assert_eq!(lengths(2, 1, 1), (1, 0, 1));
+    for (k, rate, step) in [(21, 1, 1), (1, 1, 1), (20, 7, 1), (20, 1, 4), (3, 2, 2), (20, 0, 1)] {
+        assert_eq!(lengths(k, rate, step), (0, 0, 0), "{k} {rate} {step}");
+    }
+
+    let run = run();
+    assert_eq!((run.rounds(), run.store_length(), run.last_length()), (2, 4, 1));
 }
 
 #[test]

@@ -1,0 +1,85 @@
+//! What the command is asked for.
+
+use crate::files::STANDARD_INPUT;
+use crate::lines::shown;
+use std::ffi::{OsStr, OsString};
+use std::num::NonZero;
+use std::thread;
+
+pub const HELP: &str = include_str!("help.txt");
+
+/// The first paragraph of the help.
+pub fn usage() -> &'static str {
+    HELP.split("\n\n").next().unwrap_or(HELP)
+}
+
+pub enum Command {
+    Judge(Request),
+    Help,
+    Version,
+}
+
+pub struct Request {
+    pub files: Vec<OsString>,
+    pub explain: bool,
+    pub jobs: usize,
+}
+
+/// The command that the arguments ask for, or what is wrong with them.
+pub fn command(mut arguments: impl Iterator<Item = OsString>) -> Result<Command, String> {
+    let name = arguments.next().ok_or("no command")?;
+    match name.to_str() {
+        Some("judge") => to_judge(arguments),
+        Some("--help" | "-h") => Ok(Command::Help),
+        Some("--version" | "-V") => Ok(Command::Version),
+        _ => Err(format!("no such command: {}", shown(&name))),
+    }
+}
+
+fn to_judge(mut arguments: impl Iterator<Item = OsString>) -> Result<Command, String> {
+    let mut request = Request { files: Vec::new(), explain: false, jobs: cores() };
+    while let Some(argument) = arguments.next() {
+        match argument.to_str() {
+            Some("--help" | "-h") => return Ok(Command::Help),
+            Some("--explain") => request.explain = true,
+            Some("--jobs") => request.jobs = jobs(arguments.next().as_deref())?,
+            Some("--") => request.files.extend(&mut arguments),
+            _ if is_option(&argument) => {
+                return Err(format!("no such option: {}", shown(&argument)))
+            }
+            _ => request.files.push(argument),
+        }
+    }
+    match request.files.iter().filter(|file| *file == STANDARD_INPUT).count() {
+        _ if request.files.is_empty() => Err("no file".to_string()),
+        0 | 1 => Ok(Command::Judge(request)),
+        _ => Err("standard input can be read only once".to_string()),
+    }
+}
+
+fn is_option(argument: &OsStr) -> bool {
+    argument.as_encoded_bytes().starts_with(b"-") && argument != STANDARD_INPUT
+}
+
+fn jobs(argument: Option<&OsStr>) -> Result<usize, String> {
+    argument
+        .and_then(|number| number.to_str()?.parse().ok())
+        .filter(|number| (1..=256).contains(number))
+        .ok_or("--jobs takes a number from 1 to 256".to_string())
+}
+
+fn cores() -> usize {
+    thread::available_parallelism().map_or(1, NonZero::get)
+}
+
+#[cfg(test)]
+mod tests {
+    use super::*;
+    use crate::files::LONGEST;
+
+    #[test]
+    fn the_help_names_what_is_read() {
+        let read = (LONGEST + 1).to_string();
+        assert!(HELP.replace(',', "").contains(&format!("at most {read} bytes")));
+    }
+}

@@ -1,0 +1,99 @@
+//! The bytes of a file.
+
+use std::ffi::OsStr;
+use std::fs::File;
+use std::io::{self, Read};
+
+/// The name that stands for standard input.
+pub const STANDARD_INPUT: &str = "-";
+
+/// The length in bytes of the longest transcript that can pass: k 20, rate 1, step 1, so 19
+/// rounds. A section is a count in 4 bytes and entries in 8. The sections are parameters,
+/// offset and basis, challenges, queries, 19 layers and the last coefficients; layers of 2^20,
+/// 2^19 .. 2^2 entries have 2^21 - 4 together.
+pub const LONGEST: usize = 4 * (4 + 19 + 1) + 8 * (3 + 21 + 19 + 256 + ((1 << 21) - 4) + 1);
+
+/// Makes `bytes` those of the file, or its first `LONGEST` + 1 where it has more. The judge
+/// answers to these as to all: no section that it gets to ends after `LONGEST`, so none is cut
+/// short, and that bytes follow the last one is seen either way.
+pub fn read(file: &OsStr, bytes: &mut Vec<u8>) -> io::Result<()> {
+    if file == STANDARD_INPUT {
+        fill(bytes, io::stdin())
+    } else {
+        fill(bytes, File::open(file)?)
+    }
+}
+
+fn fill(bytes: &mut Vec<u8>, source: impl Read) -> io::Result<()> {
+    bytes.clear();
+    // Room for all from the start: a list that grows as it is read takes up to twice of it.
+    bytes.reserve_exact(LONGEST + 1);
+    source.take(LONGEST as u64 + 1).read_to_end(bytes)?;
+    Ok(())
+}
+
+#[cfg(test)]
+mod tests {
+    use super::*;
+    use razgwilh::{judge_transcript, last_length, rounds, store_length, Accepted, Cause};
+
+    /// The length of a transcript with these parameters and 256 queries.
+    fn length(k: usize, rate: usize, step: usize) -> usize {
+        let rounds = rounds(k, rate, step);
+        let layers = (1 << k) + store_length(k, rate, step);
+        let entries = 3 + (1 + k) + rounds + 256 + layers + last_length(k, rate, step);
+        4 * (4 + rounds + 1) + 8 * entries
+    }
+
+    #[test]
+    fn no_transcript_is_longer() {
+        let mut longest = 0;
+        for k in 2..=20 {
+            for rate in 1..=6 {
+                for step in 1..=3 {
+                    longest = longest.max(length(k, rate, step));
+                }
+            }
+        }
+        assert_eq!(longest, LONGEST);
+    }
+
+    /// An accepted transcript of the largest size: the zero word, at 256 queries.
+    fn longest() -> Vec<u8> {
+        let mut bytes = Vec::new();
+        let mut section = |entries: &[u64]| {
+            bytes.extend((entries.len() as u32).to_le_bytes());
+            bytes.extend(entries.iter().flat_map(|entry| entry.to_le_bytes()));
+        };
+        section(&[20, 1, 1]);
+        section(&[[0].to_vec(), (0..20).map(|place| 1 << place).collect()].concat());
+        section(&[7; 19]);
+        section(&(0..256).collect::<Vec<_>>());
+        for dimension in (2..=20).rev() {
+            section(&vec![0; 1 << dimension]);
+        }
+        section(&[0]);
+        bytes
+    }
+
+    #[test]
+    fn what_is_read_is_judged_as_the_whole() {
+        let (whole, mut read) = (longest(), Vec::new());
+        for length in [LONGEST - 1, LONGEST, LONGEST + 1, LONGEST + 10, 2 * LONGEST] {
+            let mut bytes = whole.clone();
+            bytes.resize(length, 0xa5);
+            fill(&mut read, bytes.as_slice()).unwrap();
+            assert_eq!(read.len(), length.min(LONGEST + 1));
+            assert!(read.capacity() <= LONGEST + 1);
+
+            let verdict = judge_transcript(&read);
+            assert_eq!(verdict, judge_transcript(&bytes), "{length} bytes");
+            let cause = verdict.map_err(|refusal| refusal.cause);
+            match length {
+                LONGEST => assert_eq!(cause, Ok(Accepted { reads: 256 * 19 * 2 })),
+                _ if length < LONGEST => assert_eq!(cause, Err(Cause::BytesEnd)),
+                _ => assert_eq!(cause, Err(Cause::TrailingBytes)),
+            }
+        }
+    }
+}

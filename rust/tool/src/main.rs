@@ -1,0 +1,50 @@
+//! The command `razgwilh`: transcripts from files, judged by the proved library. `HELP` says
+//! what it prints and what of it is proved.
+
+mod arguments;
+mod explain;
+mod files;
+mod judge;
+mod lines;
+mod pool;
+
+use arguments::{Command, HELP};
+use judge::Status;
+use std::env;
+use std::io::{self, Write};
+use std::process::ExitCode;
+
+fn main() -> ExitCode {
+    match arguments::command(env::args_os().skip(1)) {
+        Ok(command) => run(command).unwrap_or_else(|error| {
+            complain(&format!("standard output: {error}"));
+            Status::Failed.into()
+        }),
+        Err(wrong) => {
+            complain(&format!("{wrong}\n{}", arguments::usage()));
+            Status::Failed.into()
+        }
+    }
+}
+
+/// Fails where standard output cannot be written.
+fn run(command: Command) -> io::Result<ExitCode> {
+    match command {
+        Command::Judge(request) => judge::judge(&request).map(ExitCode::from),
+        Command::Help => print(HELP),
+        Command::Version => print(concat!("razgwilh ", env!("CARGO_PKG_VERSION"), "\n")),
+    }
+}
+
+fn print(text: &str) -> io::Result<ExitCode> {
+    let mut out = io::stdout();
+    out.write_all(text.as_bytes())?;
+    out.flush()?;
+    Ok(ExitCode::SUCCESS)
+}
+
+/// Says on standard error what went wrong. Where that cannot be written either, the exit status
+/// tells.
+fn complain(what: &str) {
+    let _ = writeln!(io::stderr(), "razgwilh: {what}");
+}
