@@ -17,6 +17,10 @@
 //! answer are preset to one that no cause has, so that a call that wrote nothing is seen, and a
 //! number that no cause has, as from a library of another version, is a panic that names it.
 //!
+//! The library is linked statically. While this crate is built, `RAZGWILH_LIB_DIR` may name, by
+//! an absolute path, a folder with `librazgwilh.a` as installed, or `libcapi.a` as built;
+//! without it, `rt staticlib capi` has to have built the repository's.
+//!
 //! # Example
 //!
 //! Eight values over the coset of all numbers below 8 are proved and judged. Then the same is

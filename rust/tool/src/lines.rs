@@ -50,16 +50,14 @@ mod tests {
 
     #[test]
     fn verdicts_in_the_form_of_judge() {
-        let file = OsStr::new("f");
-        assert_eq!(line(&Ok(Accepted { reads: 4 }), file), "accepted 0 - - 4 f");
-
-        let failed =
-            Refusal { cause: Cause::RoundCheckFails, place: Some(1), round: Some(0), reads: 4 };
-        assert_eq!(line(&Err(failed), file), "refused 11 1 0 4 f");
-
-        let dependent =
-            Refusal { cause: Cause::LaterBasisDependent, place: None, round: Some(2), reads: 0 };
-        assert_eq!(line(&Err(dependent), file), "refused 16 - 2 0 f");
+        let refusal =
+            Refusal { cause: Cause::BasisDependent, place: Some(2), round: None, reads: 0 };
+        let other =
+            Refusal { cause: Cause::LaterBasisDependent, place: None, round: Some(3), reads: 0 };
+        let line = |verdict| line(&verdict, OsStr::new("f"));
+        assert_eq!(line(Ok(Accepted { reads: 4 })), "accepted 0 - - 4 f");
+        assert_eq!(line(Err(refusal)), "refused 8 2 - 0 f");
+        assert_eq!(line(Err(other)), "refused 16 - 3 0 f");
     }
 
     #[test]
