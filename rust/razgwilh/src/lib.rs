@@ -88,6 +88,11 @@ pub use refusal::{Cause, Refusal};
 
 use raw::Answer;
 
+/// The program of README.md is compiled with the examples of this crate.
+#[cfg(doctest)]
+#[doc = include_str!("../../../README.md")]
+struct Readme;
+
 /// The sum of two elements: the exclusive or.
 pub fn sum(a: u64, b: u64) -> u64 {
     // SAFETY: numbers in, a number out.
@@ -193,20 +198,20 @@ impl Run<'_> {
 /// The rounds of a run, r = (k - rate) / step rounded down; 0 for parameters out of range.
 pub fn rounds(k: usize, rate: usize, step: usize) -> usize {
     // SAFETY: numbers in, a number out.
-    unsafe { raw::rz_rounds(k, rate, step) as usize }
+    unsafe { raw::rz_rounds(k, rate, step) }
 }
 
 /// The entries of a run's store, that is of layers 1 to r - 1 together; 0 where r is 1, and for
 /// parameters out of range.
 pub fn store_length(k: usize, rate: usize, step: usize) -> usize {
     // SAFETY: numbers in, a number out.
-    unsafe { raw::rz_store_length(k, rate, step) as usize }
+    unsafe { raw::rz_store_length(k, rate, step) }
 }
 
 /// The last coefficients of a run, d = 2^(k - rate - r * step); 0 for parameters out of range.
 pub fn last_length(k: usize, rate: usize, step: usize) -> usize {
     // SAFETY: numbers in, a number out.
-    unsafe { raw::rz_last_length(k, rate, step) as usize }
+    unsafe { raw::rz_last_length(k, rate, step) }
 }
 
 /// Proves: `store` gets layers 1 to r - 1, joined, and `last` the last coefficients. Number 12

@@ -222,9 +222,9 @@ pub fn judge_transcript(bytes: &[u8], answer: &mut [u64]) {
 extern "C" {
     pub(crate) fn rz_sum(a: u64, b: u64) -> u64;
     pub(crate) fn rz_product(a: u64, b: u64) -> u64;
-    pub(crate) fn rz_rounds(k: usize, rate: usize, step: usize) -> u64;
-    pub(crate) fn rz_store_length(k: usize, rate: usize, step: usize) -> u64;
-    pub(crate) fn rz_last_length(k: usize, rate: usize, step: usize) -> u64;
+    pub(crate) fn rz_rounds(k: usize, rate: usize, step: usize) -> usize;
+    pub(crate) fn rz_store_length(k: usize, rate: usize, step: usize) -> usize;
+    pub(crate) fn rz_last_length(k: usize, rate: usize, step: usize) -> usize;
     fn rz_inverse(a: u64, answer: *mut u64, answer_length: usize);
     fn rz_encode(
         offset: u64,
