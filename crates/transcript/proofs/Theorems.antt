@@ -7,8 +7,9 @@ use Prim.Native.Nat.{ℕ, _-_, _≤_, _<_}
 use native.Mathlib.Omega.{arith}
 use lib.Dec.{leb}
 use lib.Pow.{pow-pos}
-use lib.ListN.{length}
-use borrow.Author.Tests.{le-leb, lt-leb}
+use lib.ListN.{length, take, drop, take-append-drop}
+use lib.Seq.{take-all, length-take-le}
+use borrow.Author.Tests.{le-leb, lt-leb, leb-true, leb-false}
 use Rattle.poly.specs.Polynomial.{All}
 use Rattle.refusal.specs.declared.Cause.{Cause}
 use Rattle.refusal.specs.declared.Cause.the-variants.{RoundCheckFails, InputTooLong}
@@ -36,11 +37,12 @@ use Rattle.fri.proofs.Completeness.{completeness}
 use Rattle.transcript.specs.Numerals.{AreBytes}
 use Rattle.transcript.specs.Sections.{sectionStart, transcriptSteps, runIn, queriesIn}
 use Rattle.transcript.specs.Checks.{transcriptOutcome}
-use Rattle.transcript.specs.Judge.{transcriptVerdict, inputLimit, inputVerdict}
+use Rattle.transcript.specs.Judge.{transcriptVerdict, longestTranscript, inputLimit, inputVerdict}
 use Rattle.transcript.specs.Theorems.{Carries, JudgingBytes, TranscriptCompleteness}
-use Rattle.transcript.specs.Theorems.{OfRun, TranscriptSoundness, TranscriptNumbers}
+use Rattle.transcript.specs.Theorems.{OfRun, TranscriptSoundness, LongTranscripts, TranscriptNumbers}
 use Rattle.transcript.proofs.Sections.{run-fits}
 use Rattle.transcript.proofs.Refusals.{transcript-number}
+use Rattle.transcript.proofs.Fronts.{transcript-alone, longest}
 use Rattle.transcript.proofs.Carried.{fit, checks-are, passed-carries}
 
 abbrev too-long : Verdict
@@ -74,12 +76,15 @@ refused-verdict bytes cause e =
 
 -- ---- which bytes do
 
-accepted-carries : (bytes : List ℕ) → transcriptVerdict bytes .answer ≡ answers.Accepted → Carries bytes
+passed-sections : (bytes : List ℕ) → transcriptVerdict bytes .answer ≡ answers.Accepted
+    → transcriptOutcome bytes ≡ Done
 unfolding transcriptVerdict
-accepted-carries bytes e =
+passed-sections bytes e =
     let rounds = roundsOutcome (runIn bytes) (queriesIn bytes) 0 in
-    passed-carries bytes
-    (then-done (transcriptOutcome bytes) rounds (done-of (andThen (transcriptOutcome bytes) rounds) e) .0)
+    then-done (transcriptOutcome bytes) rounds (done-of (andThen (transcriptOutcome bytes) rounds) e) .0
+
+accepted-carries : (bytes : List ℕ) → transcriptVerdict bytes .answer ≡ answers.Accepted → Carries bytes
+accepted-carries bytes e = passed-carries bytes (passed-sections bytes e)
 
 refused-carries : (bytes : List ℕ) (query round : ℕ)
     → transcriptVerdict bytes .answer ≡ answers.Refused (RoundCheckFails query round) → Carries bytes
@@ -191,6 +196,35 @@ judging-bytes =
       short = short;
       long = λ bytes h. told (inputVerdict bytes) (long bytes h);
       program-accepted = program-accepted;
+    }
+
+-- ---- long files
+
+-- a front that is longer than every transcript is refused, and so is all that it begins, for the same cause
+same-refusal : (front bytes : List ℕ) (outcome : Outcome) → transcriptOutcome front ≡ outcome
+    → transcriptOutcome bytes ≡ outcome → longestTranscript < length front
+    → transcriptVerdict front ≡ transcriptVerdict bytes
+same-refusal front bytes Done e f h = absurd (omega (arith, longest front e))
+same-refusal front bytes (Refused cause) e f h = refused-verdict front cause e ∙ sym (refused-verdict bytes cause f)
+
+first-decide : (bytes : List ℕ) (read : ℕ) (test : Bool) → leb (length bytes) read ≡ test → longestTranscript < read
+    → transcriptVerdict (take read bytes) ≡ transcriptVerdict bytes
+first-decide bytes read true e h = ap transcriptVerdict (take-all read bytes (leb-true (length bytes) read e))
+first-decide bytes read false e h =
+    let size : length (take read bytes) ≡ read =
+    length-take-le read bytes (omega (arith, leb-false (length bytes) read e)) in
+    let more : longestTranscript < length (take read bytes) = omega arith in
+    same-refusal (take read bytes) bytes (transcriptOutcome (take read bytes)) refl
+    (ap transcriptOutcome (sym (take-append-drop read bytes))
+    ∙ transcript-alone (take read bytes) (drop read bytes) more)
+    more
+
+long-transcripts : LongTranscripts
+long-transcripts =
+    record {
+      longest = longest;
+      accepted = λ bytes e. longest bytes (passed-sections bytes e);
+      first = λ bytes read h. first-decide bytes read (leb (length bytes) read) refl h;
     }
 
 -- ---- numbers

@@ -1,7 +1,7 @@
 -- The judge over the bytes of a transcript, and the answer of the program `judge`.
 use mathlib.Core.Bool.{cond}
 use mathlib.Core.List.{List}
-use Prim.Native.Nat.{ℕ, _^_}
+use Prim.Native.Nat.{ℕ, _+_, _*_, _-_, _^_}
 use lib.Dec.{leb}
 use lib.ListN.{length}
 use Rattle.refusal.specs.declared.Cause.the-variants.{InputTooLong}
@@ -21,6 +21,11 @@ transcriptVerdict bytes =
       answer = answerOf (andThen (transcriptOutcome bytes) (roundsOutcome (runIn bytes) (queriesIn bytes) 0));
       reads = readsAfter (transcriptOutcome bytes) (entriesRead (runIn bytes) (queriesIn bytes));
     }
+
+-- the bytes of the longest transcript that passes, with k 20, R 1, η 1 and 256 queries: 24 counts of 4 bytes; 3
+-- parameters, offset and basis, 19 challenges, 256 queries, layers of 2^20 to 2^2 entries and one last coefficient
+abbrev pub longestTranscript : ℕ
+longestTranscript = 4 * 24 + 8 * (3 + 21 + 19 + 256 + (2 ^ 21 - 2 ^ 2) + 1)
 
 -- the most bytes that the program judges
 abbrev pub inputLimit : ℕ

@@ -4,11 +4,11 @@ use mathlib.Core.Path.{_≡_}
 use mathlib.Core.Logic.{_⊎_}
 use mathlib.Core.List.{List, []}
 use Prim.Native.Nat.{ℕ, suc, _+_, _*_, _-_, _^_, _≤_, _<_}
-use lib.ListN.{length}
+use lib.ListN.{length, take}
 use Rattle.poly.specs.Polynomial.{All}
 use Rattle.refusal.specs.declared.Cause.{Cause}
 use Rattle.refusal.specs.declared.Cause.the-variants.{RoundCheckFails}
-use Rattle.refusal.specs.declared.Outcome.the-variants.{Refused}
+use Rattle.refusal.specs.declared.Outcome.the-variants.{Done, Refused}
 use Rattle.refusal.specs.declared.Position.the-variants.{At, Absent}
 use Rattle.coset.specs.Span.{Independent}
 use Rattle.fri.specs.declared.Answer.the-variants as answers
@@ -23,7 +23,7 @@ use Rattle.transcript.specs.Numerals.{AreBytes}
 use Rattle.transcript.specs.Sections.{sectionStart, sectionCount, layerSection, transcriptK, transcriptRate}
 use Rattle.transcript.specs.Sections.{transcriptStep, transcriptSteps, transcriptRounds, runIn, queriesIn}
 use Rattle.transcript.specs.Checks.{transcriptOutcome}
-use Rattle.transcript.specs.Judge.{transcriptVerdict, inputLimit, inputVerdict}
+use Rattle.transcript.specs.Judge.{transcriptVerdict, longestTranscript, inputLimit, inputVerdict}
 
 -- the bytes carry the lists that are read from them: parameters in range, the counts due but for the queries',
 -- and nothing follows the last section
@@ -55,6 +55,16 @@ pub record JudgingBytes : Type 0 where
   -- so what the program accepts the library accepts
   pub program-accepted : (bytes : List ℕ) → inputVerdict bytes .answer ≡ answers.Accepted
       → transcriptVerdict bytes .answer ≡ answers.Accepted
+
+-- transcripts have a longest length, so that a reader of larger files needs no more of them
+pub record LongTranscripts : Type 0 where
+  -- bytes whose sections all pass are not longer; so none that are accepted
+  pub longest : (bytes : List ℕ) → transcriptOutcome bytes ≡ Done → length bytes ≤ longestTranscript
+  pub accepted : (bytes : List ℕ) → transcriptVerdict bytes .answer ≡ answers.Accepted
+      → length bytes ≤ longestTranscript
+  -- the first bytes, more than that, get the verdict of all
+  pub first : (bytes : List ℕ) (read : ℕ) → longestTranscript < read
+      → transcriptVerdict (take read bytes) ≡ transcriptVerdict bytes
 
 -- demand 3, first half: bytes that carry an honest run of a word of low degree over an independent basis,
 -- and a valid query list, are accepted, whatever the offset and the challenges, and queries · r · 2^η entries are read

@@ -13,9 +13,8 @@ pub const STANDARD_INPUT: &str = "-";
 /// 2^19 .. 2^2 entries have 2^21 - 4 together.
 pub const LONGEST: usize = 4 * (4 + 19 + 1) + 8 * (3 + 21 + 19 + 256 + ((1 << 21) - 4) + 1);
 
-/// Makes `bytes` those of the file, or its first `LONGEST` + 1 where it has more. The judge
-/// answers to these as to all: no section that it gets to ends after `LONGEST`, so none is cut
-/// short, and that bytes follow the last one is seen either way.
+/// Makes `bytes` those of the file, or its first `LONGEST` + 1 where it has more: it is proved
+/// that these get the verdict of all (`LongTranscripts`, crates/transcript/specs/Theorems.antt).
 pub fn read(file: &OsStr, bytes: &mut Vec<u8>) -> io::Result<()> {
     if file == STANDARD_INPUT {
         fill(bytes, io::stdin())
