@@ -1,6 +1,19 @@
 //! What an operation answers, as the reference expects it.
 
-pub use razgwilh::Answer;
+/// What an operation answers: `number` is 0 when it went well, else that of the cause.
+#[derive(Clone, Copy, Debug, PartialEq, Eq)]
+pub struct Answer {
+    /// 0 when it went well, else the number of the cause.
+    pub number: u64,
+    /// A section, a basis place, a query, a degree or a list, as the number has it.
+    pub place: Option<u64>,
+    /// The round, with numbers 11 and 16.
+    pub round: Option<u64>,
+    /// How many entries a judge read.
+    pub reads: u64,
+    /// What the operation gives, where it gives a number.
+    pub value: Option<u64>,
+}
 
 /// What the C interface writes for a place, round or value there is none of.
 pub const NONE: u64 = u64::MAX;

@@ -17,7 +17,6 @@ use crate::refusal::{
     independent, right_length, LIST_OF_THE_BASIS, LIST_OF_THE_GIVEN, LIST_OF_THE_NEXT_BASIS,
     LIST_OF_THE_OUTPUT,
 };
-use razgwilh::Fold;
 use std::ops::RangeInclusive;
 
 /// The dimensions that are folded.
@@ -28,6 +27,17 @@ pub const STEPS: RangeInclusive<usize> = 1..=3;
 
 /// The round of a lone fold.
 const ROUND: u64 = 0;
+
+/// What is given to a fold.
+#[derive(Clone, Copy, Debug)]
+pub struct Fold<'a> {
+    pub k: usize,
+    pub step: usize,
+    pub offset: u64,
+    pub basis: &'a [u64],
+    pub word: &'a [u64],
+    pub challenge: u64,
+}
 
 /// What a fold gives.
 #[derive(Clone, Debug, PartialEq)]

@@ -10,14 +10,13 @@ use crate::answer::{
     WRONG_QUERY_COUNT,
 };
 use crate::coset::{point, points};
-use crate::fold::{self, following, later_independent, Coset};
+use crate::fold::{self, following, later_independent, Coset, Fold};
 use crate::parameters::Parameters;
 use crate::polynomial::{interpolant, value};
 use crate::refusal::{
     independent, right_length, LIST_OF_THE_BASIS, LIST_OF_THE_CHALLENGES, LIST_OF_THE_GIVEN,
     LIST_OF_THE_LAST, LIST_OF_THE_STORE,
 };
-use razgwilh::Fold;
 use std::collections::BTreeSet;
 use std::ops::RangeInclusive;
 
