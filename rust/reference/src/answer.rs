@@ -17,67 +17,54 @@ pub struct Answer {
 
 /// What the C interface writes for a place, round or value there is none of.
 pub const NONE: u64 = u64::MAX;
-
-/// The number for bytes that end in a count or in its entries.
-pub const BYTES_END: u64 = 1;
-
-/// The number for a count that differs from the one due.
-pub const WRONG_COUNT: u64 = 2;
-
-/// The number for bytes after the last section.
-pub const BYTES_FOLLOW: u64 = 3;
-
-/// The number for a dimension out of range.
-pub const K_OUT_OF_RANGE: u64 = 4;
-
-/// The number for a rate out of range.
-pub const RATE_OUT_OF_RANGE: u64 = 5;
-
-/// The number for a step out of range.
-pub const STEP_OUT_OF_RANGE: u64 = 6;
-
-/// The number for a dimension below rate plus step, or, in a lone fold, below
-/// the step.
-pub const K_TOO_SMALL: u64 = 7;
-
-/// The number for a basis element that lies in the span of earlier ones.
-pub const DEPENDENT_BASIS: u64 = 8;
-
-/// The number for no query, or too many.
-pub const WRONG_QUERY_COUNT: u64 = 9;
-
-/// The number for a query index that is not below the length of the word.
-pub const QUERY_OUT_OF_RANGE: u64 = 10;
-
-/// The number for a round check that fails.
-pub const ROUND_CHECK_FAILS: u64 = 11;
-
-/// The number for a prover's last layer whose degree is too high.
-pub const DEGREE_TOO_HIGH: u64 = 12;
-
-/// The number for a lent list of the wrong length.
-pub const WRONG_LENGTH: u64 = 13;
-
-/// The number for more bytes than the program takes.
-pub const INPUT_TOO_LONG: u64 = 14;
-
-/// The number for the inverse of zero.
-pub const INVERSE_OF_ZERO: u64 = 15;
-
-/// The number for a dependent basis of a later layer.
-pub const DEPENDENT_LATER_BASIS: u64 = 16;
-
 /// The length that the list of an answer must have.
 pub const ANSWER_LENGTH: usize = 5;
 
-/// The answer of an operation that went well and gives one value.
-pub fn went_well(value: u64) -> Answer {
-    Answer { number: 0, place: None, round: None, reads: 0, value: Some(value) }
-}
+// The numbers of the causes.
+
+/// Bytes end in a count or in its entries.
+pub const BYTES_END: u64 = 1;
+/// A count differs from the one due.
+pub const WRONG_COUNT: u64 = 2;
+/// Bytes stand after the last section.
+pub const BYTES_FOLLOW: u64 = 3;
+/// A dimension is out of range.
+pub const K_OUT_OF_RANGE: u64 = 4;
+/// A rate is out of range.
+pub const RATE_OUT_OF_RANGE: u64 = 5;
+/// A step is out of range.
+pub const STEP_OUT_OF_RANGE: u64 = 6;
+/// A dimension is below rate plus step, or, in a lone fold, below the step.
+pub const K_TOO_SMALL: u64 = 7;
+/// A basis element lies in the span of earlier ones.
+pub const DEPENDENT_BASIS: u64 = 8;
+/// There is no query, or there are too many.
+pub const WRONG_QUERY_COUNT: u64 = 9;
+/// A query index is not below the length of the word.
+pub const QUERY_OUT_OF_RANGE: u64 = 10;
+/// A round check fails.
+pub const ROUND_CHECK_FAILS: u64 = 11;
+/// A prover's last layer has too high a degree.
+pub const DEGREE_TOO_HIGH: u64 = 12;
+/// A lent list has the wrong length.
+pub const WRONG_LENGTH: u64 = 13;
+/// There are more bytes than the program takes.
+pub const INPUT_TOO_LONG: u64 = 14;
+/// Zero has no inverse.
+pub const INVERSE_OF_ZERO: u64 = 15;
+/// The basis of a later layer is dependent.
+pub const DEPENDENT_LATER_BASIS: u64 = 16;
+
+// Answers.
 
 /// The answer of an operation that went well and gives no element.
 pub fn done() -> Answer {
     Answer { number: 0, place: None, round: None, reads: 0, value: None }
+}
+
+/// The answer of an operation that went well and gives one value.
+pub fn went_well(value: u64) -> Answer {
+    Answer { value: Some(value), ..done() }
 }
 
 /// The answer of a judge that accepts.
@@ -87,11 +74,11 @@ pub fn accepted(reads: u64) -> Answer {
 
 /// The answer that carries nothing but the number of its cause.
 pub fn refused(number: u64) -> Answer {
-    Answer { number, place: None, round: None, reads: 0, value: None }
+    Answer { number, ..done() }
 }
 
-/// The answer that carries the number of its cause and a place: a section, a
-/// list, the place of a basis element, a query or a degree.
+/// The answer that carries the number of its cause and a place: a section, a list, the place of a
+/// basis element, a query or a degree.
 pub fn refused_at(number: u64, place: u64) -> Answer {
     Answer { place: Some(place), ..refused(number) }
 }

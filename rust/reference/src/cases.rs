@@ -1,5 +1,7 @@
 //! The runs of table A, with the numbers that the paper has for them.
 
+#[cfg(test)]
+use crate::answer::{accepted, failed, refused, refused_at, Answer};
 use crate::coset::points;
 use crate::fold::Coset;
 use crate::parameters::Parameters;
@@ -92,4 +94,24 @@ pub fn queries_of_case_p() -> Vec<u64> {
 /// One query more than there may be.
 pub fn too_many_queries_of_case_p() -> Vec<u64> {
     [&queries_of_case_p()[..], &[511]].concat()
+}
+
+// All of them.
+
+/// Runs that are judged, each with its queries and the answer due, cases G to P in order.
+#[cfg(test)]
+pub fn judgings() -> Vec<(Run, Vec<u64>, Answer)> {
+    let of_case_p = stretched(PARAMETERS_OF_CASE_P, &[7]);
+    vec![
+        (of_case_f(), vec![0, 3], accepted(4)),
+        (of_case_h(), vec![0, 3], failed(1, 0, 4)),
+        (of_case_h(), vec![0], accepted(2)),
+        (of_case_j(2), vec![0, 1, 2, 3], accepted(8)),
+        (of_case_k(), vec![5], accepted(4)),
+        (of_case_l(), vec![0], failed(0, 0, 4)),
+        (of_case_l(), vec![7], accepted(4)),
+        (of_case_m(), vec![5], refused_at(8, 2)),
+        (of_case_p.clone(), queries_of_case_p(), accepted(256 * 5 * 2)),
+        (of_case_p, too_many_queries_of_case_p(), refused(9)),
+    ]
 }

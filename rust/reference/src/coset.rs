@@ -58,10 +58,6 @@ mod tests {
         assert_eq!(points(8, &[1, 2]), [8, 9, 0xa, 0xb]);
         assert_eq!(points(1, &[6, 5]), [1, 7, 4, 2]);
         assert_eq!(points(0x30, &[1, 4, 2])[5], 0x33);
-    }
-
-    #[test]
-    fn an_empty_basis_has_one_point() {
         assert_eq!(points(9, &[]), [9]);
     }
 

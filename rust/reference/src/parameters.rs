@@ -3,8 +3,10 @@
 //! All but `may_use` and `layer_of_store` stands for parameters that may be
 //! used.
 
-use crate::answer::Answer;
-use crate::answer::{refused, K_OUT_OF_RANGE, K_TOO_SMALL, RATE_OUT_OF_RANGE, STEP_OUT_OF_RANGE};
+use crate::answer::{
+    refused, Answer, K_OUT_OF_RANGE, K_TOO_SMALL, RATE_OUT_OF_RANGE, STEP_OUT_OF_RANGE,
+};
+use crate::refusal::refused_unless;
 use std::ops::{Range, RangeInclusive};
 
 const DIMENSIONS: RangeInclusive<u64> = 2..=20;
@@ -34,19 +36,10 @@ pub fn all_up_to(largest_k: u64) -> Vec<Parameters> {
 impl Parameters {
     /// The first cause against these parameters, in the paper's order.
     pub fn may_use(&self) -> Result<(), Answer> {
-        if !DIMENSIONS.contains(&self.k) {
-            return Err(refused(K_OUT_OF_RANGE));
-        }
-        if !RATES.contains(&self.rate) {
-            return Err(refused(RATE_OUT_OF_RANGE));
-        }
-        if !STEPS.contains(&self.step) {
-            return Err(refused(STEP_OUT_OF_RANGE));
-        }
-        if self.k < self.rate + self.step {
-            return Err(refused(K_TOO_SMALL));
-        }
-        Ok(())
+        refused_unless(DIMENSIONS.contains(&self.k), refused(K_OUT_OF_RANGE))?;
+        refused_unless(RATES.contains(&self.rate), refused(RATE_OUT_OF_RANGE))?;
+        refused_unless(STEPS.contains(&self.step), refused(STEP_OUT_OF_RANGE))?;
+        refused_unless(self.k >= self.rate + self.step, refused(K_TOO_SMALL))
     }
 
     /// How many rounds there are: r.
@@ -114,45 +107,29 @@ mod tests {
         Parameters { k, rate, step }
     }
 
-    // Table A.
+    /// Rounds, last coefficients, dimensions of layers 0 to r, and starts of layers 1 to r - 1.
+    type Layout = (u64, usize, &'static [u64], &'static [usize]);
 
+    /// The fourth is case O.
     #[test]
-    fn case_o() {
-        let largest = parameters(20, 6, 3);
-        assert_eq!(largest.may_use(), Ok(()));
-        assert_eq!(largest.rounds(), 4);
-        assert_eq!(largest.layer_length(4), 256);
-        assert_eq!(largest.last_count(), 4);
-        assert_eq!(parameters(21, 6, 3).may_use(), Err(refused(4)));
-    }
-
-    // Layers.
-
-    #[test]
-    fn the_layers_by_hand() {
-        let six = parameters(6, 1, 1);
-        assert_eq!((six.rounds(), six.last_count()), (5, 1));
-        assert_eq!([0, 1, 2, 5].map(|i| six.dimension(i)), [6, 5, 4, 1]);
-        assert_eq!([1, 2, 3, 4].map(|i| six.layer_start(i)), [0, 32, 48, 56]);
-        assert_eq!(six.store_length(), 60);
-        let seven = parameters(7, 1, 2);
-        assert_eq!((seven.rounds(), seven.last_count()), (3, 1));
-        assert_eq!([0, 1, 2, 3].map(|i| seven.dimension(i)), [7, 5, 3, 1]);
-        assert_eq!([1, 2].map(|i| seven.layer_start(i)), [0, 32]);
-        assert_eq!(seven.store_length(), 40);
-        let nine = parameters(9, 1, 3);
-        assert_eq!((nine.rounds(), nine.last_count()), (2, 4));
-        assert_eq!([0, 1, 2].map(|i| nine.dimension(i)), [9, 6, 3]);
-        assert_eq!(nine.store_length(), 64);
-    }
-
-    #[test]
-    fn one_round_has_an_empty_store() {
-        for one in [parameters(2, 1, 1), parameters(4, 1, 3), parameters(8, 6, 2)] {
-            assert_eq!((one.rounds(), one.store_length()), (1, 0));
-            assert_eq!(one.layer_of_store(0, 0), None);
-            assert_eq!(one.layer_of_store(0, 1), None);
+    fn layouts_by_hand() {
+        let due: [(Parameters, Layout); 5] = [
+            (parameters(6, 1, 1), (5, 1, &[6, 5, 4, 3, 2, 1], &[0, 32, 48, 56])),
+            (parameters(7, 1, 2), (3, 1, &[7, 5, 3, 1], &[0, 32])),
+            (parameters(9, 1, 3), (2, 4, &[9, 6, 3], &[0])),
+            (
+                parameters(20, 6, 3),
+                (4, 4, &[20, 17, 14, 11, 8], &[0, 1 << 17, (1 << 17) + (1 << 14)]),
+            ),
+            (parameters(4, 1, 3), (1, 1, &[4, 1], &[])),
+        ];
+        for (parameters, (r, d, dimensions, starts)) in due {
+            assert_eq!((parameters.rounds(), parameters.last_count()), (r, d));
+            assert!((0..=r).map(|i| parameters.dimension(i)).eq(dimensions.iter().copied()));
+            assert!((1..r).map(|i| parameters.layer_start(i)).eq(starts.iter().copied()));
         }
+        assert_eq!(parameters(6, 1, 1).store_length(), 60);
+        assert_eq!(parameters(4, 1, 3).store_length(), 0);
     }
 
     /// The paper has at most 256 points and 1, 2 or 4 coefficients, and so that
@@ -171,44 +148,19 @@ mod tests {
     }
 
     #[test]
-    fn the_layers_of_a_store_are_joined() {
-        for parameters in all_up_to(20) {
-            let length = parameters.store_length();
-            let part = |i| parameters.layer_of_store(length, i);
-            let mut end = 0;
-            for i in 1..parameters.rounds() {
-                let layer = part(i).unwrap();
-                assert_eq!(layer.start, end);
-                assert_eq!(layer.len(), 1 << (parameters.k - i * parameters.step));
-                end = layer.end;
-            }
-            assert_eq!(end, length);
-            for i in [0, parameters.rounds(), parameters.rounds() + 1, u64::MAX] {
-                assert_eq!(part(i), None);
-            }
-        }
-    }
-
-    #[test]
-    fn a_store_of_another_length_has_no_layers() {
+    fn parts_of_a_store_by_hand() {
         let six = parameters(6, 1, 1);
-        assert_eq!(six.layer_of_store(60, 2), Some(32..48));
+        let parts = [1, 2, 3, 4].map(|i| six.layer_of_store(60, i));
+        assert_eq!(parts, [0..32, 32..48, 48..56, 56..60].map(Some));
+        for i in [0, 5, 6, u64::MAX] {
+            assert_eq!(six.layer_of_store(60, i), None);
+        }
         for length in [0, 48, 59, 61, usize::MAX] {
             assert_eq!(six.layer_of_store(length, 2), None);
         }
+        assert_eq!(parameters(6, 0, 1).layer_of_store(60, 2), None);
+        assert_eq!(parameters(4, 1, 3).layer_of_store(0, 1), None);
     }
-
-    #[test]
-    fn bad_parameters_have_no_layers() {
-        let (most, none) = (u64::MAX, None);
-        assert_eq!(parameters(21, 1, 1).layer_of_store(60, 2), none);
-        assert_eq!(parameters(6, 0, 1).layer_of_store(60, 2), none);
-        assert_eq!(parameters(6, 1, 0).layer_of_store(60, 2), none);
-        assert_eq!(parameters(6, 6, 1).layer_of_store(60, 2), none);
-        assert_eq!(parameters(most, most, most).layer_of_store(60, 2), none);
-    }
-
-    // Queries.
 
     #[test]
     fn an_index_goes_down_the_layers() {
@@ -219,45 +171,6 @@ mod tests {
         let down = [0, 1, 2].map(|i| nine.index(0b1_0110_1101, i));
         assert_eq!(down, [0b1_0110_1101, 0b10_1101, 0b101]);
         assert_eq!([0, 1].map(|i| nine.coset_used(0b1_0110_1101, i)), down[1..]);
-    }
-
-    #[test]
-    fn the_coset_used_holds_the_index() {
-        for parameters in all_up_to(6) {
-            for query in 0..1 << parameters.k {
-                for i in 0..parameters.rounds() {
-                    let first = parameters.coset_used(query, i) << parameters.step;
-                    let coset = first..first + (1 << parameters.step);
-                    assert!(coset.contains(&parameters.index(query, i)));
-                    assert!(coset.end <= parameters.layer_length(i) as u64);
-                }
-            }
-        }
-    }
-
-    // Refusals.
-
-    #[test]
-    fn the_ranges_are_those_of_the_paper() {
-        let edges = (0..=24).chain([u64::MAX - 1, u64::MAX]);
-        for k in edges.clone() {
-            for rate in edges.clone() {
-                for step in edges.clone() {
-                    let due = if !(2..=20).contains(&k) {
-                        Err(refused(4))
-                    } else if rate == 0 || rate > 6 {
-                        Err(refused(5))
-                    } else if step == 0 || step > 3 {
-                        Err(refused(6))
-                    } else if k < rate + step {
-                        Err(refused(7))
-                    } else {
-                        Ok(())
-                    };
-                    assert_eq!(parameters(k, rate, step).may_use(), due);
-                }
-            }
-        }
     }
 
     #[test]

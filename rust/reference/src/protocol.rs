@@ -4,9 +4,8 @@
 //! round after round as the paper tells them, and notes each coset that it meets.
 //! Reads are what it noted: the paper's formulas for them are tested, not used.
 
-use crate::answer::Answer;
 use crate::answer::{
-    accepted, done, failed, refused, refused_at, DEGREE_TOO_HIGH, QUERY_OUT_OF_RANGE,
+    accepted, done, failed, refused, refused_at, Answer, DEGREE_TOO_HIGH, QUERY_OUT_OF_RANGE,
     WRONG_QUERY_COUNT,
 };
 use crate::coset::{point, points};
@@ -14,8 +13,8 @@ use crate::fold::{self, following, later_independent, Coset, Fold};
 use crate::parameters::Parameters;
 use crate::polynomial::{interpolant, value};
 use crate::refusal::{
-    independent, right_length, LIST_OF_THE_BASIS, LIST_OF_THE_CHALLENGES, LIST_OF_THE_GIVEN,
-    LIST_OF_THE_LAST, LIST_OF_THE_STORE,
+    independent, refused_unless, right_length, LIST_OF_THE_BASIS, LIST_OF_THE_CHALLENGES,
+    LIST_OF_THE_GIVEN, LIST_OF_THE_LAST, LIST_OF_THE_STORE,
 };
 use std::collections::BTreeSet;
 use std::ops::RangeInclusive;
@@ -55,12 +54,10 @@ pub fn cosets(run: &Run) -> Vec<Coset> {
 
 /// The cosets of layers 0 to r, from that of layer 0.
 pub fn cosets_from(parameters: Parameters, first: &Coset) -> Vec<Coset> {
-    let mut coset = first.clone();
-    let mut all = vec![coset.clone()];
-    for _ in 0..parameters.rounds() {
-        let step = parameters.step as usize;
-        coset = following(step, coset.offset, &coset.basis);
-        all.push(coset.clone());
+    let step = parameters.step as usize;
+    let mut all = vec![first.clone()];
+    for i in 0..parameters.rounds() as usize {
+        all.push(following(step, all[i].offset, &all[i].basis));
     }
     all
 }
@@ -143,15 +140,11 @@ pub fn prove(run: &Run) -> Proved {
     let polynomial = last_interpolant(run, &layers);
     let d = run.parameters.last_count();
     match degree(&polynomial) {
-        Some(degree) if degree >= d => proved.answer = degree_too_high(degree),
+        // The degree stands where other refusals have their place.
+        Some(degree) if degree >= d => proved.answer = refused_at(DEGREE_TOO_HIGH, degree as u64),
         _ => proved.last = polynomial[..d].to_vec(),
     }
     proved
-}
-
-/// The degree stands where other refusals have their place.
-fn degree_too_high(degree: usize) -> Answer {
-    refused_at(DEGREE_TOO_HIGH, degree as u64)
 }
 
 // The judge.
@@ -250,7 +243,8 @@ pub fn may_take(run: &Run) -> Result<(), Answer> {
 /// All causes but a round check.
 pub fn may_judge(run: &Run, queries: &[u64]) -> Result<(), Answer> {
     may_take(run)?;
-    right_queries(run.parameters, queries)
+    right_query_count(queries.len())?;
+    queries_in_range(run.parameters, queries)
 }
 
 fn right_lengths(run: &Run) -> Result<(), Answer> {
@@ -277,16 +271,8 @@ pub fn later_layers_independent(cosets: &[Coset]) -> Result<(), Answer> {
     Ok(())
 }
 
-fn right_queries(parameters: Parameters, queries: &[u64]) -> Result<(), Answer> {
-    right_query_count(queries.len())?;
-    queries_in_range(parameters, queries)
-}
-
 pub fn right_query_count(count: usize) -> Result<(), Answer> {
-    if !QUERY_COUNTS.contains(&count) {
-        return Err(refused(WRONG_QUERY_COUNT));
-    }
-    Ok(())
+    refused_unless(QUERY_COUNTS.contains(&count), refused(WRONG_QUERY_COUNT))
 }
 
 pub fn queries_in_range(parameters: Parameters, queries: &[u64]) -> Result<(), Answer> {

@@ -1,35 +1,34 @@
 //! Refusals that several operations give, and the lists that they name.
 
-use crate::answer::Answer;
-use crate::answer::{refused_at, DEPENDENT_BASIS, WRONG_LENGTH};
+use crate::answer::{refused_at, Answer, DEPENDENT_BASIS, WRONG_LENGTH};
 use crate::coset::first_dependent;
 
 /// The list of the basis.
 pub const LIST_OF_THE_BASIS: u64 = 1;
-
 /// The list of the challenges.
 pub const LIST_OF_THE_CHALLENGES: u64 = 2;
-
 /// The list of the word, or of the coefficients to encode.
 pub const LIST_OF_THE_GIVEN: u64 = 3;
-
 /// The store, that is the list of layers 1 to r - 1.
 pub const LIST_OF_THE_STORE: u64 = 4;
-
 /// The list of the last coefficients.
 pub const LIST_OF_THE_LAST: u64 = 5;
-
 /// The list that the values, or the interpolated coefficients, are written to.
 pub const LIST_OF_THE_OUTPUT: u64 = 6;
-
 /// The list that the next basis is written to.
 pub const LIST_OF_THE_NEXT_BASIS: u64 = 7;
 
-pub fn right_length(list: u64, right: bool) -> Result<(), Answer> {
-    if !right {
-        return Err(refused_at(WRONG_LENGTH, list));
+/// Goes on if this holds.
+pub fn refused_unless(holds: bool, refusal: Answer) -> Result<(), Answer> {
+    if holds {
+        Ok(())
+    } else {
+        Err(refusal)
     }
-    Ok(())
+}
+
+pub fn right_length(list: u64, right: bool) -> Result<(), Answer> {
+    refused_unless(right, refused_at(WRONG_LENGTH, list))
 }
 
 pub fn independent(basis: &[u64]) -> Result<(), Answer> {

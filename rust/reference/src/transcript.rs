@@ -7,14 +7,16 @@
 
 mod writing;
 
-use crate::answer::Answer;
-use crate::answer::{refused, refused_at, BYTES_END, BYTES_FOLLOW, INPUT_TOO_LONG, WRONG_COUNT};
+use crate::answer::{
+    refused, refused_at, Answer, BYTES_END, BYTES_FOLLOW, INPUT_TOO_LONG, WRONG_COUNT,
+};
 use crate::fold::Coset;
 use crate::parameters::Parameters;
 use crate::protocol::{
     self, cosets_from, later_layers_independent, queries_in_range, right_query_count, Run,
 };
-use crate::refusal::independent;
+use crate::refusal::{independent, refused_unless};
+use std::slice::Iter;
 
 pub use writing::{sections, transcript, written, Section};
 
@@ -39,23 +41,24 @@ pub struct Judging {
 
 /// What the bytes carry, or the first cause but a round check.
 pub fn read(bytes: &[u8]) -> Result<Judging, Answer> {
-    let reader = &mut Reader::of(bytes.iter().copied());
+    let reader = &mut Reader { bytes: bytes.iter(), section: 0 };
     let parameters = parameters(reader)?;
     let Coset { offset, basis } = coset(reader, parameters)?;
     let challenges = reader.section_of(parameters.rounds())?;
     let queries = queries(reader, parameters)?;
-    let word = layer(reader, parameters, 0)?;
+    let mut layer = |i| reader.section_of(parameters.layer_length(i) as u64);
+    let word = layer(0)?;
     let mut store = Vec::new();
     for i in 1..parameters.rounds() {
-        store.extend(layer(reader, parameters, i)?);
+        store.extend(layer(i)?);
     }
     let last = reader.section_of(parameters.last_count() as u64)?;
-    reader.end()?;
+    refused_unless(reader.bytes.next().is_none(), refused(BYTES_FOLLOW))?;
     let run = Run { parameters, offset, basis, challenges, word, store, last };
     Ok(Judging { run, queries })
 }
 
-fn parameters(reader: &mut Reader<impl Iterator<Item = u8>>) -> Result<Parameters, Answer> {
+fn parameters(reader: &mut Reader) -> Result<Parameters, Answer> {
     let [k, rate, step] = reader.section_of(3)?[..] else {
         unreachable!("a section of three has three entries");
     };
@@ -65,10 +68,7 @@ fn parameters(reader: &mut Reader<impl Iterator<Item = u8>>) -> Result<Parameter
 }
 
 /// The offset stands before the basis.
-fn coset(
-    reader: &mut Reader<impl Iterator<Item = u8>>,
-    parameters: Parameters,
-) -> Result<Coset, Answer> {
+fn coset(reader: &mut Reader, parameters: Parameters) -> Result<Coset, Answer> {
     let mut basis = reader.section_of(1 + parameters.k)?;
     let offset = basis.remove(0);
     independent(&basis)?;
@@ -77,34 +77,19 @@ fn coset(
     Ok(coset)
 }
 
-fn queries(
-    reader: &mut Reader<impl Iterator<Item = u8>>,
-    parameters: Parameters,
-) -> Result<Vec<u64>, Answer> {
+fn queries(reader: &mut Reader, parameters: Parameters) -> Result<Vec<u64>, Answer> {
     let queries = reader.section(|_, count| right_query_count(count as usize))?;
     queries_in_range(parameters, &queries)?;
     Ok(queries)
 }
 
-fn layer(
-    reader: &mut Reader<impl Iterator<Item = u8>>,
-    parameters: Parameters,
-    i: u64,
-) -> Result<Vec<u64>, Answer> {
-    reader.section_of(parameters.layer_length(i) as u64)
-}
-
 /// The bytes that have not been taken yet, and the section that they are in.
-struct Reader<Bytes> {
-    bytes: Bytes,
+struct Reader<'a> {
+    bytes: Iter<'a, u8>,
     section: u64,
 }
 
-impl<Bytes: Iterator<Item = u8>> Reader<Bytes> {
-    fn of(bytes: Bytes) -> Self {
-        Reader { bytes, section: 0 }
-    }
-
+impl Reader<'_> {
     /// The entries of the next section, if its number and its count may be.
     fn section(
         &mut self,
@@ -119,27 +104,16 @@ impl<Bytes: Iterator<Item = u8>> Reader<Bytes> {
     /// The entries of the next section, if there are as many as are due.
     fn section_of(&mut self, due: u64) -> Result<Vec<u64>, Answer> {
         self.section(|section, count| {
-            if count != due {
-                return Err(refused_at(WRONG_COUNT, section));
-            }
-            Ok(())
+            refused_unless(count == due, refused_at(WRONG_COUNT, section))
         })
     }
 
     /// The number in the next so many bytes, the lowest of them first.
     fn number(&mut self, bytes: u32) -> Result<u64, Answer> {
         (0..bytes).try_fold(0, |number, place| {
-            let byte = self.bytes.next();
-            let byte = byte.ok_or(refused_at(BYTES_END, self.section))?;
+            let &byte = self.bytes.next().ok_or(refused_at(BYTES_END, self.section))?;
             Ok(number | u64::from(byte) << (8 * place))
         })
-    }
-
-    fn end(&mut self) -> Result<(), Answer> {
-        match self.bytes.next() {
-            Some(_) => Err(refused(BYTES_FOLLOW)),
-            None => Ok(()),
-        }
     }
 }
 
