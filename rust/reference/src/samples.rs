@@ -1,9 +1,9 @@
-//! The table of samples that the definitions are computed against: small inputs,
-//! and what the reference gives for them.
+//! The table of samples that the definitions are computed against: small inputs, and what the
+//! reference gives for them.
 //!
-//! Rows divide by 1, for the sake of the one who computes them: see `bases`. Where
-//! nothing is divided the values may be any, and the steps as well: steps 2 and 3
-//! occur in layouts, indices, cosets, lookups and refusals alone.
+//! Rows divide by 1, for the sake of the one who computes them: see `bases`. Where nothing is
+//! divided the values may be any, and the steps as well: steps 2 and 3 occur in layouts, indices,
+//! cosets, lookups and refusals alone.
 
 mod bases;
 mod cosets;
@@ -60,32 +60,6 @@ mod tests {
         let groups = groups();
         let found = groups.iter().map(|g| (g.name, g.row_type, g.rows.len()));
         assert_eq!(found.collect::<Vec<_>>(), due);
-    }
-
-    /// Before the first blank line.
-    #[test]
-    fn the_header_has_all_types_in_order() {
-        let mut types: Vec<&str> = groups().iter().map(|group| group.row_type).collect();
-        types.dedup();
-        let text = text();
-        let (header, _) = text.split_once("\n\n").unwrap();
-        let names = header.split(|sign: char| !sign.is_alphabetic());
-        let found: Vec<&str> = names.filter(|name| name.ends_with("Sample")).collect();
-        assert_eq!(found, types);
-    }
-
-    #[test]
-    fn the_lines_are_short() {
-        assert!(text().lines().all(|line| line.chars().count() < 120));
-    }
-
-    #[test]
-    fn the_rows_are_clean() {
-        for row in groups().iter().flat_map(|group| &group.rows) {
-            assert!(row.starts_with("record { ") && row.ends_with(" }"));
-            assert!(row.split(' ').all(|part| !part.is_empty()));
-            assert!(!row.contains('\n'));
-        }
     }
 
     #[test]

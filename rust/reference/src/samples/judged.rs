@@ -1,23 +1,16 @@
 //! Runs that are judged with queries.
 
 use super::parameters;
-use super::runs::{
-    bad_parameters, bound, changed, drawn, of_table_a, record_of, with_sum, wrong_lengths,
-};
+use super::runs::{bad_parameters, bound, changed, drawn, record_of, with_sum, wrong_lengths};
 use super::table::{list, member, position, record, Group};
+use crate::cases::{of_case_f, of_case_h, of_case_j};
 use crate::parameters::Parameters;
 use crate::protocol::{judge, Run};
 use crate::random::Random;
-
-/// A run and the queries that it is judged with.
-#[derive(Clone)]
-struct Judged {
-    run: Run,
-    queries: Vec<u64>,
-}
+use crate::transcript::Judging;
 
 pub(super) fn groups() -> Vec<Group> {
-    let group = |name, samples: &[Judged]| Group::of(name, "JudgedSample", samples, row);
+    let group = |name, samples: &[Judging]| Group::of(name, "JudgedSample", samples, row);
     let [in_two_rounds, in_three_rounds, at_high_degree] = failing();
     vec![
         group("judgedOfTableA", &cases_of_table_a()),
@@ -29,8 +22,7 @@ pub(super) fn groups() -> Vec<Group> {
     ]
 }
 
-fn row(sample: &Judged) -> String {
-    let Judged { run, queries } = sample;
+fn row(Judging { run, queries }: &Judging) -> String {
     let answer = judge(run, queries);
     record(&[
         member("run", record_of(run)),
@@ -42,9 +34,8 @@ fn row(sample: &Judged) -> String {
     ])
 }
 
-fn judged(run: &Run, queries: &[u64]) -> Judged {
-    let (run, queries) = (run.clone(), queries.to_vec());
-    Judged { run, queries }
+fn judged(run: &Run, queries: &[u64]) -> Judging {
+    Judging { run: run.clone(), queries: queries.to_vec() }
 }
 
 /// A run that is accepted.
@@ -60,20 +51,17 @@ fn honest(random: &mut Random, parameters: Parameters, coefficients: u64) -> Run
 }
 
 /// Cases G, H and I, and case J at its exceptional challenge.
-fn cases_of_table_a() -> Vec<Judged> {
-    let case_g = of_table_a(4, [7, 4, 1, 2], 0xb);
-    let case_h = of_table_a(4, [7, 4, 1, 3], 0xb);
-    let case_j = of_table_a(2, [0, 0, 0, 1], 0);
+fn cases_of_table_a() -> Vec<Judging> {
     vec![
-        judged(&case_g, &[0, 3]),
-        judged(&case_h, &[0, 3]),
-        judged(&case_h, &[0]),
-        judged(&case_j, &[0, 1, 2, 3]),
+        judged(&of_case_f(), &[0, 3]),
+        judged(&of_case_h(), &[0, 3]),
+        judged(&of_case_h(), &[0]),
+        judged(&of_case_j(2), &[0, 1, 2, 3]),
     ]
 }
 
 /// Honest runs of two and three rounds.
-fn accepted() -> Vec<Judged> {
+fn accepted() -> Vec<Judging> {
     let random = &mut Random::named("judged, accepted");
     let mut accepted = |k, queries: &[u64]| {
         let run = right(random, parameters(k, 1, 1));
@@ -85,7 +73,7 @@ fn accepted() -> Vec<Judged> {
 // Failing.
 
 /// Those of two rounds, those of three, and one whose word has too high a degree.
-fn failing() -> [Vec<Judged>; 3] {
+fn failing() -> [Vec<Judging>; 3] {
     let random = &mut Random::named("judged, failing");
     let two_rounds = right(random, parameters(3, 1, 1));
     let three_rounds = right(random, parameters(4, 1, 1));
@@ -97,7 +85,7 @@ fn failing() -> [Vec<Judged>; 3] {
 }
 
 /// The store is layer 1, of four entries.
-fn failing_in_two_rounds(right: &Run) -> Vec<Judged> {
+fn failing_in_two_rounds(right: &Run) -> Vec<Judging> {
     let with_entry_1 = changed(right, |run| run.store[1] ^= 1);
     vec![
         judged(&with_entry_1, &[6, 3]),
@@ -107,7 +95,7 @@ fn failing_in_two_rounds(right: &Run) -> Vec<Judged> {
 }
 
 /// The store is layer 1, of eight entries, and layer 2, of four.
-fn failing_in_three_rounds(right: &Run) -> Vec<Judged> {
+fn failing_in_three_rounds(right: &Run) -> Vec<Judging> {
     let with_word = changed(right, |run| run.word[6] ^= 2);
     let with_layer_2 = changed(right, |run| run.store[8 + 2] ^= 8);
     vec![
@@ -119,26 +107,26 @@ fn failing_in_three_rounds(right: &Run) -> Vec<Judged> {
 
 /// With as many coefficients as points. All folds are honest, and only the last
 /// polynomial shows the degree.
-fn failing_at_high_degree(random: &mut Random) -> Vec<Judged> {
+fn failing_at_high_degree(random: &mut Random) -> Vec<Judging> {
     let run = honest(random, parameters(3, 1, 1), 8);
     vec![judged(&run, &[7])]
 }
 
 // Refused.
 
-fn refused() -> Vec<Judged> {
+fn refused() -> Vec<Judging> {
     [with_bad_parameters(), with_wrong_lengths(), with_dependent_bases(), with_wrong_queries()]
         .concat()
 }
 
 /// There is no query either.
-fn with_bad_parameters() -> Vec<Judged> {
-    let bad = bad_parameters(&of_table_a(4, [7, 4, 1, 2], 0xb));
+fn with_bad_parameters() -> Vec<Judging> {
+    let bad = bad_parameters(&of_case_f());
     bad.iter().map(|run| judged(run, &[])).collect()
 }
 
 /// Lists 1 to 5, each alone, and then several causes at once.
-fn with_wrong_lengths() -> Vec<Judged> {
+fn with_wrong_lengths() -> Vec<Judging> {
     let random = &mut Random::named("judged, wrong lengths");
     let wrong = wrong_lengths(&right(random, parameters(3, 1, 1)));
     let with_several = changed(&right(random, parameters(4, 1, 2)), |run| {
@@ -150,7 +138,7 @@ fn with_wrong_lengths() -> Vec<Judged> {
     alone.chain([judged(&with_several, &[16])]).collect()
 }
 
-fn with_dependent_bases() -> Vec<Judged> {
+fn with_dependent_bases() -> Vec<Judging> {
     let random = &mut Random::named("judged, dependent bases");
     vec![
         judged(&with_sum(&right(random, parameters(3, 1, 1)), 2), &[]),
@@ -158,7 +146,7 @@ fn with_dependent_bases() -> Vec<Judged> {
     ]
 }
 
-fn with_wrong_queries() -> Vec<Judged> {
+fn with_wrong_queries() -> Vec<Judging> {
     let random = &mut Random::named("judged, wrong queries");
     let right = right(random, parameters(2, 1, 1));
     let failing = changed(&right, |run| run.last[0] ^= 1);
@@ -174,55 +162,19 @@ fn with_wrong_queries() -> Vec<Judged> {
 mod tests {
     use super::super::bases::differences;
     use super::*;
-    use crate::answer::Answer;
-    use crate::answer::{self, failed, refused_at};
-
-    // Rows.
-
-    /// A row of table A, the lists of the run without their end.
-    fn row_of_table_a(challenge: &str, word: &str, last: &str, rest: &str) -> String {
-        format!(
-            "record {{ run = record {{ k = 2; rate = 1; step = 1; offset = 0; \
-             basis = 1 ∷ 2 ∷ []; challenges = {challenge} ∷ []; word = {word} ∷ []; \
-             store = []; last = {last} ∷ [] }}; queries = {rest} }}"
-        )
-    }
+    use crate::answer::{self, failed, refused_at, Answer};
 
     #[test]
-    fn the_rows_of_table_a() {
-        let due = [
-            row_of_table_a(
-                "4",
-                "7 ∷ 4 ∷ 1 ∷ 2",
-                "11",
-                "0 ∷ 3 ∷ []; number = 0; place = Absent; round = Absent; reads = 4",
-            ),
-            row_of_table_a(
-                "4",
-                "7 ∷ 4 ∷ 1 ∷ 3",
-                "11",
-                "0 ∷ 3 ∷ []; number = 11; place = At 1; round = At 0; reads = 4",
-            ),
-            row_of_table_a(
-                "4",
-                "7 ∷ 4 ∷ 1 ∷ 3",
-                "11",
-                "0 ∷ []; number = 0; place = Absent; round = Absent; reads = 2",
-            ),
-            row_of_table_a(
-                "2",
-                "0 ∷ 0 ∷ 0 ∷ 1",
-                "0",
-                "0 ∷ 1 ∷ 2 ∷ 3 ∷ []; number = 0; place = Absent; round = Absent; reads = 8",
-            ),
-        ];
-        assert_eq!(groups()[0].rows, due);
+    fn the_row_of_case_h() {
+        let due = "record { run = record { k = 2; rate = 1; step = 1; offset = 0; \
+                   basis = 1 ∷ 2 ∷ []; challenges = 4 ∷ []; word = 7 ∷ 4 ∷ 1 ∷ 3 ∷ []; \
+                   store = []; last = 11 ∷ [] }; queries = 0 ∷ 3 ∷ []; \
+                   number = 11; place = At 1; round = At 0; reads = 4 }";
+        assert_eq!(groups()[0].rows[1], due);
     }
 
-    // Causes.
-
-    fn answers(samples: &[Judged]) -> Vec<Answer> {
-        let answer = |sample: &Judged| judge(&sample.run, &sample.queries);
+    fn answers(samples: &[Judging]) -> Vec<Answer> {
+        let answer = |sample: &Judging| judge(&sample.run, &sample.queries);
         samples.iter().map(answer).collect()
     }
 
@@ -256,13 +208,11 @@ mod tests {
         assert_eq!(answers(&with_wrong_queries()), [count, count, third, first]);
     }
 
-    // Divisions.
-
     /// No coset of those refused is folded.
     #[test]
     fn a_judge_divides_by_one() {
         let folded = [cases_of_table_a(), accepted(), failing().concat()].concat();
-        for Judged { run, .. } in folded {
+        for Judging { run, .. } in folded {
             assert_eq!(run.parameters.step, 1);
             // The last round leads to layer r, which is not folded.
             let folded = differences(&run.basis, run.parameters.rounds() - 1);

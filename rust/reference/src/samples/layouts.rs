@@ -4,17 +4,11 @@ use super::table::{list, member, parameter_members, record, Group};
 use crate::parameters::{all_up_to, Parameters};
 use crate::random::Random;
 
-// Layouts.
-
 /// The largest dimension of the layouts.
 const LARGEST_LAYOUT: u64 = 6;
 
 pub(super) fn layout_group() -> Group {
-    Group::of("layouts", "LayoutSample", &layout_samples(), layout_row)
-}
-
-fn layout_samples() -> Vec<Parameters> {
-    all_up_to(LARGEST_LAYOUT)
+    Group::of("layouts", "LayoutSample", &all_up_to(LARGEST_LAYOUT), layout_row)
 }
 
 fn layout_row(parameters: &Parameters) -> String {
@@ -31,36 +25,24 @@ fn layout_row(parameters: &Parameters) -> String {
     ])
 }
 
-// Indices.
-
-/// A query whose index goes down the layers.
-struct Indexed {
-    parameters: Parameters,
-    query: u64,
-}
-
+/// Queries whose index goes down the layers.
 pub(super) fn index_group() -> Group {
-    Group::of("indices", "IndexSample", &index_samples(), index_row)
+    Group::of("indices", "IndexSample", &queries(), index_row)
 }
 
 /// A drawn index and the last one for each of the layouts.
-fn index_samples() -> Vec<Indexed> {
+fn queries() -> Vec<(Parameters, u64)> {
     let random = &mut Random::named("indices");
-    let mut samples = Vec::new();
-    for parameters in layout_samples() {
+    let mut queries = Vec::new();
+    for parameters in all_up_to(LARGEST_LAYOUT) {
         let all = 1 << parameters.k;
-        let queries = [random.below(all - 1), all - 1];
-        samples.extend(queries.map(|query| indexed(parameters, query as u64)));
+        let two = [random.below(all - 1), all - 1];
+        queries.extend(two.map(|query| (parameters, query as u64)));
     }
-    samples
+    queries
 }
 
-fn indexed(parameters: Parameters, query: u64) -> Indexed {
-    Indexed { parameters, query }
-}
-
-fn index_row(sample: &Indexed) -> String {
-    let Indexed { parameters, query } = sample;
+fn index_row((parameters, query): &(Parameters, u64)) -> String {
     let layers = 0..=parameters.rounds();
     let indices: Vec<u64> = layers.map(|i| parameters.index(*query, i)).collect();
     record(&[
@@ -76,30 +58,14 @@ mod tests {
     use super::*;
 
     #[test]
-    fn layouts_by_hand() {
-        let rows = layout_group().rows;
-        for due in [
-            "record { k = 2; rate = 1; step = 1; rounds = 1; lastCount = 1; \
-             storeLength = 0; dimensions = 2 ∷ 1 ∷ []; starts = [] }",
-            "record { k = 6; rate = 1; step = 1; rounds = 5; lastCount = 1; \
-             storeLength = 60; dimensions = 6 ∷ 5 ∷ 4 ∷ 3 ∷ 2 ∷ 1 ∷ []; \
-             starts = 0 ∷ 32 ∷ 48 ∷ 56 ∷ [] }",
-            "record { k = 6; rate = 1; step = 2; rounds = 2; lastCount = 2; \
-             storeLength = 16; dimensions = 6 ∷ 4 ∷ 2 ∷ []; starts = 0 ∷ [] }",
-            "record { k = 6; rate = 1; step = 3; rounds = 1; lastCount = 4; \
-             storeLength = 0; dimensions = 6 ∷ 3 ∷ []; starts = [] }",
-        ] {
-            assert!(rows.contains(&due.to_string()));
-        }
-    }
-
-    #[test]
-    fn indices_by_hand() {
-        let due = "record { k = 6; rate = 1; step = 1; query = 63; \
-                   indices = 63 ∷ 31 ∷ 15 ∷ 7 ∷ 3 ∷ 1 ∷ [] }";
-        assert!(index_group().rows.contains(&due.to_string()));
+    fn rows_by_hand() {
         assert_eq!(
-            index_row(&indexed(parameters(6, 2, 2), 0b110110)),
+            layout_row(&parameters(6, 1, 2)),
+            "record { k = 6; rate = 1; step = 2; rounds = 2; lastCount = 2; \
+             storeLength = 16; dimensions = 6 ∷ 4 ∷ 2 ∷ []; starts = 0 ∷ [] }"
+        );
+        assert_eq!(
+            index_row(&(parameters(6, 2, 2), 0b110110)),
             "record { k = 6; rate = 2; step = 2; query = 54; indices = 54 ∷ 13 ∷ 3 ∷ [] }"
         );
     }

@@ -69,12 +69,9 @@ fn refused() -> Vec<Run> {
 #[cfg(test)]
 mod tests {
     use super::super::bases::differences;
-    use super::super::runs::of_table_a;
     use super::*;
-    use crate::answer::Answer;
-    use crate::answer::{self, done, refused_at};
-
-    // Rows.
+    use crate::answer::{self, done, refused_at, Answer};
+    use crate::cases::of_case_f;
 
     #[test]
     fn the_row_of_case_f() {
@@ -82,7 +79,7 @@ mod tests {
                    basis = 1 ∷ 2 ∷ []; challenges = 4 ∷ []; word = 7 ∷ 4 ∷ 1 ∷ 2 ∷ []; \
                    store = []; last = 201 ∷ [] }; \
                    number = 0; place = Absent; store = []; last = 11 ∷ [] }";
-        assert_eq!(row(&of_table_a(4, [7, 4, 1, 2], 201)), due);
+        assert_eq!(row(&changed(&of_case_f(), |run| run.last[0] = 201)), due);
     }
 
     /// What is lent is left as it was, but for the store where the degree is too high.
@@ -102,8 +99,6 @@ mod tests {
         assert!(refused.rows[0].ends_with(due));
     }
 
-    // Causes.
-
     fn answers(runs: &[Run]) -> Vec<Answer> {
         runs.iter().map(|run| prove(run).answer).collect()
     }
@@ -117,8 +112,6 @@ mod tests {
         let due = [&bad_parameters[..], &wrong_lengths, &[refused_at(8, 1)]];
         assert_eq!(answers(&refused()), due.concat());
     }
-
-    // Divisions.
 
     /// Those refused are not folded.
     #[test]

@@ -21,20 +21,6 @@ pub(super) fn record_of(run: &Run) -> String {
     ])
 }
 
-/// The run of a case of table A, with one round, one challenge and one last
-/// coefficient.
-pub(super) fn of_table_a(challenge: u64, word: [u64; 4], last: u64) -> Run {
-    Run {
-        parameters: parameters(2, 1, 1),
-        offset: 0,
-        basis: vec![1, 2],
-        challenges: vec![challenge],
-        word: word.to_vec(),
-        store: Vec::new(),
-        last: vec![last],
-    }
-}
-
 /// A run with the honest store and the honest last coefficients, and with
 /// everything else drawn: the basis begins with so many cheap elements, and the
 /// word is that of a polynomial with so many coefficients. These, the offset and the
@@ -47,18 +33,11 @@ pub(super) fn drawn(
 ) -> Run {
     let (offset, basis) = (small(random), basis(random, cheap, parameters.k));
     let polynomial = small_list(random, coefficients);
-    let points = 1 << parameters.k;
-    let word = reed_solomon::encode(offset, &basis, &polynomial, points);
-    let run = Run {
-        parameters,
-        offset,
-        basis,
-        challenges: small_list(random, parameters.rounds()),
-        word: word.expect("an independent basis of k elements"),
-        store: Vec::new(),
-        last: Vec::new(),
-    };
-    run.made_honest()
+    let word = reed_solomon::encode(offset, &basis, &polynomial, 1 << parameters.k);
+    let word = word.expect("an independent basis of k elements");
+    let challenges = small_list(random, parameters.rounds());
+    let (store, last) = (Vec::new(), Vec::new());
+    Run { parameters, offset, basis, challenges, word, store, last }.made_honest()
 }
 
 /// A number of one byte.
@@ -87,14 +66,8 @@ pub(super) fn changed(run: &Run, change: impl FnOnce(&mut Run)) -> Run {
 /// The run with parameters for each of the numbers 4 to 7, and two for 4. Some
 /// are also cause for a higher number.
 pub(super) fn bad_parameters(right: &Run) -> Vec<Run> {
-    let bad = [
-        parameters(1, 7, 0),
-        parameters(21, 1, 1),
-        parameters(2, 0, 4),
-        parameters(2, 6, 4),
-        parameters(4, 2, 3),
-    ];
-    let with = |parameters| changed(right, |run| run.parameters = parameters);
+    let bad = [(1, 7, 0), (21, 1, 1), (2, 0, 4), (2, 6, 4), (4, 2, 3)];
+    let with = |(k, rate, step)| changed(right, |run| run.parameters = parameters(k, rate, step));
     bad.map(with).to_vec()
 }
 
@@ -122,20 +95,6 @@ pub(super) fn with_sum(right: &Run, place: usize) -> Run {
 mod tests {
     use super::*;
     use crate::protocol::judge;
-
-    #[test]
-    fn a_record_by_hand() {
-        let run = changed(&of_table_a(4, [7, 4, 1, 2], 201), |run| {
-            run.offset = 16;
-            run.store = vec![101, 102];
-        });
-        assert_eq!(
-            record_of(&run),
-            "record { k = 2; rate = 1; step = 1; offset = 16; basis = 1 ∷ 2 ∷ []; \
-             challenges = 4 ∷ []; word = 7 ∷ 4 ∷ 1 ∷ 2 ∷ []; store = 101 ∷ 102 ∷ []; \
-             last = 201 ∷ [] }"
-        );
-    }
 
     #[test]
     fn a_drawn_run_is_accepted_below_the_bound() {

@@ -216,16 +216,6 @@ mod tests {
         assert_eq!(row_text(&row), due.join("\n"));
     }
 
-    /// A comment, and what the rows use.
-    #[test]
-    fn the_header_has_five_lines() {
-        let lines: Vec<&str> = HEADER.lines().collect();
-        assert_eq!(lines.len(), 5);
-        assert!(lines[0].starts_with("-- "));
-        assert!(lines[1..].iter().all(|line| line.starts_with("use ")));
-        assert!(HEADER.ends_with("}\n"));
-    }
-
     #[test]
     fn lists_and_positions_by_hand() {
         assert_eq!(list::<u64>(&[]), "[]");
