@@ -77,8 +77,8 @@ pub fn refused(number: u64) -> Answer {
     Answer { number, ..done() }
 }
 
-/// The answer that carries the number of its cause and a place: a section, a list, the place of a
-/// basis element, a query or a degree.
+/// The answer that carries the number of its cause and a place: a section, a list, the place of
+/// a basis element, a query or a degree.
 pub fn refused_at(number: u64, place: u64) -> Answer {
     Answer { place: Some(place), ..refused(number) }
 }

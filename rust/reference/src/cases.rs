@@ -58,9 +58,8 @@ pub fn of_case_m() -> Run {
 
 // Cases O and P.
 
-/// An honest run with this last polynomial, each value of the last layer standing
-/// in all entries that are folded to it. So every fold is plain, whatever the
-/// challenge is.
+/// An honest run with this last polynomial, each value of the last layer standing in all
+/// entries that are folded to it. So every fold is plain, whatever the challenge is.
 pub fn stretched(parameters: Parameters, last: &[u64]) -> Run {
     let run = Run {
         parameters,

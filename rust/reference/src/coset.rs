@@ -14,8 +14,7 @@ pub fn point(offset: u64, basis: &[u64], index: u64) -> u64 {
     places.fold(offset, |point, place| field::sum(point, basis[place]))
 }
 
-/// The first place whose element lies in the span of earlier ones, by
-/// elimination.
+/// The first place whose element lies in the span of earlier ones, by elimination.
 pub fn first_dependent(basis: &[u64]) -> Option<usize> {
     // At a bit: an element of the span whose highest bit is that one.
     let mut leading = [0; u64::BITS as usize];
@@ -46,8 +45,7 @@ fn highest_bit(number: u64) -> usize {
 mod tests {
     use super::*;
 
-    /// The first place whose element is the sum of some earlier ones, by trying
-    /// all sums.
+    /// The first place whose element is the sum of some earlier ones, by trying all sums.
     fn first_dependent_by_trying(basis: &[u64]) -> Option<usize> {
         let dependent = |&place: &usize| points(0, &basis[..place]).contains(&basis[place]);
         (0..basis.len()).find(dependent)

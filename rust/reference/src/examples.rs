@@ -118,8 +118,8 @@ fn of_limits() -> Vec<Example> {
 
 // Honest runs. They do not change with what is compared, and so the files stay.
 
-/// One with step 1 and one last coefficient, from the last layer back: an entry is that of the next
-/// layer times a line that is 1 at the challenge, and so the fold is the next layer.
+/// One with step 1 and one last coefficient, from the last layer back: an entry is that of the
+/// next layer times a line that is 1 at the challenge, and so the fold is the next layer.
 fn honest(random: &mut Random, parameters: Parameters) -> Run {
     let (basis, offset) = (random.list(parameters.k as usize), random.number());
     let mut cosets = cosets_from(parameters, &Coset { offset, basis: basis.clone() });
@@ -138,8 +138,8 @@ fn honest(random: &mut Random, parameters: Parameters) -> Run {
     Run { parameters, offset, basis, challenges, word, store, last }
 }
 
-/// One for each layer, of another sort than the one before it: any number, 0, 1, all ones, a point,
-/// a zero of q, and what one bit keeps from being a point.
+/// One for each layer, of another sort than the one before it: any number, 0, 1, all ones, a
+/// point, a zero of q, and what one bit keeps from being a point.
 fn challenges(random: &mut Random, cosets: &[Coset]) -> Vec<u64> {
     let challenge = |(sort, Coset { offset, basis }): (usize, &Coset)| match sort {
         0 => random.number(),

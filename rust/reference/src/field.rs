@@ -1,15 +1,15 @@
 //! The field of 2^64 elements, in the plainest way that the definition allows.
 //!
-//! An element is a 64-bit number whose bit i is the coefficient of t^i.
-//! Everything here is schoolbook work on polynomials over the field of two
-//! elements: no table, no window, no powering. Speed does not matter, and the
-//! less a method resembles the library's the more an agreement says.
+//! An element is a 64-bit number whose bit i is the coefficient of t^i. Everything here is
+//! schoolbook work on polynomials over the field of two elements: no table, no window, no
+//! powering. Speed does not matter, and the less a method resembles the library's the more an
+//! agreement says.
 
 /// t^64 + t^4 + t^3 + t + 1, the polynomial that products are reduced by.
 const MODULUS: u128 = (1 << 64) | (1 << 4) | (1 << 3) | (1 << 1) | 1;
 
-/// R_64 of NIST SP 800-38B: 59 zero bits followed by 11011. It is written out
-/// apart from `MODULUS` so that the two can disagree.
+/// R_64 of NIST SP 800-38B: 59 zero bits followed by 11011. It is written out apart from
+/// `MODULUS` so that the two can disagree.
 const R_64: u64 = 0b11011;
 
 /// The sum of two elements: coefficients are added modulo two.
@@ -23,8 +23,7 @@ pub fn product(a: u64, b: u64) -> u64 {
     element(remainder)
 }
 
-/// The inverse of an element, or nothing for zero, by the extended Euclidean
-/// algorithm.
+/// The inverse of an element, or nothing for zero, by the extended Euclidean algorithm.
 pub fn inverse(a: u64) -> Option<u64> {
     if a == 0 {
         return None;

@@ -1,10 +1,9 @@
 //! The fold of a word over a coset, from the definitions alone.
 //!
-//! The polynomial q is the product of X - a over all of a span. The fold takes
-//! each coset by itself: Lagrange's interpolant through its points, and then the
-//! value of that at the challenge. Nothing here uses that q adds up, or that the
-//! points of one coset lie as those of another do: the less a method resembles
-//! the library's the more an agreement says.
+//! The polynomial q is the product of X - a over all of a span. The fold takes each coset by
+//! itself: Lagrange's interpolant through its points, and then the value of that at the
+//! challenge. Nothing here uses that q adds up, or that the points of one coset lie as those of
+//! another do: the less a method resembles the library's the more an agreement says.
 
 use crate::answer::{
     refused, refused_in_round, Answer, DEPENDENT_LATER_BASIS, K_OUT_OF_RANGE, K_TOO_SMALL,
@@ -51,8 +50,8 @@ pub struct Coset {
     pub basis: Vec<u64>,
 }
 
-/// The fold and the next coset, or the refusal. The lengths are those of the
-/// lists lent for the values and for the next basis.
+/// The fold and the next coset, or the refusal. The lengths are those of the lists lent for the
+/// values and for the next basis.
 pub fn fold(given: Fold, values: usize, next_basis: usize) -> Result<Folded, Answer> {
     let next = next_coset(given, values, next_basis)?;
     let values = (0..values).map(|j| entry(given, j)).collect();
@@ -76,8 +75,8 @@ pub fn next_coset(given: Fold, values: usize, next_basis: usize) -> Result<Coset
     Ok(next)
 }
 
-/// The coset that follows one: the images of its offset and of the basis elements
-/// behind those that span.
+/// The coset that follows one: the images of its offset and of the basis elements behind those
+/// that span.
 pub fn following(step: usize, offset: u64, basis: &[u64]) -> Coset {
     let (spanning, others) = basis.split_at(step);
     let q = vanishing_on_span(spanning);
@@ -116,8 +115,8 @@ fn right_parameters(k: usize, step: usize) -> Result<(), Answer> {
     refused_unless(k >= step, refused(K_TOO_SMALL))
 }
 
-/// No independent basis leads to a refusal here, since q is zero on the span
-/// alone; the paper has the cause all the same.
+/// No independent basis leads to a refusal here, since q is zero on the span alone; the paper
+/// has the cause all the same.
 pub fn later_independent(basis: &[u64], round: u64) -> Result<(), Answer> {
     let refusal = refused_in_round(DEPENDENT_LATER_BASIS, round);
     refused_unless(first_dependent(basis).is_none(), refusal)

@@ -1,7 +1,6 @@
 //! The parameters of the protocol, and where the layers of a store lie.
 //!
-//! All but `may_use` and `layer_of_store` stands for parameters that may be
-//! used.
+//! All but `may_use` and `layer_of_store` stands for parameters that may be used.
 
 use crate::answer::{
     refused, Answer, K_OUT_OF_RANGE, K_TOO_SMALL, RATE_OUT_OF_RANGE, STEP_OUT_OF_RANGE,
@@ -74,8 +73,8 @@ impl Parameters {
         self.layer_start(self.rounds())
     }
 
-    /// The part of a store that is layer i. Nothing stands for the empty part,
-    /// which is given for bad parameters, another i or a store of another length.
+    /// The part of a store that is layer i. Nothing stands for the empty part, which is given
+    /// for bad parameters, another i or a store of another length.
     pub fn layer_of_store(&self, store_length: usize, i: u64) -> Option<Range<usize>> {
         self.may_use().ok()?;
         let layers = 1..self.rounds();
@@ -132,8 +131,8 @@ mod tests {
         assert_eq!(parameters(4, 1, 3).store_length(), 0);
     }
 
-    /// The paper has at most 256 points and 1, 2 or 4 coefficients, and so that
-    /// the last layer has its rate: 2^R points for a coefficient.
+    /// The paper has at most 256 points and 1, 2 or 4 coefficients, and so that the last layer
+    /// has its rate: 2^R points for a coefficient.
     #[test]
     fn the_last_layer_is_small() {
         for parameters in all_up_to(20) {

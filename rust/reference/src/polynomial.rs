@@ -1,12 +1,11 @@
-//! Polynomials over the field: values, and Lagrange's interpolant over any points
-//! that differ. A polynomial is the list of its coefficients, constant first.
+//! Polynomials over the field: values, and Lagrange's interpolant over any points that differ.
+//! A polynomial is the list of its coefficients, constant first.
 
 use crate::field;
 
-/// The value of a polynomial at a point. Neighbours are joined by the point,
-/// then neighbours among these by its square, and so on. So a coefficient is
-/// multiplied by power 2^b of the point for every bit b that is set in its
-/// index, which makes the power of that index.
+/// The value of a polynomial at a point. Neighbours are joined by the point, then neighbours
+/// among these by its square, and so on. So a coefficient is multiplied by power 2^b of the
+/// point for every bit b that is set in its index, which makes the power of that index.
 pub fn value(polynomial: &[u64], point: u64) -> u64 {
     let mut terms = polynomial.to_vec();
     let mut power = point;
@@ -25,8 +24,8 @@ fn joined(pair: &[u64], factor: &Factor) -> u64 {
     field::sum(pair[0], second)
 }
 
-/// Lagrange's interpolant: the sum over all points of the polynomial that
-/// vanishes at the other points, scaled to the word's value at this one.
+/// Lagrange's interpolant: the sum over all points of the polynomial that vanishes at the other
+/// points, scaled to the word's value at this one.
 pub fn interpolant(points: &[u64], word: &[u64]) -> Vec<u64> {
     let vanishing = vanishing(points);
     let mut sum = vec![0; points.len()];
@@ -55,8 +54,8 @@ pub fn vanishing(points: &[u64]) -> Vec<u64> {
     product
 }
 
-/// The quotient by X - a of a polynomial that vanishes at the point a, from the
-/// top coefficient down.
+/// The quotient by X - a of a polynomial that vanishes at the point a, from the top coefficient
+/// down.
 fn divided(polynomial: &[u64], point: u64) -> Vec<u64> {
     let factor = Factor::of(point);
     let mut quotient = vec![0; polynomial.len() - 1];
@@ -70,8 +69,8 @@ fn divided(polynomial: &[u64], point: u64) -> Vec<u64> {
 
 // A product that is fast enough for 4,096 points and more.
 
-/// A factor of many products: its multiples by every number of four bits, at
-/// each of the sixteen places that four bits of the other factor can have.
+/// A factor of many products: its multiples by every number of four bits, at each of the
+/// sixteen places that four bits of the other factor can have.
 struct Factor {
     multiples: [[u64; 16]; 16],
 }

@@ -1,8 +1,8 @@
 //! Proving and judging over lists, from the definitions alone.
 //!
-//! The prover folds layer after layer. The judge takes query after query and
-//! round after round as the paper tells them, and notes each coset that it meets.
-//! Reads are what it noted: the paper's formulas for them are tested, not used.
+//! The prover folds layer after layer. The judge takes query after query and round after round
+//! as the paper tells them, and notes each coset that it meets. Reads are what it noted: the
+//! paper's formulas for them are tested, not used.
 
 use crate::answer::{
     accepted, done, failed, refused, refused_at, Answer, DEGREE_TOO_HIGH, QUERY_OUT_OF_RANGE,
@@ -22,8 +22,8 @@ use std::ops::RangeInclusive;
 /// How many queries a judge takes.
 pub const QUERY_COUNTS: RangeInclusive<usize> = 1..=256;
 
-/// What is judged, but for the queries. To a prover the store and the last
-/// coefficients are lists lent for writing.
+/// What is judged, but for the queries. To a prover the store and the last coefficients are
+/// lists lent for writing.
 #[derive(Clone)]
 pub struct Run {
     pub parameters: Parameters,
@@ -36,15 +36,14 @@ pub struct Run {
 }
 
 impl Run {
-    /// The run with the honest store and the honest last coefficients in place
-    /// of its own.
+    /// The run with the honest store and the honest last coefficients in place of its own.
     pub fn made_honest(self) -> Run {
         Run { store: honest_store(&self), last: honest_last(&self), ..self }
     }
 }
 
-// Layers. All of these take parameters that may be used, and a basis, challenges
-// and a word of the right lengths, most of them as a run.
+// Layers. All of these take parameters that may be used, and a basis, challenges and a word of
+// the right lengths, most of them as a run.
 
 /// The cosets of layers 0 to r.
 pub fn cosets(run: &Run) -> Vec<Coset> {
@@ -126,9 +125,8 @@ pub struct Proved {
     pub last: Vec<u64>,
 }
 
-/// Writes the honest store and the honest last coefficients. These are left as
-/// they were if the degree of layer r is too high, and both lists if there is any
-/// other cause.
+/// Writes the honest store and the honest last coefficients. These are left as they were if the
+/// degree of layer r is too high, and both lists if there is any other cause.
 pub fn prove(run: &Run) -> Proved {
     let mut proved = Proved { answer: done(), store: run.store.clone(), last: run.last.clone() };
     if let Err(refusal) = may_take(run) {
@@ -177,8 +175,8 @@ fn verdict(run: &Run, queries: &[u64]) -> Answer {
 /// A coset of a layer below r, by the layer and the place among its cosets.
 type Met = (u64, u64);
 
-/// The cosets that a round check meets: the one that it folds, and the one that
-/// holds the entry of the next layer. The last polynomial has no cosets.
+/// The cosets that a round check meets: the one that it folds, and the one that holds the entry
+/// of the next layer. The last polynomial has no cosets.
 fn cosets_met(parameters: Parameters, query: u64, round: u64) -> Vec<Met> {
     let layers = (round..parameters.rounds()).take(2);
     let met = |layer| (layer, parameters.coset_used(query, layer));
@@ -217,8 +215,8 @@ impl Sent<'_> {
         fold::entry(given, used as usize)
     }
 
-    /// What that fold must equal: the entry of the next layer, or the value of
-    /// the last polynomial at the point of layer r.
+    /// What that fold must equal: the entry of the next layer, or the value of the last
+    /// polynomial at the point of layer r.
     fn due(&self, query: u64, round: u64) -> u64 {
         let next = round + 1;
         let index = self.run.parameters.index(query, next);
@@ -262,8 +260,7 @@ fn right_lengths(run: &Run) -> Result<(), Answer> {
     Ok(())
 }
 
-/// Round i leads to the basis of layer i + 1. The cosets are those of layers 0 to
-/// r.
+/// Round i leads to the basis of layer i + 1. The cosets are those of layers 0 to r.
 pub fn later_layers_independent(cosets: &[Coset]) -> Result<(), Answer> {
     for (round, later) in (0..).zip(&cosets[1..]) {
         later_independent(&later.basis, round)?;

@@ -1,5 +1,5 @@
-//! A small seeded generator (SplitMix64), so that every run compares the same
-//! inputs and a difference can be found again.
+//! A small seeded generator (SplitMix64), so that every run compares the same inputs and a
+//! difference can be found again.
 
 /// The seed of all comparisons.
 const SEED: u64 = 0x5eed_0f2b_7e15_1628;
@@ -10,8 +10,8 @@ pub struct Random {
 }
 
 impl Random {
-    /// The generator for the comparison of this name. Each comparison has its
-    /// own, so that adding one does not change the inputs of the others.
+    /// The generator for the comparison of this name. Each comparison has its own, so that
+    /// adding one does not change the inputs of the others.
     pub fn named(name: &str) -> Random {
         let mut state = SEED;
         for byte in name.bytes() {
@@ -44,8 +44,7 @@ impl Random {
         (0..length).map(|_| self.number()).collect()
     }
 
-    /// A number below the bound, which is small, so that the remainder is even
-    /// enough.
+    /// A number below the bound, which is small, so that the remainder is even enough.
     pub fn below(&mut self, bound: usize) -> usize {
         (self.number() % bound as u64) as usize
     }

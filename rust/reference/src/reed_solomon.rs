@@ -1,9 +1,8 @@
 //! Encoding and interpolation over a coset, from the definitions alone.
 //!
-//! Encoding adds up the terms of a polynomial at each point. Interpolation is
-//! Lagrange's over any points that differ. Nothing here uses that the points of
-//! a coset have a structure: the less a method resembles the library's the more
-//! an agreement says.
+//! Encoding adds up the terms of a polynomial at each point. Interpolation is Lagrange's over
+//! any points that differ. Nothing here uses that the points of a coset have a structure: the
+//! less a method resembles the library's the more an agreement says.
 
 use crate::answer::{refused, Answer, K_OUT_OF_RANGE};
 use crate::coset::points;
@@ -15,8 +14,8 @@ use crate::refusal::{
 /// The largest dimension that is encoded and interpolated over.
 pub const LARGEST_K: usize = 12;
 
-/// The values of the polynomial at all points, or the refusal. The length is
-/// that of the list lent for the values.
+/// The values of the polynomial at all points, or the refusal. The length is that of the list
+/// lent for the values.
 pub fn encode(
     offset: u64,
     basis: &[u64],
@@ -28,8 +27,8 @@ pub fn encode(
     Ok(points.iter().map(|&x| value(coefficients, x)).collect())
 }
 
-/// The coefficients of the word's interpolant, or the refusal. The length is
-/// that of the list lent for the coefficients.
+/// The coefficients of the word's interpolant, or the refusal. The length is that of the list
+/// lent for the coefficients.
 pub fn interpolate(
     offset: u64,
     basis: &[u64],

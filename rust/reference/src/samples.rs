@@ -2,8 +2,8 @@
 //! reference gives for them.
 //!
 //! Rows divide by 1, for the sake of the one who computes them: see `bases`. Where nothing is
-//! divided the values may be any, and the steps as well: steps 2 and 3 occur in layouts, indices,
-//! cosets, lookups and refusals alone.
+//! divided the values may be any, and the steps as well: steps 2 and 3 occur in layouts,
+//! indices, cosets, lookups and refusals alone.
 
 mod bases;
 mod cosets;

@@ -1,9 +1,8 @@
-//! Transcripts, from the definitions alone: how the lists of a judging are written
-//! as bytes, how they are read and judged, and what the program prints.
+//! Transcripts, from the definitions alone: how the lists of a judging are written as bytes,
+//! how they are read and judged, and what the program prints.
 //!
-//! Reading takes byte after byte and never goes back or ahead: no place of a
-//! section is computed. What it gives is lists, and the judge over lists decides
-//! about them.
+//! Reading takes byte after byte and never goes back or ahead: no place of a section is
+//! computed. What it gives is lists, and the judge over lists decides about them.
 
 mod writing;
 

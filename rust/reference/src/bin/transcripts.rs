@@ -1,5 +1,5 @@
-//! Writes transcripts, and the lines that the program prints for each, into the folder
-//! that is given.
+//! Writes transcripts, and the lines that the program prints for each, into the folder that is
+//! given.
 
 use reference::examples;
 use std::path::Path;

@@ -1,15 +1,14 @@
-//! Bases that divide by 1: where the two points of a coset are interpolated their
-//! difference is divided by, and over these bases it is 1.
+//! Bases that divide by 1: where the two points of a coset are interpolated their difference is
+//! divided by, and over these bases it is 1.
 
 use crate::coset::point;
 use crate::field;
 use crate::fold::image;
 use crate::random::Random;
 
-/// An independent basis that begins with so many cheap elements, the first of
-/// which is 1, and goes on with powers of two. A round with step 1 takes those that follow to cheap ones again, so
-/// that the two points of a coset differ by 1 in every round that folds by one of
-/// them.
+/// An independent basis that begins with so many cheap elements, the first of which is 1, and
+/// goes on with powers of two. A round with step 1 takes those that follow to cheap ones again,
+/// so that the two points of a coset differ by 1 in every round that folds by one of them.
 pub(super) fn basis(random: &mut Random, cheap: u64, k: u64) -> Vec<u64> {
     let mut basis = Vec::new();
     for element in cheap_elements(cheap) {
@@ -26,8 +25,8 @@ fn cheap_elements(count: u64) -> Vec<u64> {
     with_next.take(count as usize).collect()
 }
 
-/// An element x with x (x + 1) = y. The left side adds up, so that elimination
-/// over its values at all powers of t finds one.
+/// An element x with x (x + 1) = y. The left side adds up, so that elimination over its values
+/// at all powers of t finds one.
 fn preimage(y: u64) -> u64 {
     // At a bit: an image whose highest bit is that one, and an element of it.
     let mut leading = [(0, 0); u64::BITS as usize];
@@ -43,8 +42,8 @@ fn preimage(y: u64) -> u64 {
     element
 }
 
-/// The image without what the leading ones can take away, and the element with
-/// what was added for that.
+/// The image without what the leading ones can take away, and the element with what was added
+/// for that.
 fn reduced((image, element): (u64, u64), leading: &[(u64, u64)]) -> (u64, u64) {
     let (mut rest, mut element) = (image, element);
     while rest != 0 && leading[rest.ilog2() as usize].0 != 0 {
@@ -55,8 +54,8 @@ fn reduced((image, element): (u64, u64), leading: &[(u64, u64)]) -> (u64, u64) {
     (rest, element)
 }
 
-/// By how much the two points of a coset differ, in layer 0 and in those that so
-/// many rounds with step 1 lead to.
+/// By how much the two points of a coset differ, in layer 0 and in those that so many rounds
+/// with step 1 lead to.
 #[cfg(test)]
 pub(super) fn differences(basis: &[u64], rounds: u64) -> Vec<u64> {
     let mut basis = basis.to_vec();

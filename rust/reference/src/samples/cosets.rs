@@ -11,8 +11,8 @@ pub(super) fn group() -> Group {
     Group::of("cosets", "CosetSample", &samples(), row)
 }
 
-/// All is drawn in the first. The others have a basis of powers of two, and one of them an offset
-/// that is zero.
+/// All is drawn in the first. The others have a basis of powers of two, and one of them an
+/// offset that is zero.
 fn samples() -> Vec<(Parameters, Coset)> {
     let random = &mut Random::named("cosets");
     let mut drawn = |k, rate, step| {

@@ -105,8 +105,8 @@ fn failing_in_three_rounds(right: &Run) -> Vec<Judging> {
     ]
 }
 
-/// With as many coefficients as points. All folds are honest, and only the last
-/// polynomial shows the degree.
+/// With as many coefficients as points. All folds are honest, and only the last polynomial
+/// shows the degree.
 fn failing_at_high_degree(random: &mut Random) -> Vec<Judging> {
     let run = honest(random, parameters(3, 1, 1), 8);
     vec![judged(&run, &[7])]
@@ -184,8 +184,8 @@ mod tests {
         assert_eq!(answers(&accepted()), [8, 6].map(answer::accepted));
     }
 
-    /// A query reads two entries in each round up to the one that fails, and in the
-    /// next one, if there is one.
+    /// A query reads two entries in each round up to the one that fails, and in the next one,
+    /// if there is one.
     #[test]
     fn what_fails_by_hand() {
         let [in_two_rounds, in_three_rounds, at_high_degree] = failing();

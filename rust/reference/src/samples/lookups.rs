@@ -53,8 +53,9 @@ fn of_no_layer() -> impl Iterator<Item = Lookup> {
         (three_rounds, 8 + 3, 1),
         (three_rounds, 8 + 4 + 1, 2),
         (three_rounds, 0, 1),
-        // Each kind of bad parameters alone, but that with k = 1 no rate and step are small enough.
-        // With rates 0 and 7 and with step 4 the store has the length that their rounds would need.
+        // Each kind of bad parameters alone, but that with k = 1 no rate and step are small
+        // enough. With rates 0 and 7 and with step 4 the store has the length that their rounds
+        // would need.
         ((1, 1, 1), 4, 1),
         ((21, 6, 3), 4, 1),
         ((3, 0, 1), 4 + 2, 1),

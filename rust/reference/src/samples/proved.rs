@@ -27,8 +27,8 @@ fn row(run: &Run) -> String {
     ])
 }
 
-/// A run for a prover, whose lent lists hold numbers in a row. A prover has
-/// layer r to interpolate as well, so that all elements are cheap.
+/// A run for a prover, whose lent lists hold numbers in a row. A prover has layer r to
+/// interpolate as well, so that all elements are cheap.
 fn lent(random: &mut Random, parameters: Parameters, coefficients: u64) -> Run {
     let honest = drawn(random, parameters, parameters.k, coefficients);
     changed(&honest, |run| {

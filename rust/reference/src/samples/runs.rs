@@ -21,10 +21,10 @@ pub(super) fn record_of(run: &Run) -> String {
     ])
 }
 
-/// A run with the honest store and the honest last coefficients, and with
-/// everything else drawn: the basis begins with so many cheap elements, and the
-/// word is that of a polynomial with so many coefficients. These, the offset and the
-/// challenges are small: a product of large numbers takes ten times as long.
+/// A run with the honest store and the honest last coefficients, and with everything else
+/// drawn: the basis begins with so many cheap elements, and the word is that of a polynomial
+/// with so many coefficients. These, the offset and the challenges are small: a product of
+/// large numbers takes ten times as long.
 pub(super) fn drawn(
     random: &mut Random,
     parameters: Parameters,
@@ -63,8 +63,8 @@ pub(super) fn changed(run: &Run, change: impl FnOnce(&mut Run)) -> Run {
     changed
 }
 
-/// The run with parameters for each of the numbers 4 to 7, and two for 4. Some
-/// are also cause for a higher number.
+/// The run with parameters for each of the numbers 4 to 7, and two for 4. Some are also cause
+/// for a higher number.
 pub(super) fn bad_parameters(right: &Run) -> Vec<Run> {
     let bad = [(1, 7, 0), (21, 1, 1), (2, 0, 4), (2, 6, 4), (4, 2, 3)];
     let with = |(k, rate, step)| changed(right, |run| run.parameters = parameters(k, rate, step));
@@ -82,8 +82,8 @@ pub(super) fn wrong_lengths(right: &Run) -> Vec<Run> {
     ]
 }
 
-/// The run whose basis has the sum of all earlier elements at a place, and zero
-/// at the last place.
+/// The run whose basis has the sum of all earlier elements at a place, and zero at the last
+/// place.
 pub(super) fn with_sum(right: &Run, place: usize) -> Run {
     changed(right, |run| {
         *run.basis.last_mut().expect("a basis with elements") = 0;

@@ -1,5 +1,5 @@
-//! The text of the table: a file of named lists of rows. A row stands on one line
-//! where that is short enough, in the layout that `rt fmt` keeps. Numbers are decimal.
+//! The text of the table: a file of named lists of rows. A row stands on one line where that is
+//! short enough, in the layout that `rt fmt` keeps. Numbers are decimal.
 
 use crate::parameters::Parameters;
 use std::fmt::Display;
@@ -109,8 +109,8 @@ fn filled(list: &str, indent: usize) -> String {
     lines.join("\n")
 }
 
-/// The items of a list, all but the first with what joins them to those before. A
-/// list among them is one item.
+/// The items of a list, all but the first with what joins them to those before. A list among
+/// them is one item.
 fn items_of(list: &str) -> Vec<String> {
     let mut items: Vec<String> = Vec::new();
     let mut depth = 0;

@@ -22,8 +22,7 @@ impl Section {
     }
 }
 
-/// The sections of a run that has parameters that may be used, and a store of the
-/// right length.
+/// The sections of a run that has parameters that may be used, and a store of the right length.
 pub fn sections(run: &Run, queries: &[u64]) -> Vec<Section> {
     let Parameters { k, rate, step } = run.parameters;
     let offset_and_basis = [&[run.offset], &run.basis[..]].concat();
