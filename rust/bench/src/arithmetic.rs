@@ -1,5 +1,5 @@
-//! The field's operations as the methods in Rust are given them: by the library's product, by carry-less
-//! multiply hardware, or counted.
+//! The field's operations as the methods in Rust are given them: by the library's product, by
+//! carry-less multiply hardware, or counted.
 
 use crate::field;
 use std::cell::Cell;
@@ -18,8 +18,8 @@ pub trait Arithmetic: Copy {
     }
 }
 
-/// Calls the product, as the library does: inlined, it gains little in the fold with step 1 and loses in
-/// the others.
+/// Calls the product, as the library does: inlined, it gains little in the fold with step 1 and
+/// loses in the others.
 #[derive(Clone, Copy)]
 pub struct Windowed;
 
@@ -37,9 +37,9 @@ pub trait Method {
     fn by(self, arithmetic: impl Arithmetic) -> Self::Result;
 }
 
-/// The result by carry-less multiply hardware, where the processor has it.
+/// The result by carry-less multiply hardware, which the processor must have.
 #[cfg(target_arch = "x86_64")]
-pub fn with_hardware<M: Method>(method: M) -> Option<M::Result> {
+pub fn with_hardware<M: Method>(method: M) -> M::Result {
     #[derive(Clone, Copy)]
     struct Hardware;
 
@@ -57,16 +57,18 @@ pub fn with_hardware<M: Method>(method: M) -> Option<M::Result> {
         method.by(Hardware)
     }
 
+    assert!(field::hardware().is_some());
     // SAFETY: the processor has the instruction.
-    field::hardware().map(|_| unsafe { with_instruction(method) })
+    unsafe { with_instruction(method) }
 }
 
 #[cfg(not(target_arch = "x86_64"))]
-pub fn with_hardware<M: Method>(_: M) -> Option<M::Result> {
-    None
+pub fn with_hardware<M: Method>(_: M) -> M::Result {
+    unreachable!("timed only where there is such hardware")
 }
 
-/// The sides to time, the library's first; that of the hardware is left off where there is none.
+/// The sides to time, the library's first; that of the hardware is left off where there is
+/// none.
 pub fn sides<F>(library: F, window: F, hardware: F) -> Vec<(&'static str, F)> {
     let mut sides = vec![("the library", library), ("the same method in Rust", window)];
     if field::hardware().is_some() {

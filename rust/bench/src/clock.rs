@@ -21,16 +21,18 @@ pub fn least(works: &mut [Work], turns: usize) -> Vec<f64> {
     best
 }
 
-/// Prints a line for each piece of work: its least time in the unit, which is so many nanoseconds, and
-/// the first one's time over its own.
-pub fn table(works: &mut [Work], turns: usize, unit: &str, nanoseconds: f64) {
-    let times = least(works, turns);
+/// Prints a line for each piece of work: its least time in the unit, which is so many
+/// nanoseconds, and the first one's time over its own.
+pub fn table<'a>(
+    works: impl IntoIterator<Item = Work<'a>>,
+    turns: usize,
+    unit: &str,
+    nanoseconds: f64,
+) {
+    let mut works: Vec<Work> = works.into_iter().collect();
+    let times = least(&mut works, turns);
     for (work, time) in works.iter().zip(&times) {
-        println!(
-            "    {:<38}{:>7.1} {unit} {:>6.2}",
-            work.name,
-            time / nanoseconds,
-            times[0] / time
-        );
+        let (shown, ratio) = (time / nanoseconds, times[0] / time);
+        println!("    {:<38}{shown:>7.1} {unit} {ratio:>6.2}", work.name);
     }
 }

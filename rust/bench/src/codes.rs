@@ -9,66 +9,37 @@ const DIMENSION: usize = 12;
 const SIZE: usize = 1 << DIMENSION;
 const TURNS: usize = 10;
 
+/// Takes the offset, the basis and the list that is given, and fills the other list.
 type Operation = fn(u64, &[u64], &[u64], &mut [u64]);
 
 pub fn report() {
-    let (offset, basis, list) = inputs(DIMENSION, numbers());
     println!(
         "\nencoding and interpolation of {SIZE} entries, wanted at most 1.30 of the same method:"
     );
-    compare("encoding", SIZE * SIZE, by_library_encode, encode, offset, &basis, &list);
-    compare(
-        "interpolation",
-        SIZE * SIZE * 3 / 2,
-        by_library_interpolate,
-        interpolate,
-        offset,
-        &basis,
-        &list,
-    );
+    let by_library: Operation = |offset, basis, coefficients, values| {
+        razgwilh::encode(offset, basis, coefficients, values).expect("nothing to refuse")
+    };
+    compare("encoding", SIZE * SIZE, by_library, encode);
+    let by_library: Operation = |offset, basis, word, coefficients| {
+        razgwilh::interpolate(offset, basis, word, coefficients).expect("nothing to refuse")
+    };
+    compare("interpolation", SIZE * SIZE * 3 / 2, by_library, interpolate);
 }
 
-fn compare(
-    title: &str,
-    products: usize,
-    library: Operation,
-    rust: Operation,
-    offset: u64,
-    basis: &[u64],
-    list: &[u64],
-) {
-    let mut works = [
-        work("the library", library, offset, basis, list),
-        work("the same method in Rust", rust, offset, basis, list),
-    ];
+fn compare(title: &str, products: usize, library: Operation, rust: Operation) {
+    let (offset, basis, list) = &inputs(DIMENSION, numbers());
+    let work = |name, operation: Operation| {
+        let run = move || {
+            let mut output = vec![0; SIZE];
+            operation(black_box(*offset), basis, list, &mut output);
+            output.iter().fold(0, |sum: u64, x| sum.rotate_left(1) ^ x)
+        };
+        Work { name, run: Box::new(run) }
+    };
+    let mut works = [work("the library", library), work("the same method in Rust", rust)];
     assert_eq!((works[0].run)(), (works[1].run)(), "{title}: the two differ");
     println!("  {title}, about {} million products:", products / 1_000_000);
-    table(&mut works, TURNS, "ms", 1e6);
-}
-
-fn work<'a>(
-    name: &'a str,
-    operation: Operation,
-    offset: u64,
-    basis: &'a [u64],
-    list: &'a [u64],
-) -> Work<'a> {
-    Work {
-        name,
-        run: Box::new(move || {
-            let mut output = vec![0; SIZE];
-            operation(black_box(offset), basis, list, &mut output);
-            output.iter().fold(0, |sum, x| sum.rotate_left(1) ^ x)
-        }),
-    }
-}
-
-fn by_library_encode(offset: u64, basis: &[u64], list: &[u64], output: &mut [u64]) {
-    razgwilh::encode(offset, basis, list, output);
-}
-
-fn by_library_interpolate(offset: u64, basis: &[u64], list: &[u64], output: &mut [u64]) {
-    razgwilh::interpolate(offset, basis, list, output);
+    table(works, TURNS, "ms", 1e6);
 }
 
 /// Horner at each point, the points in sequence.
@@ -96,7 +67,8 @@ fn interpolate(offset: u64, basis: &[u64], word: &[u64], coefficients: &mut [u64
     interpolate_in_place(Windowed, offset, basis, coefficients);
 }
 
-/// The values become Newton's coefficients, then the polynomial's, from the last point to the first.
+/// The values become Newton's coefficients, then the polynomial's, from the last point to the
+/// first.
 pub fn interpolate_in_place(
     arithmetic: impl Arithmetic,
     offset: u64,
@@ -115,7 +87,8 @@ pub fn interpolate_in_place(
     }
 }
 
-/// The coefficient that gives Newton's form, of which the known ones come first, the value y at z.
+/// The coefficient that gives Newton's form, of which the known ones come first, the value y at
+/// z.
 fn newton_coefficient(
     arithmetic: impl Arithmetic,
     offset: u64,

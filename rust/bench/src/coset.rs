@@ -1,5 +1,5 @@
-//! Cosets for the methods in Rust: their points in sequence, the coset of the next layer, whether a basis is
-//! independent, and some cosets to measure with.
+//! Cosets for the methods in Rust: their points in sequence, the coset of the next layer,
+//! whether a basis is independent, and some cosets to measure with.
 
 use crate::arithmetic::Arithmetic;
 
@@ -29,7 +29,8 @@ pub fn point(arithmetic: impl Arithmetic, offset: u64, basis: &[u64], j: usize) 
     (0..basis.len()).filter(set).fold(offset, |x, t| arithmetic.sum(x, basis[t]))
 }
 
-/// The sums of the first one, two, .. elements, and zeros: `stepped` goes from point to point by them.
+/// The sums of the first one, two, .. elements, and zeros: `stepped` goes from point to point
+/// by them.
 pub fn prefix_sums(arithmetic: impl Arithmetic, basis: &[u64]) -> [u64; 20] {
     let mut sums = [0; 20];
     let mut sum = 0;
@@ -56,7 +57,8 @@ pub fn composed_maps(arithmetic: impl Arithmetic, elements: &[u64], x: u64) -> u
     y
 }
 
-/// The elements e of the maps X · (X - e) whose composition is the subspace polynomial, and zeros.
+/// The elements e of the maps X · (X - e) whose composition is the subspace polynomial, and
+/// zeros.
 pub fn step_elements(arithmetic: impl Arithmetic, basis: &[u64], step: usize) -> [u64; 3] {
     let mut elements = [0; 3];
     for t in 0..step {
@@ -75,8 +77,8 @@ pub fn next_basis(arithmetic: impl Arithmetic, basis: &[u64], step: usize) -> [u
     next
 }
 
-/// Whether no element lies in the span of the earlier ones: each row clears its highest bit from the
-/// later ones.
+/// Whether no element lies in the span of the earlier ones: each row clears its highest bit
+/// from the later ones.
 pub fn is_independent(arithmetic: impl Arithmetic, basis: &[u64]) -> bool {
     let mut rows = [0; 20];
     let rows = &mut rows[..basis.len()];
@@ -110,7 +112,8 @@ impl LayerCoset {
         &self.elements[..self.dimension]
     }
 
-    /// That of the next layer. As in the library, the next basis finds the step's elements once more.
+    /// That of the next layer. As in the library, the next basis finds the step's elements once
+    /// more.
     pub fn next(&self, arithmetic: impl Arithmetic, step: usize) -> LayerCoset {
         let elements = step_elements(arithmetic, self.basis(), step);
         LayerCoset {

@@ -1,5 +1,5 @@
-//! The product beside the 64-step loop, the same method in Rust and carry-less multiply hardware;
-//! the inverse as a number of squarings.
+//! The product beside the 64-step loop, the same method in Rust and carry-less multiply
+//! hardware; the inverse as a number of squarings.
 
 use crate::clock::{least, table, Work};
 use std::hint::black_box;
@@ -35,7 +35,7 @@ fn compare(title: &str, calls: fn(Product) -> u64) {
     }
     println!("  {title}:");
     // One nanosecond for each of the calls, so that the times are those of one.
-    table(&mut works, TURNS, "ns", CALLS as f64);
+    table(works, TURNS, "ns", CALLS as f64);
 }
 
 fn work(name: &'static str, product: Product, calls: fn(Product) -> u64) -> Work<'static> {
@@ -62,13 +62,9 @@ fn squarings(product: Product) -> u64 {
 }
 
 fn inverse_work() -> Work<'static> {
-    Work {
-        name: "inverse",
-        run: Box::new(|| {
-            (1..=INVERSES as u64)
-                .fold(black_box(2), |x, i| razgwilh::inverse(x ^ i << 32).value.unwrap_or(1))
-        }),
-    }
+    let inverse = |x, i| razgwilh::inverse(x ^ i << 32).unwrap_or(1);
+    let run = move || (1..=INVERSES as u64).fold(black_box(2), inverse);
+    Work { name: "inverse", run: Box::new(run) }
 }
 
 /// Doubles and adds, a bit at a time.
@@ -85,8 +81,9 @@ fn stepwise(mut a: u64, mut b: u64) -> u64 {
     r
 }
 
-/// The library's method: a window of four bits over halves of 32 bits, then the reduction. The sum of
-/// the mixed products has functions of its own here, which rustc compiles to the fastest code.
+/// The library's method: a window of four bits over halves of 32 bits, then the reduction. The
+/// sum of the mixed products has functions of its own here, which rustc compiles to the fastest
+/// code.
 #[inline(never)]
 pub fn windowed(a: u64, b: u64) -> u64 {
     let (low, high) = (window(a & 0xffff_ffff), window(a >> 32));

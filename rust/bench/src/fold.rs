@@ -1,5 +1,5 @@
-//! The fold of a word beside the same method in Rust, with the library's product and with carry-less
-//! multiply hardware, over the largest coset.
+//! The fold of a word beside the same method in Rust, with the library's product and with
+//! carry-less multiply hardware, over the largest coset.
 
 use crate::arithmetic::{sides, with_hardware, Arithmetic, Method, Windowed};
 use crate::clock::{table, Work};
@@ -11,8 +11,15 @@ const DIMENSION: usize = 20;
 const SIZE: usize = 1 << DIMENSION;
 const TURNS: usize = 10;
 
-/// Fills in the values and the next basis, and gives the next offset.
-type Operation = fn(Fold, &mut [u64], &mut [u64]) -> u64;
+/// A fold, and the lists for the values and the next basis.
+struct Folding<'a> {
+    given: Fold<'a>,
+    values: &'a mut [u64],
+    next_basis: &'a mut [u64],
+}
+
+/// Fills in both lists, and gives the next offset.
+type Operation = fn(Folding) -> u64;
 
 pub fn report() {
     let mut next = numbers();
@@ -25,38 +32,33 @@ pub fn report() {
 }
 
 fn compare(given: Fold) {
-    let sides = sides(by_library as Operation, by_window, by_hardware);
-    check(given, &sides);
-    let size = 1 << given.step;
-    let products = 3 * (size - 1) - 1;
-    println!(
-        "  step {}, {:.1} products for each entry read:",
-        given.step,
-        products as f64 / size as f64
-    );
-    let mut works: Vec<Work> =
-        sides.iter().map(|(name, operation)| work(name, *operation, given)).collect();
-    table(&mut works, TURNS, "ms", 1e6);
-}
-
-fn check(given: Fold, sides: &[(&str, Operation)]) {
-    let result = |operation: Operation| {
-        let (mut values, mut next_basis) = room(given);
-        let next_offset = operation(given, &mut values, &mut next_basis);
-        (values, next_basis, next_offset)
-    };
-    let (_, library) = sides[0];
-    let expected = result(library);
+    let sides = sides(by_library as Operation, |all| all.by(Windowed), |all| with_hardware(all));
+    let expected = result(by_library, given);
     for (name, operation) in &sides[1..] {
-        let same = result(*operation) == expected;
+        let same = result(*operation, given) == expected;
         assert!(same, "step {}: {name} and the library differ", given.step);
     }
+    let size = 1 << given.step;
+    let products = (3 * (size - 1) - 1) as f64 / size as f64;
+    println!("  step {}, {products:.1} products for each entry read:", given.step);
+    let works = sides.iter().map(|(name, operation)| work(name, *operation, given));
+    table(works, TURNS, "ms", 1e6);
+}
+
+fn result(operation: Operation, given: Fold) -> (u64, Vec<u64>, Vec<u64>) {
+    let (mut values, mut next_basis) = room(given);
+    let folding = Folding { given, values: &mut values, next_basis: &mut next_basis };
+    (operation(folding), values, next_basis)
 }
 
 /// The room is made once, so that each turn but the first finds its memory in place.
 fn work<'a>(name: &'a str, operation: Operation, given: Fold<'a>) -> Work<'a> {
     let (mut values, mut next_basis) = room(given);
-    Work { name, run: Box::new(move || operation(black_box(given), &mut values, &mut next_basis)) }
+    let run = move || {
+        let given = black_box(given);
+        operation(Folding { given, values: &mut values, next_basis: &mut next_basis })
+    };
+    Work { name, run: Box::new(run) }
 }
 
 fn room(given: Fold) -> (Vec<u64>, Vec<u64>) {
@@ -64,50 +66,25 @@ fn room(given: Fold) -> (Vec<u64>, Vec<u64>) {
     (vec![0; 1 << dimension], vec![0; dimension])
 }
 
-fn by_library(given: Fold, values: &mut [u64], next_basis: &mut [u64]) -> u64 {
-    let answer = razgwilh::fold(given, values, next_basis);
-    answer.value.expect("nothing to refuse")
+fn by_library(Folding { given, values, next_basis }: Folding) -> u64 {
+    razgwilh::fold(given, values, next_basis).expect("nothing to refuse")
 }
 
-fn by_window(given: Fold, values: &mut [u64], next_basis: &mut [u64]) -> u64 {
-    Folding { given, values, next_basis }.by(Windowed)
-}
-
-fn by_hardware(given: Fold, values: &mut [u64], next_basis: &mut [u64]) -> u64 {
-    with_hardware(Folding { given, values, next_basis })
-        .expect("timed only where there is such hardware")
-}
-
-struct Folding<'a> {
-    given: Fold<'a>,
-    values: &'a mut [u64],
-    next_basis: &'a mut [u64],
-}
-
+/// The library's method.
 impl Method for Folding<'_> {
     type Result = u64;
 
     #[inline(always)]
     fn by(self, arithmetic: impl Arithmetic) -> u64 {
-        fold(arithmetic, self.given, self.values, self.next_basis)
+        let Folding { given, values, next_basis } = self;
+        let elements = step_elements(arithmetic, given.basis, given.step);
+        let elements = &elements[..given.step];
+        fill_values(arithmetic, elements, given, values);
+        for (image, b) in next_basis.iter_mut().zip(&given.basis[given.step..]) {
+            *image = composed_maps(arithmetic, elements, *b);
+        }
+        composed_maps(arithmetic, elements, given.offset)
     }
-}
-
-/// The library's method.
-#[inline(always)]
-fn fold(
-    arithmetic: impl Arithmetic,
-    given: Fold,
-    values: &mut [u64],
-    next_basis: &mut [u64],
-) -> u64 {
-    let elements = step_elements(arithmetic, given.basis, given.step);
-    let elements = &elements[..given.step];
-    fill_values(arithmetic, elements, given, values);
-    for (image, b) in next_basis.iter_mut().zip(&given.basis[given.step..]) {
-        *image = composed_maps(arithmetic, elements, *b);
-    }
-    composed_maps(arithmetic, elements, given.offset)
 }
 
 /// What has to be inverted is inverted once, before the cosets.
@@ -165,8 +142,9 @@ impl Coset {
         Coset { points, entries, count: span.len() }
     }
 
-    /// The value at the challenge of the polynomial with these entries at these points. The points are moved
-    /// by the challenge first: moved points halve to moved points, so that no halving needs it.
+    /// The value at the challenge of the polynomial with these entries at these points. The
+    /// points are moved by the challenge first: moved points halve to moved points, so that no
+    /// halving needs it.
     #[inline(always)]
     pub fn value_at(self, arithmetic: impl Arithmetic, challenge: u64, inverses: &[u64]) -> u64 {
         let (last, others) = inverses.split_last().expect("a step is at least 1");

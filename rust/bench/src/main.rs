@@ -1,4 +1,4 @@
-//! How long the proved library takes, as ratios to Rust in the same run. It times; it tests nothing.
+//! How long the proved library takes, as ratios to Rust in the same run. It tests nothing.
 
 mod arithmetic;
 mod clock;

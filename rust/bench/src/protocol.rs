@@ -1,5 +1,4 @@
-//! The prover and the judge beside the same methods in Rust, over the largest coset, and how both grow with
-//! the coset.
+//! The prover and the judge beside the same methods in Rust, and how both grow with the coset.
 
 mod inputs;
 mod judge;
@@ -26,15 +25,12 @@ fn report_growth(growing: &[Inputs]) {
     let runs = || growing.iter().map(|inputs| inputs.run(GROWTH_STEP));
     let dimensions: Vec<usize> = runs().map(|run| run.k).collect();
     println!("\ngrowth with k = {dimensions:?} at step {GROWTH_STEP}, in µs:");
-    print_times("prove", runs().map(prover::library_work).collect(), 20);
+    let provers = runs().map(|run| prover::work("prove", prover::by_library, run));
+    print_times("prove", provers.collect(), 20);
     let proved: Vec<_> = runs().map(prover::proved).collect();
     let judges = growing.iter().zip(&proved).map(|(inputs, (store, last))| {
-        judge::library_work(Proof {
-            run: inputs.run(GROWTH_STEP),
-            queries: &inputs.queries,
-            store,
-            last,
-        })
+        let (run, queries) = (inputs.run(GROWTH_STEP), &inputs.queries[..]);
+        judge::work("judge", judge::by_library, Proof { run, queries, store, last })
     });
     print_times("judge", judges.collect(), judge::TURNS);
 }

@@ -7,7 +7,8 @@ use razgwilh::Run;
 pub const RATE: usize = 1;
 const QUERIES: usize = 256;
 
-/// A word of low degree, so that a judge accepts it and makes every check, and what is given with it.
+/// A word of low degree, so that a judge accepts it and makes every check, and what is given
+/// with it.
 pub struct Inputs {
     pub queries: Vec<u64>,
     pub word: Vec<u64>,
@@ -44,8 +45,8 @@ impl Inputs {
     }
 }
 
-/// The values of g(q) + X · h(q) over the coset, where q = X · (X - e), e is the first element of the basis,
-/// and g and h have low degree over the next coset.
+/// The values of g(q) + X · h(q) over the coset, where q = X · (X - e), e is the first element
+/// of the basis, and g and h have low degree over the next coset.
 fn low_degree_word(coset: &LayerCoset, next: &mut impl FnMut() -> u64) -> Vec<u64> {
     let basis = coset.basis();
     if basis.len() == RATE {

@@ -1,14 +1,14 @@
 //! The judge beside the same method in Rust.
 
 use super::inputs::{Inputs, RATE};
-use super::layers::{check_bases, done, layer_start};
+use super::layers::{check_bases, layer_start};
 use super::prover::proved;
 use crate::arithmetic::{counted, sides, with_hardware, Arithmetic, Counts, Method, Windowed};
 use crate::clock::{table, Work};
 use crate::codes::evaluate;
 use crate::coset::{composed_maps, point, step_elements, LayerCoset};
 use crate::fold::{inverses_of, span_of, Coset};
-use razgwilh::{Answer, Run};
+use razgwilh::{Accepted, Cause, Refusal, Run};
 use std::hint::black_box;
 
 pub const TURNS: usize = 200;
@@ -22,14 +22,12 @@ pub struct Proof<'a> {
     pub last: &'a [u64],
 }
 
-type Judge = fn(Proof) -> Answer;
+pub type Verdict = Result<Accepted, Refusal>;
+pub type Judge = fn(Proof) -> Verdict;
 
 pub fn report(inputs: &Inputs) {
-    println!(
-        "\njudge of {} entries with rate {RATE} at {} queries:",
-        inputs.word.len(),
-        inputs.queries.len()
-    );
+    let (entries, queries) = (inputs.word.len(), inputs.queries.len());
+    println!("\njudge of {entries} entries with rate {RATE} at {queries} queries:");
     for step in 1..=3 {
         let run = inputs.run(step);
         let (store, last) = proved(run);
@@ -38,23 +36,23 @@ pub fn report(inputs: &Inputs) {
 }
 
 fn compare(proof: Proof) {
-    let sides = sides(by_library as Judge, by_window, by_hardware);
+    let sides = sides(by_library as Judge, |all| all.by(Windowed), |all| with_hardware(all));
     check(proof, &sides);
     print_counts(proof);
-    let mut works: Vec<Work> =
-        sides.iter().map(|(name, judge)| work(name, *judge, proof)).collect();
-    table(&mut works, TURNS, "µs", 1e3);
+    let works = sides.iter().map(|(name, judge)| work(name, *judge, proof));
+    table(works, TURNS, "µs", 1e3);
 }
 
-/// The answers to what was proved, and to a store with another entry where the last query finds one.
+/// The answers to what was proved, and to a store with another entry where the last query finds
+/// one.
 fn check(proof: Proof, sides: &[(&str, Judge)]) {
     let step = proof.run.step;
     let mut damaged = proof.store.to_vec();
     damaged[proof.queries[proof.queries.len() - 1] as usize >> step] ^= 1;
     let refused = Proof { store: &damaged, ..proof };
-    for (given, number) in [(proof, 0), (refused, 11)] {
+    for (given, cause) in [(proof, None), (refused, Some(Cause::RoundCheckFails))] {
         let expected = by_library(given);
-        assert_eq!(expected.number, number, "step {step}: the library");
+        assert_eq!(expected.err().map(|refusal| refusal.cause), cause, "step {step}: the library");
         for (name, judge) in &sides[1..] {
             assert_eq!(judge(given), expected, "step {step}: {name}");
         }
@@ -75,22 +73,20 @@ fn print_counts(proof: Proof) {
     });
     print_round_counts(proof, &once, &queried);
     let each = |count: u64| count as f64 / proof.queries.len() as f64;
+    let Counts { sums, products, inverses } = once;
     println!(
-        "    once a query {:.1} sums and {:.1} products, once in all {} sums, {} products and {} inverses:",
+        "    once a query {:.1} sums and {:.1} products, once in all {sums} sums, {products} products and {inverses} inverses:",
         each(queried.sums),
-        each(queried.products),
-        once.sums,
-        once.products,
-        once.inverses
+        each(queried.products)
     );
 }
 
-/// What is left of all operations, without those made once and once a query. The paper's figure takes the
-/// points of a coset as given; here a sum each, and one for the first, lists them.
+/// What is left of all operations, without those made once and once a query. The paper's figure
+/// takes the points of a coset as given; here a sum each, and one for the first, lists them.
 fn print_round_counts(proof: Proof, once: &Counts, queried: &Counts) {
     let step = proof.run.step;
     let listed = (1 << step) + 1;
-    let all = counted(|arithmetic| judge(arithmetic, proof));
+    let all = counted(|arithmetic| proof.by(arithmetic));
     let checks = proof.queries.len() * proof.run.challenges.len();
     let each = |of: fn(&Counts) -> u64| (of(&all) - of(once) - of(queried)) as f64 / checks as f64;
     println!(
@@ -98,61 +94,42 @@ fn print_round_counts(proof: Proof, once: &Counts, queried: &Counts) {
         each(Counts::all) - listed as f64,
         4 * (1 << step) + 6 * step + 1
     );
-    println!(
-        "    {:.1} sums and {:.1} products;",
-        each(|counts| counts.sums) - listed as f64,
-        each(|counts| counts.products)
-    );
+    let [sums, products] = [each(|counts| counts.sums), each(|counts| counts.products)];
+    println!("    {:.1} sums and {products:.1} products;", sums - listed as f64);
 }
 
-pub fn library_work(proof: Proof) -> Work {
-    work("the library", by_library, proof)
+pub fn work<'a>(name: &'a str, judge: Judge, proof: Proof<'a>) -> Work<'a> {
+    Work {
+        name,
+        run: Box::new(move || judge(black_box(proof)).map_or(0, |accepted| accepted.reads)),
+    }
 }
 
-fn work<'a>(name: &'a str, judge: Judge, proof: Proof<'a>) -> Work<'a> {
-    Work { name, run: Box::new(move || judge(black_box(proof)).reads) }
-}
-
-fn by_library(proof: Proof) -> Answer {
+pub fn by_library(proof: Proof) -> Verdict {
     razgwilh::judge(proof.run, proof.queries, proof.store, proof.last)
 }
 
-fn by_window(proof: Proof) -> Answer {
-    proof.by(Windowed)
-}
-
-fn by_hardware(proof: Proof) -> Answer {
-    with_hardware(proof).expect("timed only where there is such hardware")
-}
-
+/// The library's method: what a round has for all queries is found once, then query after query
+/// is checked.
 impl Method for Proof<'_> {
-    type Result = Answer;
+    type Result = Verdict;
 
     #[inline(always)]
-    fn by(self, arithmetic: impl Arithmetic) -> Answer {
-        judge(arithmetic, self)
-    }
-}
-
-/// The library's method: what a round has for all queries is found once, then query after query is checked.
-#[inline(always)]
-fn judge(arithmetic: impl Arithmetic, proof: Proof) -> Answer {
-    check_bases(arithmetic, &proof.run);
-    let rounds = set_up(arithmetic, &proof.run);
-    let mut cosets = 0;
-    for (query, index) in proof.queries.iter().enumerate() {
-        if let Some(round) = failing_round(arithmetic, &proof, &rounds, *index as usize) {
-            cosets += rounds.len().min(round + 2);
-            return Answer {
-                number: 11,
-                place: Some(query as u64),
-                round: Some(round as u64),
-                ..done((cosets << proof.run.step) as u64)
-            };
+    fn by(self, arithmetic: impl Arithmetic) -> Verdict {
+        check_bases(arithmetic, &self.run);
+        let rounds = set_up(arithmetic, &self.run);
+        let mut cosets = 0;
+        for (query, index) in self.queries.iter().enumerate() {
+            if let Some(round) = failing_round(arithmetic, &self, &rounds, *index as usize) {
+                cosets += rounds.len().min(round + 2);
+                let reads = (cosets << self.run.step) as u64;
+                let (place, round) = (Some(query as u64), Some(round as u64));
+                return Err(Refusal { cause: Cause::RoundCheckFails, place, round, reads });
+            }
+            cosets += rounds.len();
         }
-        cosets += rounds.len();
+        Ok(Accepted { reads: (cosets << self.run.step) as u64 })
     }
-    done((cosets << proof.run.step) as u64)
 }
 
 /// The first round whose check fails for the query.
@@ -211,8 +188,8 @@ fn set_up(arithmetic: impl Arithmetic, run: &Run) -> Vec<Round> {
 }
 
 impl Round {
-    /// The fold of the layer's coset that holds the visit, whose first point is the visit's plus an entry of
-    /// the span.
+    /// The fold of the layer's coset that holds the visit, whose first point is the visit's
+    /// plus an entry of the span.
     #[inline(always)]
     fn folded(&self, arithmetic: impl Arithmetic, step: usize, visit: Visit, layer: &[u64]) -> u64 {
         let size = 1 << step;

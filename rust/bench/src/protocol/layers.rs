@@ -1,17 +1,12 @@
-//! Where the layers of a run lie, and the checks that the prover and the judge in Rust have in common.
+//! Where the layers of a run lie, and the checks that prover and judge in Rust have in common.
 
 use crate::arithmetic::Arithmetic;
 use crate::coset::{is_independent, LayerCoset};
-use razgwilh::{Answer, Run};
+use razgwilh::Run;
 
 /// The dimension of layer i.
 pub fn dimension(run: &Run, i: usize) -> usize {
     run.k - i * run.step
-}
-
-/// How many last coefficients there are.
-pub fn last_count(run: &Run) -> usize {
-    1 << (dimension(run, run.challenges.len()) - run.rate)
 }
 
 /// Where layer i, from 1 on, begins in the store.
@@ -27,8 +22,4 @@ pub fn check_bases(arithmetic: impl Arithmetic, run: &Run) {
         coset = coset.next(arithmetic, run.step);
         assert!(is_independent(arithmetic, coset.basis()));
     }
-}
-
-pub fn done(reads: u64) -> Answer {
-    Answer { number: 0, place: None, round: None, reads, value: None }
 }

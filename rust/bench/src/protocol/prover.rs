@@ -1,19 +1,26 @@
 //! The prover beside the same method in Rust.
 
 use super::inputs::{Inputs, RATE};
-use super::layers::{check_bases, dimension, done, last_count, layer_start};
+use super::layers::{check_bases, dimension, layer_start};
 use crate::arithmetic::{counted, sides, with_hardware, Arithmetic, Method, Windowed};
 use crate::clock::{table, Work};
 use crate::codes::interpolate_in_place;
 use crate::coset::{step_elements, LayerCoset};
 use crate::fold::fill_values;
-use razgwilh::{Answer, Fold, Run};
+use razgwilh::{Cause, Fold, Refusal, Run};
 use std::hint::black_box;
 
 const TURNS: usize = 10;
 
-/// Fills in the store and the last coefficients.
-type Prover = fn(Run, &mut [u64], &mut [u64]) -> Answer;
+/// A run, and the lists for the store and the last coefficients.
+pub struct Proving<'a> {
+    run: Run<'a>,
+    store: &'a mut [u64],
+    last: &'a mut [u64],
+}
+
+/// Fills in both lists.
+pub type Prover = fn(Proving) -> Result<(), Refusal>;
 
 pub fn report(inputs: &Inputs) {
     println!(
@@ -26,22 +33,22 @@ pub fn report(inputs: &Inputs) {
 }
 
 fn compare(run: Run) {
-    let sides = sides(razgwilh::prove as Prover, by_window, by_hardware);
-    let expected = outcome(razgwilh::prove, run);
-    assert_eq!(expected.0.number, 0, "a word of low degree is proved");
+    let sides = sides(by_library as Prover, |all| all.by(Windowed), |all| with_hardware(all));
+    let expected = result(by_library, run);
+    assert_eq!(expected.0, Ok(()), "a word of low degree is proved");
     for (name, prover) in &sides[1..] {
-        let same = outcome(*prover, run) == expected;
+        let same = result(*prover, run) == expected;
         assert!(same, "step {}: {name} and the library differ", run.step);
     }
     print_counts(run);
-    let mut works: Vec<Work> =
-        sides.iter().map(|(name, prover)| work(name, *prover, run)).collect();
-    table(&mut works, TURNS, "ms", 1e6);
+    let works = sides.iter().map(|(name, prover)| work(name, *prover, run));
+    table(works, TURNS, "ms", 1e6);
 }
 
 fn print_counts(run: Run) {
     let (mut store, mut last) = room(run);
-    let counts = counted(|arithmetic| prove(arithmetic, run, &mut store, &mut last));
+    let proving = Proving { run, store: &mut store, last: &mut last };
+    let counts = counted(|arithmetic| proving.by(arithmetic));
     let each = |count: u64| count as f64 / run.word.len() as f64;
     println!(
         "  step {}, {:.2} products for each entry of the word, {:.2} operations with {:.2} sums and {} inverses in all:",
@@ -53,74 +60,61 @@ fn print_counts(run: Run) {
     );
 }
 
-fn outcome(prover: Prover, run: Run) -> (Answer, Vec<u64>, Vec<u64>) {
+fn result(prover: Prover, run: Run) -> (Result<(), Refusal>, Vec<u64>, Vec<u64>) {
     let (mut store, mut last) = room(run);
-    (prover(run, &mut store, &mut last), store, last)
+    (prover(Proving { run, store: &mut store, last: &mut last }), store, last)
 }
 
 fn room(run: Run) -> (Vec<u64>, Vec<u64>) {
-    let length = layer_start(&run, run.challenges.len());
-    (vec![0; length], vec![0; last_count(&run)])
+    (vec![0; run.store_length()], vec![0; run.last_length()])
 }
 
 /// The store and the last coefficients, by the library.
 pub fn proved(run: Run) -> (Vec<u64>, Vec<u64>) {
-    let (_, store, last) = outcome(razgwilh::prove, run);
+    let (_, store, last) = result(by_library, run);
     (store, last)
 }
 
-pub fn library_work(run: Run) -> Work {
-    work("the library", razgwilh::prove, run)
-}
-
 /// The room is made once, so that each turn but the first finds its memory in place.
-fn work<'a>(name: &'a str, prover: Prover, run: Run<'a>) -> Work<'a> {
+pub fn work<'a>(name: &'a str, prover: Prover, run: Run<'a>) -> Work<'a> {
     let (mut store, mut last) = room(run);
-    Work { name, run: Box::new(move || prover(black_box(run), &mut store, &mut last).number) }
+    let run = move || {
+        let proving = Proving { run: black_box(run), store: &mut store, last: &mut last };
+        prover(proving).is_ok().into()
+    };
+    Work { name, run: Box::new(run) }
 }
 
-fn by_window(run: Run, store: &mut [u64], last: &mut [u64]) -> Answer {
-    Proving { run, store, last }.by(Windowed)
+pub fn by_library(Proving { run, store, last }: Proving) -> Result<(), Refusal> {
+    razgwilh::prove(run, store, last)
 }
 
-fn by_hardware(run: Run, store: &mut [u64], last: &mut [u64]) -> Answer {
-    with_hardware(Proving { run, store, last }).expect("timed only where there is such hardware")
-}
-
-struct Proving<'a> {
-    run: Run<'a>,
-    store: &'a mut [u64],
-    last: &'a mut [u64],
-}
-
+/// The library's method: layer after layer, and the last one's coefficients in the place of its
+/// values.
 impl Method for Proving<'_> {
-    type Result = Answer;
+    type Result = Result<(), Refusal>;
 
     #[inline(always)]
-    fn by(self, arithmetic: impl Arithmetic) -> Answer {
-        prove(arithmetic, self.run, self.store, self.last)
+    fn by(self, arithmetic: impl Arithmetic) -> Self::Result {
+        let Proving { run, store, last } = self;
+        check_bases(arithmetic, &run);
+        let mut room = [0; 256];
+        let room = &mut room[..1 << dimension(&run, run.challenges.len())];
+        let coset = fold_layers(arithmetic, &run, store, room);
+        interpolate_in_place(arithmetic, coset.offset, coset.basis(), room);
+        let (first, others) = room.split_at(last.len());
+        if let Some(place) = others.iter().rposition(|c| *c != 0) {
+            let degree = Some((first.len() + place) as u64);
+            let cause = Cause::DegreeTooLarge;
+            return Err(Refusal { cause, place: degree, round: None, reads: 0 });
+        }
+        last.copy_from_slice(first);
+        Ok(())
     }
 }
 
-/// The library's method: layer after layer, and the last one's coefficients in the place of its values.
-#[inline(always)]
-fn prove(arithmetic: impl Arithmetic, run: Run, store: &mut [u64], last: &mut [u64]) -> Answer {
-    check_bases(arithmetic, &run);
-    let mut room = [0; 256];
-    let room = &mut room[..1 << dimension(&run, run.challenges.len())];
-    let coset = fold_layers(arithmetic, &run, store, room);
-    interpolate_in_place(arithmetic, coset.offset, coset.basis(), room);
-    let (first, others) = room.split_at(last.len());
-    if let Some(place) = others.iter().rposition(|c| *c != 0) {
-        let degree = Some((first.len() + place) as u64);
-        return Answer { number: 12, place: degree, value: degree, ..done(0) };
-    }
-    last.copy_from_slice(first);
-    done(0)
-}
-
-/// Layers 1 to r - 1 into the store and layer r into the room, for which the store has no place; gives the
-/// coset of layer r.
+/// Layers 1 to r - 1 into the store and layer r into the room, for which the store has no
+/// place; gives the coset of layer r.
 #[inline(always)]
 fn fold_layers(
     arithmetic: impl Arithmetic,
