@@ -12,7 +12,7 @@ use crate::answer::{
 use crate::coset::{first_dependent, point, points};
 use crate::polynomial::{interpolant, value, vanishing};
 use crate::refusal::{
-    independent, refused_unless, right_length, LIST_OF_THE_BASIS, LIST_OF_THE_GIVEN,
+    independent, required, right_length, LIST_OF_THE_BASIS, LIST_OF_THE_GIVEN,
     LIST_OF_THE_NEXT_BASIS, LIST_OF_THE_OUTPUT,
 };
 use std::ops::RangeInclusive;
@@ -110,16 +110,16 @@ pub fn may_fold(given: Fold, values: usize, next_basis: usize) -> Result<(), Ans
 }
 
 fn right_parameters(k: usize, step: usize) -> Result<(), Answer> {
-    refused_unless(DIMENSIONS.contains(&k), refused(K_OUT_OF_RANGE))?;
-    refused_unless(STEPS.contains(&step), refused(STEP_OUT_OF_RANGE))?;
-    refused_unless(k >= step, refused(K_TOO_SMALL))
+    required(DIMENSIONS.contains(&k), refused(K_OUT_OF_RANGE))?;
+    required(STEPS.contains(&step), refused(STEP_OUT_OF_RANGE))?;
+    required(k >= step, refused(K_TOO_SMALL))
 }
 
 /// No independent basis leads to a refusal here, since q is zero on the span alone; the paper
 /// has the cause all the same.
 pub fn later_independent(basis: &[u64], round: u64) -> Result<(), Answer> {
     let refusal = refused_in_round(DEPENDENT_LATER_BASIS, round);
-    refused_unless(first_dependent(basis).is_none(), refusal)
+    required(first_dependent(basis).is_none(), refusal)
 }
 
 #[cfg(test)]

@@ -5,7 +5,7 @@
 use crate::answer::{
     refused, Answer, K_OUT_OF_RANGE, K_TOO_SMALL, RATE_OUT_OF_RANGE, STEP_OUT_OF_RANGE,
 };
-use crate::refusal::refused_unless;
+use crate::refusal::required;
 use std::ops::{Range, RangeInclusive};
 
 const DIMENSIONS: RangeInclusive<u64> = 2..=20;
@@ -35,10 +35,10 @@ pub fn all_up_to(largest_k: u64) -> Vec<Parameters> {
 impl Parameters {
     /// The first cause against these parameters, in the paper's order.
     pub fn may_use(&self) -> Result<(), Answer> {
-        refused_unless(DIMENSIONS.contains(&self.k), refused(K_OUT_OF_RANGE))?;
-        refused_unless(RATES.contains(&self.rate), refused(RATE_OUT_OF_RANGE))?;
-        refused_unless(STEPS.contains(&self.step), refused(STEP_OUT_OF_RANGE))?;
-        refused_unless(self.k >= self.rate + self.step, refused(K_TOO_SMALL))
+        required(DIMENSIONS.contains(&self.k), refused(K_OUT_OF_RANGE))?;
+        required(RATES.contains(&self.rate), refused(RATE_OUT_OF_RANGE))?;
+        required(STEPS.contains(&self.step), refused(STEP_OUT_OF_RANGE))?;
+        required(self.k >= self.rate + self.step, refused(K_TOO_SMALL))
     }
 
     /// How many rounds there are: r.

@@ -151,16 +151,6 @@ mod tests {
         assert!(points.iter().all(|&x| sum_of_terms(&polynomial, x) == 0));
     }
 
-    #[test]
-    fn a_quotient_vanishes_at_the_other_points() {
-        let points = [3, 0x77, 1 << 63, u64::MAX];
-        for left_out in 0..points.len() {
-            let mut others = points.to_vec();
-            let point = others.remove(left_out);
-            assert_eq!(divided(&vanishing(&points), point), vanishing(&others));
-        }
-    }
-
     /// The points need not form a coset.
     #[test]
     fn an_interpolant_has_the_values() {

@@ -13,7 +13,7 @@ use crate::fold::{self, following, later_independent, Coset, Fold};
 use crate::parameters::Parameters;
 use crate::polynomial::{interpolant, value};
 use crate::refusal::{
-    independent, refused_unless, right_length, LIST_OF_THE_BASIS, LIST_OF_THE_CHALLENGES,
+    independent, required, right_length, LIST_OF_THE_BASIS, LIST_OF_THE_CHALLENGES,
     LIST_OF_THE_GIVEN, LIST_OF_THE_LAST, LIST_OF_THE_STORE,
 };
 use std::collections::BTreeSet;
@@ -269,7 +269,7 @@ pub fn later_layers_independent(cosets: &[Coset]) -> Result<(), Answer> {
 }
 
 pub fn right_query_count(count: usize) -> Result<(), Answer> {
-    refused_unless(QUERY_COUNTS.contains(&count), refused(WRONG_QUERY_COUNT))
+    required(QUERY_COUNTS.contains(&count), refused(WRONG_QUERY_COUNT))
 }
 
 pub fn queries_in_range(parameters: Parameters, queries: &[u64]) -> Result<(), Answer> {

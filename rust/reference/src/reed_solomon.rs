@@ -7,9 +7,7 @@
 use crate::answer::{refused, Answer, K_OUT_OF_RANGE};
 use crate::coset::points;
 use crate::polynomial::{interpolant, value};
-use crate::refusal::{
-    independent, refused_unless, right_length, LIST_OF_THE_GIVEN, LIST_OF_THE_OUTPUT,
-};
+use crate::refusal::{independent, required, right_length, LIST_OF_THE_GIVEN, LIST_OF_THE_OUTPUT};
 
 /// The largest dimension that is encoded and interpolated over.
 pub const LARGEST_K: usize = 12;
@@ -52,7 +50,7 @@ pub fn may_interpolate(basis: &[u64], word: usize, coefficients: usize) -> Resul
 
 /// With whether the list that is given fits so many points, and the length of the other one.
 fn may_take(basis: &[u64], fits: impl Fn(usize) -> bool, output: usize) -> Result<(), Answer> {
-    refused_unless(basis.len() <= LARGEST_K, refused(K_OUT_OF_RANGE))?;
+    required(basis.len() <= LARGEST_K, refused(K_OUT_OF_RANGE))?;
     let points = 1 << basis.len();
     right_length(LIST_OF_THE_GIVEN, fits(points))?;
     right_length(LIST_OF_THE_OUTPUT, output == points)?;

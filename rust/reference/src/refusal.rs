@@ -19,7 +19,7 @@ pub const LIST_OF_THE_OUTPUT: u64 = 6;
 pub const LIST_OF_THE_NEXT_BASIS: u64 = 7;
 
 /// Goes on if this holds.
-pub fn refused_unless(holds: bool, refusal: Answer) -> Result<(), Answer> {
+pub fn required(holds: bool, refusal: Answer) -> Result<(), Answer> {
     if holds {
         Ok(())
     } else {
@@ -28,7 +28,7 @@ pub fn refused_unless(holds: bool, refusal: Answer) -> Result<(), Answer> {
 }
 
 pub fn right_length(list: u64, right: bool) -> Result<(), Answer> {
-    refused_unless(right, refused_at(WRONG_LENGTH, list))
+    required(right, refused_at(WRONG_LENGTH, list))
 }
 
 pub fn independent(basis: &[u64]) -> Result<(), Answer> {

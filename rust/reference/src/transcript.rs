@@ -14,7 +14,7 @@ use crate::parameters::Parameters;
 use crate::protocol::{
     self, cosets_from, later_layers_independent, queries_in_range, right_query_count, Run,
 };
-use crate::refusal::{independent, refused_unless};
+use crate::refusal::{independent, required};
 use std::slice::Iter;
 
 pub use writing::{sections, transcript, written, Section};
@@ -52,7 +52,7 @@ pub fn read(bytes: &[u8]) -> Result<Judging, Answer> {
         store.extend(layer(i)?);
     }
     let last = reader.section_of(parameters.last_count() as u64)?;
-    refused_unless(reader.bytes.next().is_none(), refused(BYTES_FOLLOW))?;
+    required(reader.bytes.next().is_none(), refused(BYTES_FOLLOW))?;
     let run = Run { parameters, offset, basis, challenges, word, store, last };
     Ok(Judging { run, queries })
 }
@@ -102,9 +102,7 @@ impl Reader<'_> {
 
     /// The entries of the next section, if there are as many as are due.
     fn section_of(&mut self, due: u64) -> Result<Vec<u64>, Answer> {
-        self.section(|section, count| {
-            refused_unless(count == due, refused_at(WRONG_COUNT, section))
-        })
+        self.section(|section, count| required(count == due, refused_at(WRONG_COUNT, section)))
     }
 
     /// The number in the next so many bytes, the lowest of them first.
