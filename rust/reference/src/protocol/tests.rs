@@ -162,12 +162,12 @@ fn the_first_cause_is_given() {
 /// No basis leads to it, so that it is shown of cosets alone.
 #[test]
 fn a_dependent_later_basis_has_its_round() {
-    let coset = |basis: &[u64]| Coset { offset: 0, basis: basis.to_vec() };
-    let [first, second, dependent] = [&[1, 2, 4][..], &[6, 0x14], &[5, 5]].map(coset);
-    let of = |cosets: &[&Coset]| {
-        later_layers_independent(&cosets.iter().map(|&coset| coset.clone()).collect::<Vec<_>>())
+    let of = |bases: &[&[u64]]| {
+        let coset = |basis: &&[u64]| Coset { offset: 0, basis: basis.to_vec() };
+        later_layers_independent(&bases.iter().map(coset).collect::<Vec<_>>())
     };
-    assert_eq!(of(&[&first, &second]), Ok(()));
-    assert_eq!(of(&[&first, &dependent]), Err(refused_in_round(16, 0)));
-    assert_eq!(of(&[&first, &second, &dependent]), Err(refused_in_round(16, 1)));
+    let [first, second, dependent]: [&[u64]; 3] = [&[1, 2, 4], &[6, 0x14], &[5, 5]];
+    assert_eq!(of(&[first, second]), Ok(()));
+    assert_eq!(of(&[first, dependent]), Err(refused_in_round(16, 0)));
+    assert_eq!(of(&[first, second, dependent]), Err(refused_in_round(16, 1)));
 }
