@@ -222,6 +222,7 @@ first-decide bytes read false e h =
 long-transcripts : LongTranscripts
 long-transcripts =
     record {
+      size = refl;
       longest = longest;
       accepted = λ bytes e. longest bytes (passed-sections bytes e);
       first = λ bytes read h. first-decide bytes read (leb (length bytes) read) refl h;

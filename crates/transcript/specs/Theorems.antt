@@ -58,6 +58,7 @@ pub record JudgingBytes : Type 0 where
 
 -- transcripts have a longest length, so that a reader of larger files needs no more of them
 pub record LongTranscripts : Type 0 where
+  pub size : longestTranscript ≡ 16779680
   -- bytes whose sections all pass are not longer; so none that are accepted
   pub longest : (bytes : List ℕ) → transcriptOutcome bytes ≡ Done → length bytes ≤ longestTranscript
   pub accepted : (bytes : List ℕ) → transcriptVerdict bytes .answer ≡ answers.Accepted
