@@ -4,6 +4,7 @@ use crate::files::STANDARD_INPUT;
 use crate::lines::shown;
 use std::ffi::{OsStr, OsString};
 use std::num::NonZero;
+use std::path::Path;
 use std::thread;
 
 pub const HELP: &str = include_str!("help.txt");
@@ -39,15 +40,18 @@ pub fn command(mut arguments: impl Iterator<Item = OsString>) -> Result<Command,
 fn to_judge(mut arguments: impl Iterator<Item = OsString>) -> Result<Command, String> {
     let mut request = Request { files: Vec::new(), explain: false, jobs: cores() };
     while let Some(argument) = arguments.next() {
+        if !argument.as_encoded_bytes().starts_with(b"-") {
+            request.files.push(argument);
+            continue;
+        }
+        unless_a_file(&argument)?;
         match argument.to_str() {
             Some("--help" | "-h") => return Ok(Command::Help),
             Some("--explain") => request.explain = true,
             Some("--jobs") => request.jobs = jobs(arguments.next().as_deref())?,
             Some("--") => request.files.extend(&mut arguments),
-            _ if is_option(&argument) => {
-                return Err(format!("no such option: {}", shown(&argument)))
-            }
-            _ => request.files.push(argument),
+            Some(STANDARD_INPUT) => request.files.push(argument),
+            _ => return Err(format!("no such option: {}", shown(&argument))),
         }
     }
     match request.files.iter().filter(|file| *file == STANDARD_INPUT).count() {
@@ -57,8 +61,13 @@ fn to_judge(mut arguments: impl Iterator<Item = OsString>) -> Result<Command, St
     }
 }
 
-fn is_option(argument: &OsStr) -> bool {
-    argument.as_encoded_bytes().starts_with(b"-") && argument != STANDARD_INPUT
+/// An option that is also the name of a file may come from a pattern like `*`: the file would go
+/// unjudged, and the exit status speak of the others alone.
+fn unless_a_file(option: &OsStr) -> Result<(), String> {
+    match Path::new(option).symlink_metadata() {
+        Ok(_) => Err(format!("there is a file of this name: write ./{}", shown(option))),
+        Err(_) => Ok(()),
+    }
 }
 
 fn jobs(argument: Option<&OsStr>) -> Result<usize, String> {

@@ -3,6 +3,7 @@
 use std::ffi::OsStr;
 use std::fs::File;
 use std::io::{self, Read};
+use std::os::fd::AsFd;
 
 /// The name that stands for standard input.
 pub const STANDARD_INPUT: &str = "-";
@@ -17,10 +18,16 @@ pub const LONGEST: usize = 4 * (4 + 19 + 1) + 8 * (3 + 21 + 19 + 256 + ((1 << 21
 /// that these get the verdict of all (`LongTranscripts`, crates/transcript/specs/Theorems.antt).
 pub fn read(file: &OsStr, bytes: &mut Vec<u8>) -> io::Result<()> {
     if file == STANDARD_INPUT {
-        fill(bytes, io::stdin())
+        fill(bytes, descriptor(io::stdin())?)
     } else {
         fill(bytes, File::open(file)?)
     }
+}
+
+/// Standard input or output as a file: the standard library takes one that cannot be read or written
+/// for one that is at its end, or takes everything.
+pub fn descriptor(stream: impl AsFd) -> io::Result<File> {
+    Ok(File::from(stream.as_fd().try_clone_to_owned()?))
 }
 
 fn fill(bytes: &mut Vec<u8>, source: impl Read) -> io::Result<()> {

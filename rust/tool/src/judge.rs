@@ -4,7 +4,7 @@ use crate::arguments::Request;
 use crate::lines::{line, shown, Verdict, HEADER};
 use crate::{complain, explain, files, pool};
 use std::ffi::{OsStr, OsString};
-use std::io::{self, IsTerminal, Write};
+use std::io::{self, IsTerminal, LineWriter, Write};
 use std::process::ExitCode;
 
 /// The exit status, the worst one last.
@@ -24,7 +24,7 @@ impl From<Status> for ExitCode {
 /// Judges all files and gives the worst status. Fails where standard output cannot be written;
 /// a file that cannot be read does not keep the others from being judged.
 pub fn judge(request: &Request) -> io::Result<Status> {
-    let mut out = io::stdout().lock();
+    let mut out = LineWriter::new(files::descriptor(io::stdout())?);
     let mut progress = Progress::of(request.files.len());
     let mut worst = Status::Accepted;
     writeln!(out, "{HEADER}")?;

@@ -37,9 +37,7 @@ fn run(command: Command) -> io::Result<ExitCode> {
 }
 
 fn print(text: &str) -> io::Result<ExitCode> {
-    let mut out = io::stdout();
-    out.write_all(text.as_bytes())?;
-    out.flush()?;
+    files::descriptor(io::stdout())?.write_all(text.as_bytes())?;
     Ok(ExitCode::SUCCESS)
 }
 
