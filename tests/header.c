@@ -125,6 +125,18 @@ static void expect_version(void) {
     expect(sizeof(struct rz_answer) == RZ_ANSWER_LENGTH * sizeof(uint64_t), "RZ_ANSWER_LENGTH");
 }
 
+/* Every number but 0 is a refusal. */
+static void expect_accepted(void) {
+    const uint64_t large[] = {UINT64_C(1) << 32, UINT64_C(1) << 63, RZ_NONE};
+
+    for (uint64_t number = 0; number <= 17; number++) {
+        expect(rz_accepted(refused(number, RZ_NONE)) == (number == 0), "rz_accepted");
+    }
+    for (size_t i = 0; i < LENGTH(large); i++) {
+        expect(!rz_accepted(refused(large[i], RZ_NONE)), "rz_accepted: large numbers");
+    }
+}
+
 static void expect_inverse(uint64_t a, size_t length, struct rz_answer due) {
     uint64_t list[ROOM];
 
@@ -443,25 +455,39 @@ static const uint8_t case_g[] = {
     0xb, 0, 0, 0, 0, 0, 0, 0,
 };
 
-/* Case G and the empty transcript, with answer lists of every length. */
-static void expect_raw_transcripts(size_t length) {
+/* As many bytes of a transcript, with an answer's list of any length. */
+static void expect_raw_transcript(const uint8_t *bytes, size_t bytes_length, size_t length,
+                                  struct rz_answer due) {
     uint64_t answer[ROOM];
 
     fill(answer);
-    rz_judge_transcript(case_g, sizeof case_g, answer, length);
-    expect_raw(answer, length, accepted(4), "rz_judge_transcript: case G");
-    fill(answer);
-    rz_judge_transcript(case_g, 0, answer, length);
-    expect_raw(answer, length, refused(RZ_BYTES_END, 1), "rz_judge_transcript: no bytes");
+    rz_judge_transcript(bytes, bytes_length, answer, length);
+    expect_raw(answer, length, due, "rz_judge_transcript");
 }
 
+static void expect_raw_transcripts(size_t length) {
+    expect_raw_transcript(case_g, sizeof case_g, length, accepted(4));
+    expect_raw_transcript(case_g, 0, length, refused(RZ_BYTES_END, 1));
+}
+
+static void expect_transcript(const uint8_t *bytes, size_t bytes_length, struct rz_answer due) {
+    expect_raw_transcript(bytes, bytes_length, RZ_ANSWER_LENGTH, due);
+    expect_answer(rz_judge_transcript_answer(bytes, bytes_length), due,
+                  "rz_judge_transcript_answer");
+    expect(accepted_elsewhere(bytes, bytes_length) == (due.number == 0), "another file");
+}
+
+/* Case G, and the numbers that bytes alone can get: 1, 2 and 3. */
 static void expect_transcripts(void) {
-    expect_answer(rz_judge_transcript_answer(case_g, sizeof case_g), accepted(4),
-                  "rz_judge_transcript_answer: case G");
-    expect_answer(rz_judge_transcript_answer(case_g, 0), refused(RZ_BYTES_END, 1),
-                  "rz_judge_transcript_answer: no bytes");
-    expect(accepted_elsewhere(case_g, sizeof case_g) == 1, "case G in another file");
-    expect(accepted_elsewhere(case_g, sizeof case_g - 1) == 0, "less than G in another file");
+    uint8_t changed[sizeof case_g + 1] = {0};
+
+    expect_transcript(case_g, sizeof case_g, accepted(4));
+    expect_transcript(case_g, 0, refused(RZ_BYTES_END, 1));
+    expect_transcript(case_g, sizeof case_g - 1, refused(RZ_BYTES_END, 6));
+    memcpy(changed, case_g, sizeof case_g);
+    expect_transcript(changed, sizeof changed, refused(RZ_TRAILING_BYTES, RZ_NONE));
+    changed[0] = 4;
+    expect_transcript(changed, sizeof changed, refused(RZ_COUNT_DIFFERS, 1));
 }
 
 /* The trap of the raw functions: a list of zeros with its length in bytes reads as accepted, on a
@@ -695,6 +721,7 @@ static void expect_nulls(void) {
 
 int main(void) {
     expect_version();
+    expect_accepted();
     for (size_t length = 0; length <= ROOM; length++) {
         expect_arithmetic(length);
         expect_raw_codes(length);
