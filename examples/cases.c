@@ -17,13 +17,13 @@ static void show_refusal(struct rz_answer answer) {
     }
 }
 
-static void show_verdict(struct rz_answer answer) {
-    if (rz_accepted(answer)) {
+static void show_verdict(struct rz_answer verdict) {
+    if (rz_accepted(verdict)) {
         printf("accepted");
     } else {
-        show_refusal(answer);
+        show_refusal(verdict);
     }
-    printf(", reads %" PRIu64, answer.reads);
+    printf(", reads %" PRIu64, verdict.reads);
 }
 
 static void show_list(struct rz_list list) {
@@ -34,7 +34,7 @@ static void show_list(struct rz_list list) {
 
 /* What was filled in, or why nothing was. */
 static void show_filled(struct rz_answer answer, struct rz_output output) {
-    if (!rz_accepted(answer)) {
+    if (!rz_done(answer)) {
         show_refusal(answer);
         return;
     }
@@ -54,18 +54,17 @@ static void field_cases(void) {
 
 static void code_cases(void) {
     const uint64_t basis[] = {1, 2}, dependent[] = {1, 2, 3}, coefficients[] = {7, 3};
-    const struct rz_list both = {basis, LENGTH(basis)};
-    const struct rz_list polynomial = {coefficients, LENGTH(coefficients)};
+    const struct rz_list both = RZ_LIST(basis), polynomial = RZ_LIST(coefficients);
     uint64_t word[4], back[4], more[8];
-    const struct rz_output values = {word, LENGTH(word)}, found = {back, LENGTH(back)};
-    const struct rz_output none = {more, LENGTH(more)};
+    const struct rz_output values = RZ_OUTPUT(word), found = RZ_OUTPUT(back);
+    const struct rz_output none = RZ_OUTPUT(more);
 
     printf("E  7, 3 encode to ");
     show_filled(rz_encode_answer(0, both, polynomial, values), values);
     printf("; back: ");
-    show_filled(rz_interpolate_answer(0, both, rz_list_of(word, LENGTH(word)), found), found);
+    show_filled(rz_interpolate_answer(0, both, RZ_LIST(word), found), found);
     printf("\nM  basis 1, 2, 3: ");
-    show_filled(rz_encode_answer(0, rz_list_of(dependent, 3), polynomial, none), none);
+    show_filled(rz_encode_answer(0, RZ_LIST(dependent), polynomial, none), none);
     printf("\n");
 }
 
@@ -95,7 +94,7 @@ static void show_fold(size_t k, uint64_t offset, const uint64_t *basis, const ui
                                              rz_output_of(next_basis, k - 1));
 
     show_filled(answer, rz_output_of(values, half));
-    if (rz_accepted(answer)) {
+    if (rz_done(answer)) {
         printf("; next offset %" PRIx64 ", basis ", answer.value);
         show_list(rz_list_of(next_basis, k - 1));
     }
@@ -127,7 +126,7 @@ static struct rz_run one_round(const uint64_t *word, const uint64_t *challenge) 
         .rate = 1,
         .step = 1,
         .offset = 0,
-        .basis = {basis_g, LENGTH(basis_g)},
+        .basis = RZ_LIST(basis_g),
         .challenges = {challenge, 1},
         .word = {word, 4},
     };
@@ -139,7 +138,7 @@ static struct rz_run one_round(const uint64_t *word, const uint64_t *challenge) 
 static void show_proof(const uint64_t *word, uint64_t challenge) {
     const struct rz_run run = one_round(word, &challenge);
     uint64_t coefficient[1];
-    const struct rz_output store = {NULL, 0}, last = {coefficient, 1};
+    const struct rz_output store = {NULL, 0}, last = RZ_OUTPUT(coefficient);
 
     show_filled(rz_prove_answer(&run, store, last), last);
 }
@@ -149,7 +148,7 @@ static void show_judging(const uint64_t *word, size_t queries_length) {
     const struct rz_run run = one_round(word, challenge_g);
     const struct rz_list queries = {queries_g, queries_length};
 
-    show_verdict(rz_judge_answer(&run, queries, rz_list_of(NULL, 0), rz_list_of(last_g, 1)));
+    show_verdict(rz_judge_answer(&run, queries, rz_list_of(NULL, 0), RZ_LIST(last_g)));
 }
 
 static void one_round_cases(void) {
@@ -168,26 +167,34 @@ static void one_round_cases(void) {
     printf("\n");
 }
 
-static const struct rz_run run_k = {
-    .k = 3,
-    .rate = 1,
-    .step = 1,
-    .offset = 0,
-    .basis = {basis_k, LENGTH(basis_k)},
-    .challenges = {challenges_k, LENGTH(challenges_k)},
-    .word = {word_k, LENGTH(word_k)},
-};
+/* The run of cases K and L. */
+static struct rz_run two_rounds(void) {
+    struct rz_run run = {
+        .k = 3,
+        .rate = 1,
+        .step = 1,
+        .offset = 0,
+        .basis = RZ_LIST(basis_k),
+        .challenges = RZ_LIST(challenges_k),
+        .word = RZ_LIST(word_k),
+    };
 
-/* Case K's run with a layer 1 and a query. */
+    return run;
+}
+
+/* That run with a layer 1 and a query. */
 static void show_two_rounds(struct rz_list store, uint64_t query) {
-    show_verdict(rz_judge_answer(&run_k, rz_list_of(&query, 1), store, rz_list_of(last_k, 1)));
+    const struct rz_run run = two_rounds();
+
+    show_verdict(rz_judge_answer(&run, rz_list_of(&query, 1), store, RZ_LIST(last_k)));
 }
 
 static void two_round_cases(void) {
+    const struct rz_run run = two_rounds();
     uint64_t layers[4], coefficient[1];
-    const struct rz_list store = {layers, LENGTH(layers)};
-    const struct rz_output last = {coefficient, LENGTH(coefficient)};
-    struct rz_answer proof = rz_prove_answer(&run_k, rz_output_of(layers, LENGTH(layers)), last);
+    const struct rz_list store = RZ_LIST(layers);
+    const struct rz_output last = RZ_OUTPUT(coefficient);
+    struct rz_answer proof = rz_prove_answer(&run, RZ_OUTPUT(layers), last);
     struct rz_answer part = rz_layer_answer(3, 1, 1, store, 1);
 
     printf("K  layer 1: ");
@@ -244,7 +251,7 @@ static size_t put_section(uint8_t *out, size_t at, struct rz_list list) {
 /* Sections 1 to 4. */
 static size_t put_front(uint8_t *out, const struct rz_run *run, struct rz_list queries) {
     const uint64_t parameters[] = {run->k, run->rate, run->step};
-    size_t at = put_section(out, 0, rz_list_of(parameters, LENGTH(parameters)));
+    size_t at = put_section(out, 0, RZ_LIST(parameters));
 
     at = put(out, at, 1 + run->basis.length, 4);
     at = put(out, at, run->offset, 8);
@@ -271,10 +278,15 @@ static size_t put_run(uint8_t *out, const struct rz_run *run, struct rz_list que
 /* The verdict on a file of these bytes. Number 14 is that of the program, which takes no more than
  * 65,536 of them. */
 static void show_transcript(const char *name, const uint8_t *bytes, size_t length) {
-    const struct rz_answer too_long = {RZ_INPUT_TOO_LONG, RZ_NONE, RZ_NONE, 0, RZ_NONE};
+    struct rz_answer verdict = RZ_NO_ANSWER;
 
+    if (length > 65536) {
+        verdict.number = RZ_INPUT_TOO_LONG;
+    } else {
+        verdict = rz_judge_transcript_answer(bytes, length);
+    }
     printf("%s", name);
-    show_verdict(length > 65536 ? too_long : rz_judge_transcript_answer(bytes, length));
+    show_verdict(verdict);
 }
 
 /* No run here has more bytes than that of case P with 257 queries. */
@@ -290,28 +302,26 @@ static void show_run(const char *name, const struct rz_run *run, struct rz_list 
 static void case_p(void) {
     const uint64_t basis[] = {1, 2, 4, 8, 16, 32, 64, 128, 256}, coefficients[] = {7, 3};
     const uint64_t challenges[] = {1, 2, 3, 4, 5, 6, 7, 8};
-    const struct rz_list polynomial = {coefficients, LENGTH(coefficients)};
     uint64_t word[512], layers[508], coefficient[1], indices[257];
     const struct rz_run run = {
         .k = 9,
         .rate = 1,
         .step = 1,
         .offset = 0,
-        .basis = {basis, LENGTH(basis)},
-        .challenges = {challenges, LENGTH(challenges)},
-        .word = {word, LENGTH(word)},
+        .basis = RZ_LIST(basis),
+        .challenges = RZ_LIST(challenges),
+        .word = RZ_LIST(word),
     };
-    const struct rz_list enough = {indices, 256}, too_many = {indices, 257};
-    const struct rz_list store = {layers, LENGTH(layers)}, last = {coefficient, 1};
+    const struct rz_list enough = {indices, 256}, too_many = RZ_LIST(indices);
+    const struct rz_list store = RZ_LIST(layers), last = RZ_LIST(coefficient);
 
     for (size_t i = 0; i < LENGTH(indices); i++) {
         indices[i] = i % 256 * 2;
     }
     struct rz_answer encoding =
-        rz_encode_answer(0, run.basis, polynomial, rz_output_of(word, LENGTH(word)));
-    struct rz_answer proof = rz_prove_answer(&run, rz_output_of(layers, LENGTH(layers)),
-                                             rz_output_of(coefficient, 1));
-    if (!rz_accepted(encoding) || !rz_accepted(proof)) {
+        rz_encode_answer(0, run.basis, RZ_LIST(coefficients), RZ_OUTPUT(word));
+    struct rz_answer proof = rz_prove_answer(&run, RZ_OUTPUT(layers), RZ_OUTPUT(coefficient));
+    if (!rz_done(encoding) || !rz_done(proof)) {
         printf("P  not proved\n");
         return;
     }
@@ -329,15 +339,15 @@ static void show_one_round(const char *name, const uint64_t *word, size_t querie
     const struct rz_run run = one_round(word, challenge_g);
     const struct rz_list queries = {queries_g, queries_length};
 
-    show_run(name, &run, queries, rz_list_of(NULL, 0), rz_list_of(last_g, 1));
+    show_run(name, &run, queries, rz_list_of(NULL, 0), RZ_LIST(last_g));
 }
 
-/* Case K's run with an entry 0 of layer 1 and a query. */
+/* The run of cases K and L with an entry 0 of layer 1 and a query. */
 static void show_two_rounds_as_bytes(const char *name, uint64_t first, uint64_t query) {
     const uint64_t layer[] = {first, 4, 0x16, 0x10};
-    const struct rz_list store = {layer, LENGTH(layer)};
+    const struct rz_run run = two_rounds();
 
-    show_run(name, &run_k, rz_list_of(&query, 1), store, rz_list_of(last_k, 1));
+    show_run(name, &run, rz_list_of(&query, 1), RZ_LIST(layer), RZ_LIST(last_k));
 }
 
 /* Case G with a number changed, and with as many bytes. */
@@ -346,7 +356,7 @@ static void show_changed(const char *name, size_t at, uint64_t value, size_t wid
     const struct rz_run run = one_round(encoded, challenge_g);
     uint8_t bytes[137] = {0};
 
-    put_run(bytes, &run, rz_list_of(queries_g, 2), rz_list_of(NULL, 0), rz_list_of(last_g, 1));
+    put_run(bytes, &run, RZ_LIST(queries_g), rz_list_of(NULL, 0), RZ_LIST(last_g));
     put(bytes, at, value, width);
     show_transcript(name, bytes, length);
 }
@@ -363,7 +373,7 @@ static void front_cases(void) {
     const uint64_t dependent[] = {1, 2, 3}, challenges[] = {1, 2, 3, 4}, query[] = {0};
     const struct rz_list no_query = {NULL, 0};
     uint64_t powers[20];
-    struct rz_run run = {.k = 3, .rate = 1, .step = 1, .basis = {dependent, LENGTH(dependent)}};
+    struct rz_run run = {.k = 3, .rate = 1, .step = 1, .basis = RZ_LIST(dependent)};
 
     show_front("\nM  as a transcript: ", &run, no_query);
     for (size_t i = 0; i < LENGTH(powers); i++) {
@@ -373,10 +383,10 @@ static void front_cases(void) {
         .k = 20,
         .rate = 6,
         .step = 3,
-        .basis = {powers, LENGTH(powers)},
-        .challenges = {challenges, LENGTH(challenges)},
+        .basis = RZ_LIST(powers),
+        .challenges = RZ_LIST(challenges),
     };
-    show_front("\nO  as a transcript without layers: ", &run, rz_list_of(query, LENGTH(query)));
+    show_front("\nO  as a transcript without layers: ", &run, RZ_LIST(query));
     run.k = 21;
     show_front("; k 21: ", &run, no_query);
 }

@@ -63,8 +63,26 @@ struct rz_answer {
     uint64_t number, place, round, reads, value;
 };
 
-/* 1 exactly where number is 0: a judge accepted, every other function did what it is for. */
-static inline int rz_accepted(struct rz_answer answer);
+/* Initialises an answer that is still to come, as where nothing was done. {0} reads as accepted:
+ *
+ *     struct rz_answer verdict = RZ_NO_ANSWER; */
+#define RZ_NO_ANSWER {RZ_NONE, RZ_NONE, RZ_NONE, 0, RZ_NONE}
+
+/* Of a judge's verdict, that is of what rz_judge_answer and rz_judge_transcript_answer answer: 1
+ * exactly where number is 0, and the judge accepted. */
+static inline int rz_accepted(struct rz_answer verdict);
+
+/* Of the answer of a function that judges nothing: 1 exactly where number is 0, and the function
+ * did what it is for. The layer lookup refuses nothing: there, value says whether there is a
+ * layer. */
+static inline int rz_done(struct rz_answer answer);
+
+/* gcc and clang warn where an answer is not used. */
+#if defined(__GNUC__)
+#define RZ_MUST_USE __attribute__((warn_unused_result))
+#else
+#define RZ_MUST_USE
+#endif
 
 /* 3. THE NUMBERS
  *
@@ -111,8 +129,9 @@ enum rz_number {
 
 /* 4. LISTS
  *
- * A lent list is a pointer to its first entry and its length, in entries and not in bytes. Two
- * lists lent to one call do not overlap, and nobody else writes to them meanwhile.
+ * A lent list is a pointer to its first entry and its length, in entries and not in bytes. A list
+ * that is written to overlaps no other list of the call; lists that are only read may overlap.
+ * Nobody else writes to any of them meanwhile.
  *
  * A null pointer with length 0 is a list without entries, wherever part 6 takes a list or bytes. A
  * null pointer with another length, and a null pointer to a run or a fold call, are mistakes of
@@ -130,9 +149,16 @@ struct rz_output {
     size_t length;
 };
 
+/* The length is in entries: 3 for an array of three, where sizeof gives 24. */
 static inline struct rz_list rz_list_of(const uint64_t *entries, size_t length);
 
+/* The same for a list that is written to. */
 static inline struct rz_output rz_output_of(uint64_t *entries, size_t length);
+
+/* A whole array as a list, its entries counted. They are for arrays and not for pointers, whose
+ * entries cannot be counted: a parameter `uint64_t word[]` is a pointer too. */
+#define RZ_LIST(array) rz_list_of((array), sizeof(array) / sizeof((array)[0]))
+#define RZ_OUTPUT(array) rz_output_of((array), sizeof(array) / sizeof((array)[0]))
 
 /* 5. WHAT A CALL NEEDS BEFOREHAND
  *
@@ -172,6 +198,7 @@ uint64_t rz_product(uint64_t a, uint64_t b);
 
 /* value: the inverse of a. Refused with number 15 (inverse of zero) where a is 0. The answer has
  * no place, no round, and 0 reads. */
+RZ_MUST_USE
 static inline struct rz_answer rz_inverse_answer(uint64_t a);
 
 /* Writes the polynomial's values at all 2^k points, in point order, into `values`; k is the length
@@ -183,6 +210,7 @@ static inline struct rz_answer rz_inverse_answer(uint64_t a);
  *   number 8   a basis element lies in the span of earlier ones, and its place is the first such
  *              place, from 0
  * A refusal leaves `values` as it was. The answer has no value, no round, and 0 reads. */
+RZ_MUST_USE
 static inline struct rz_answer rz_encode_answer(uint64_t offset, struct rz_list basis,
                                                 struct rz_list coefficients,
                                                 struct rz_output values);
@@ -191,6 +219,7 @@ static inline struct rz_answer rz_encode_answer(uint64_t offset, struct rz_list 
  * at point j, for every j, into `coefficients`. Refused as rz_encode_answer is, where list 3 is
  * `word` and list 6 is `coefficients`, each of length 2^k. A refusal leaves `coefficients` as it
  * was. The answer has no value, no round, and 0 reads. */
+RZ_MUST_USE
 static inline struct rz_answer rz_interpolate_answer(uint64_t offset, struct rz_list basis,
                                                      struct rz_list word,
                                                      struct rz_output coefficients);
@@ -225,6 +254,7 @@ struct rz_fold_call {
  *              round 0
  * A refusal leaves `values` and `next_basis` as they were, and has no value. The answer has no
  * round but with number 16, and 0 reads. */
+RZ_MUST_USE
 static inline struct rz_answer rz_fold_answer(const struct rz_fold_call *call,
                                               struct rz_output values,
                                               struct rz_output next_basis);
@@ -262,13 +292,15 @@ struct rz_run {
  *              holds the layers, and `last` is as it was
  * All other refusals leave `store` and `last` as they were. No value but with number 12, no round
  * but with number 16, 0 reads. */
+RZ_MUST_USE
 static inline struct rz_answer rz_prove_answer(const struct rz_run *run, struct rz_output store,
                                                struct rz_output last);
 
 /* The layer lookup: layer i of a store, 1 <= i < r, is the part of `store` that starts at the
- * answer's place and has as many entries as its value says. It refuses nothing: parameters out of
- * range, another i or a store of another length give the empty part, place 0 and value 0. No
- * round, 0 reads. */
+ * answer's place and has as many entries as its value says. It refuses nothing, and number is 0
+ * for every i: value 0, with place 0, says that there is no such layer, because parameters are out
+ * of range, i is another one or the store has another length. No round, 0 reads. */
+RZ_MUST_USE
 static inline struct rz_answer rz_layer_answer(size_t k, size_t rate, size_t step,
                                                struct rz_list store, size_t i);
 
@@ -285,6 +317,7 @@ static inline struct rz_answer rz_layer_answer(size_t k, size_t rate, size_t ste
  * reads: queries * r * 2^step where number is 0; t * r * 2^step + min(i + 2, r) * 2^step for
  * number 11 at position t and round i; else 0. No list is written. The answer has no value, and no
  * round but with numbers 11 and 16. */
+RZ_MUST_USE
 static inline struct rz_answer rz_judge_answer(const struct rz_run *run, struct rz_list queries,
                                                struct rz_list store, struct rz_list last);
 
@@ -307,6 +340,7 @@ static inline struct rz_answer rz_judge_answer(const struct rz_run *run, struct 
  *   number 3   bytes follow; no place
  * and last with number 11, as rz_judge_answer has it. The reads are those of rz_judge_answer. The
  * answer has no value, and no round but with numbers 11 and 16. */
+RZ_MUST_USE
 static inline struct rz_answer rz_judge_transcript_answer(const uint8_t *bytes, size_t length);
 
 /* 7. THE RAW FUNCTIONS
@@ -323,7 +357,8 @@ static inline struct rz_answer rz_judge_transcript_answer(const uint8_t *bytes, 
  *     rz_judge(.., a, sizeof a);    sizeof a is 40, not 5: nothing is judged
  *     if (a[0] == 0) ..             holds for every store, a damaged or forged one too
  *
- * So set the first number to RZ_NONE, which no cause has, before each call. */
+ * So initialise the list with RZ_NO_ANSWER, and set its first number to RZ_NONE, which no cause
+ * has, before each further call. */
 #define RZ_ANSWER_LENGTH 5
 
 void rz_inverse(uint64_t a, uint64_t *answer, size_t answer_length);
@@ -363,7 +398,11 @@ void rz_judge_transcript(const uint8_t *bytes, size_t bytes_length, uint64_t *an
  * Each presets the five numbers, calls the raw function unless a pointer is missing, and names
  * what stands there then. */
 
-static inline int rz_accepted(struct rz_answer answer) {
+static inline int rz_accepted(struct rz_answer verdict) {
+    return verdict.number == RZ_ACCEPTED;
+}
+
+static inline int rz_done(struct rz_answer answer) {
     return answer.number == RZ_ACCEPTED;
 }
 
@@ -381,15 +420,6 @@ static inline struct rz_output rz_output_of(uint64_t *entries, size_t length) {
     output.entries = entries;
     output.length = length;
     return output;
-}
-
-/* As where nothing was done. */
-static inline void rz_preset(uint64_t *numbers) {
-    numbers[0] = RZ_NONE;
-    numbers[1] = RZ_NONE;
-    numbers[2] = RZ_NONE;
-    numbers[3] = 0;
-    numbers[4] = RZ_NONE;
 }
 
 static inline struct rz_answer rz_answer_of(const uint64_t *numbers) {
@@ -436,9 +466,8 @@ static inline uint64_t *rz_room(struct rz_output output) {
 }
 
 static inline struct rz_answer rz_inverse_answer(uint64_t a) {
-    uint64_t numbers[RZ_ANSWER_LENGTH];
+    uint64_t numbers[RZ_ANSWER_LENGTH] = RZ_NO_ANSWER;
 
-    rz_preset(numbers);
     rz_inverse(a, numbers, RZ_ANSWER_LENGTH);
     return rz_answer_of(numbers);
 }
@@ -446,9 +475,8 @@ static inline struct rz_answer rz_inverse_answer(uint64_t a) {
 static inline struct rz_answer rz_encode_answer(uint64_t offset, struct rz_list basis,
                                                 struct rz_list coefficients,
                                                 struct rz_output values) {
-    uint64_t numbers[RZ_ANSWER_LENGTH];
+    uint64_t numbers[RZ_ANSWER_LENGTH] = RZ_NO_ANSWER;
 
-    rz_preset(numbers);
     if (rz_list_there(basis) && rz_list_there(coefficients) && rz_output_there(values)) {
         rz_encode(offset, rz_entries(basis), basis.length, rz_entries(coefficients),
                   coefficients.length, rz_room(values), values.length, numbers, RZ_ANSWER_LENGTH);
@@ -459,9 +487,8 @@ static inline struct rz_answer rz_encode_answer(uint64_t offset, struct rz_list 
 static inline struct rz_answer rz_interpolate_answer(uint64_t offset, struct rz_list basis,
                                                      struct rz_list word,
                                                      struct rz_output coefficients) {
-    uint64_t numbers[RZ_ANSWER_LENGTH];
+    uint64_t numbers[RZ_ANSWER_LENGTH] = RZ_NO_ANSWER;
 
-    rz_preset(numbers);
     if (rz_list_there(basis) && rz_list_there(word) && rz_output_there(coefficients)) {
         rz_interpolate(offset, rz_entries(basis), basis.length, rz_entries(word), word.length,
                        rz_room(coefficients), coefficients.length, numbers, RZ_ANSWER_LENGTH);
@@ -472,9 +499,8 @@ static inline struct rz_answer rz_interpolate_answer(uint64_t offset, struct rz_
 static inline struct rz_answer rz_fold_answer(const struct rz_fold_call *call,
                                               struct rz_output values,
                                               struct rz_output next_basis) {
-    uint64_t numbers[RZ_ANSWER_LENGTH];
+    uint64_t numbers[RZ_ANSWER_LENGTH] = RZ_NO_ANSWER;
 
-    rz_preset(numbers);
     if (call != NULL && rz_list_there(call->basis) && rz_list_there(call->word) &&
         rz_output_there(values) && rz_output_there(next_basis)) {
         rz_fold(call->k, call->step, call->offset, rz_entries(call->basis), call->basis.length,
@@ -486,9 +512,8 @@ static inline struct rz_answer rz_fold_answer(const struct rz_fold_call *call,
 
 static inline struct rz_answer rz_prove_answer(const struct rz_run *run, struct rz_output store,
                                                struct rz_output last) {
-    uint64_t numbers[RZ_ANSWER_LENGTH];
+    uint64_t numbers[RZ_ANSWER_LENGTH] = RZ_NO_ANSWER;
 
-    rz_preset(numbers);
     if (rz_run_there(run) && rz_output_there(store) && rz_output_there(last)) {
         rz_prove(run->k, run->rate, run->step, run->offset, rz_entries(run->basis),
                  run->basis.length, rz_entries(run->challenges), run->challenges.length,
@@ -500,9 +525,8 @@ static inline struct rz_answer rz_prove_answer(const struct rz_run *run, struct 
 
 static inline struct rz_answer rz_layer_answer(size_t k, size_t rate, size_t step,
                                                struct rz_list store, size_t i) {
-    uint64_t numbers[RZ_ANSWER_LENGTH];
+    uint64_t numbers[RZ_ANSWER_LENGTH] = RZ_NO_ANSWER;
 
-    rz_preset(numbers);
     if (rz_list_there(store)) {
         rz_layer(k, rate, step, rz_entries(store), store.length, i, numbers, RZ_ANSWER_LENGTH);
     }
@@ -511,9 +535,8 @@ static inline struct rz_answer rz_layer_answer(size_t k, size_t rate, size_t ste
 
 static inline struct rz_answer rz_judge_answer(const struct rz_run *run, struct rz_list queries,
                                                struct rz_list store, struct rz_list last) {
-    uint64_t numbers[RZ_ANSWER_LENGTH];
+    uint64_t numbers[RZ_ANSWER_LENGTH] = RZ_NO_ANSWER;
 
-    rz_preset(numbers);
     if (rz_run_there(run) && rz_list_there(queries) && rz_list_there(store) &&
         rz_list_there(last)) {
         rz_judge(run->k, run->rate, run->step, run->offset, rz_entries(run->basis),
@@ -527,9 +550,8 @@ static inline struct rz_answer rz_judge_answer(const struct rz_run *run, struct 
 
 static inline struct rz_answer rz_judge_transcript_answer(const uint8_t *bytes, size_t length) {
     static const uint8_t unread = 0;
-    uint64_t numbers[RZ_ANSWER_LENGTH];
+    uint64_t numbers[RZ_ANSWER_LENGTH] = RZ_NO_ANSWER;
 
-    rz_preset(numbers);
     if (rz_there(bytes, length)) {
         rz_judge_transcript(bytes == NULL ? &unread : bytes, length, numbers, RZ_ANSWER_LENGTH);
     }

@@ -78,6 +78,7 @@ static void expect_answer(struct rz_answer answer, struct rz_answer due, const c
     expect(answer.reads == due.reads, what);
     expect(answer.value == due.value, what);
     expect(rz_accepted(answer) == (due.number == 0), what);
+    expect(rz_done(answer) == (due.number == 0), what);
 }
 
 /* A raw answer. A list of another length than that of an answer is left alone. */
@@ -98,20 +99,20 @@ static const uint64_t word_k[] = {0, 1, 4, 5, 0x10, 0x11, 0x14, 0x15};
 static const uint64_t layer_k[] = {0xa, 0xc, 0x1e, 0x18}, last_k[] = {0x41};
 
 static struct rz_run run_g(void) {
-    struct rz_run run = {2, 1, 1, 0, {basis, 2}, {challenge, 1}, {word, 4}};
+    struct rz_run run = {2, 1, 1, 0, RZ_LIST(basis), RZ_LIST(challenge), RZ_LIST(word)};
 
     return run;
 }
 
 static struct rz_run run_k(void) {
-    struct rz_run run = {3, 1, 1, 8, {basis_k, 3}, {challenges_k, 2}, {word_k, 8}};
+    struct rz_run run = {3, 1, 1, 8, RZ_LIST(basis_k), RZ_LIST(challenges_k), RZ_LIST(word_k)};
 
     return run;
 }
 
 /* Case D with the word of case E. */
 static struct rz_fold_call fold_d(void) {
-    struct rz_fold_call call = {2, 1, 8, {basis, 2}, {word, 4}, 4};
+    struct rz_fold_call call = {2, 1, 8, RZ_LIST(basis), RZ_LIST(word), 4};
 
     return call;
 }
@@ -131,10 +132,23 @@ static void expect_accepted(void) {
 
     for (uint64_t number = 0; number <= 17; number++) {
         expect(rz_accepted(refused(number, RZ_NONE)) == (number == 0), "rz_accepted");
+        expect(rz_done(refused(number, RZ_NONE)) == (number == 0), "rz_done");
     }
     for (size_t i = 0; i < LENGTH(large); i++) {
         expect(!rz_accepted(refused(large[i], RZ_NONE)), "rz_accepted: large numbers");
+        expect(!rz_done(refused(large[i], RZ_NONE)), "rz_done: large numbers");
     }
+}
+
+static void expect_initialisers(void) {
+    const struct rz_answer none = RZ_NO_ANSWER;
+    uint64_t room[3];
+
+    expect_answer(none, nothing_done(), "RZ_NO_ANSWER");
+    expect(RZ_LIST(word).entries == word, "RZ_LIST: entries");
+    expect(RZ_LIST(word).length == 4, "RZ_LIST: length");
+    expect(RZ_OUTPUT(room).entries == room, "RZ_OUTPUT: entries");
+    expect(RZ_OUTPUT(room).length == 3, "RZ_OUTPUT: length");
 }
 
 static void expect_inverse(uint64_t a, size_t length, struct rz_answer due) {
@@ -176,7 +190,8 @@ static void expect_raw_codes(size_t length) {
 }
 
 static void expect_codes(void) {
-    const struct rz_list both = {basis, 2}, polynomial = {coefficients, 2}, values = {encoded, 4};
+    const struct rz_list both = RZ_LIST(basis), polynomial = RZ_LIST(coefficients);
+    const struct rz_list values = RZ_LIST(encoded);
     uint64_t list[ROOM];
     const struct rz_output output = {list, 4};
 
@@ -220,9 +235,9 @@ static void expect_interpolation_refused(struct rz_list points, struct rz_list i
 
 static void expect_codes_refused(void) {
     const uint64_t twice[] = {1, 1};
-    const struct rz_list one = rz_list_of(basis, 1), both = rz_list_of(basis, 2);
-    const struct rz_list dependent = rz_list_of(twice, 2);
-    const struct rz_list three = rz_list_of(word, 3), four = rz_list_of(word, 4);
+    const struct rz_list one = rz_list_of(basis, 1), both = RZ_LIST(basis);
+    const struct rz_list dependent = RZ_LIST(twice);
+    const struct rz_list three = rz_list_of(word, 3), four = RZ_LIST(word);
 
     expect_encoding_refused(one, three, 2, refused(RZ_WRONG_LENGTH, 3));
     expect_encoding_refused(both, four, 5, refused(RZ_WRONG_LENGTH, 6));
@@ -397,7 +412,7 @@ static void expect_judged(size_t queries, const uint64_t *last, struct rz_answer
     rz_judge(3, 1, 1, 8, basis_k, 3, challenges_k, 2, queries_k, queries, word_k, 8, layer_k, 4,
              last, 1, answer, RZ_ANSWER_LENGTH);
     expect_raw(answer, RZ_ANSWER_LENGTH, due, "rz_judge: queries");
-    expect_answer(rz_judge_answer(&run, rz_list_of(queries_k, queries), rz_list_of(layer_k, 4),
+    expect_answer(rz_judge_answer(&run, rz_list_of(queries_k, queries), RZ_LIST(layer_k),
                                   rz_list_of(last, 1)),
                   due, "rz_judge_answer: queries");
 }
@@ -419,7 +434,7 @@ static void expect_own_numbers(void) {
     rz_prove(2, 1, 1, 0, basis, 2, challenge, 1, last_one, 4, store, 0, last, 1, answer,
              RZ_ANSWER_LENGTH);
     expect_raw(answer, RZ_ANSWER_LENGTH, degree, "rz_prove: degree");
-    run.word = rz_list_of(last_one, 4);
+    run.word = RZ_LIST(last_one);
     expect_answer(rz_prove_answer(&run, rz_output_of(store, 0), rz_output_of(last, 1)), degree,
                   "rz_prove_answer: degree");
     expect_untouched(last, "last coefficients after a degree that is told");
@@ -502,8 +517,7 @@ static void expect_trap(void) {
     for (size_t i = 0; i < LENGTH(a); i++) {
         expect(a[i] == 0, "rz_judge: a list of 40 numbers is left alone");
     }
-    expect_answer(rz_judge_answer(&run, rz_list_of(query, 1), rz_list_of(damaged, 4),
-                                  rz_list_of(last_k, 1)),
+    expect_answer(rz_judge_answer(&run, RZ_LIST(query), RZ_LIST(damaged), RZ_LIST(last_k)),
                   answer_with(RZ_ROUND_CHECK_FAILS, 0, 0, 4, RZ_NONE),
                   "rz_judge_answer: a damaged store");
 }
@@ -571,7 +585,7 @@ static const struct rz_output no_room = {NULL, 0}, missing_room = {NULL, 1};
 
 static void expect_nulls_in_encoding(void) {
     const uint64_t zeros[] = {0, 0, 0, 0};
-    const struct rz_list both = rz_list_of(basis, 2), seven = rz_list_of(coefficients, 1);
+    const struct rz_list both = RZ_LIST(basis), seven = rz_list_of(coefficients, 1);
     uint64_t values[ROOM];
     const struct rz_output one = {values, 1}, four = {values, 4};
 
@@ -589,8 +603,8 @@ static void expect_nulls_in_encoding(void) {
 }
 
 static void expect_nulls_in_interpolation(void) {
-    const struct rz_list both = rz_list_of(basis, 2), seven = rz_list_of(word, 1);
-    const struct rz_list all = rz_list_of(word, 4);
+    const struct rz_list both = RZ_LIST(basis), seven = rz_list_of(word, 1);
+    const struct rz_list all = RZ_LIST(word);
     uint64_t found[ROOM];
     const struct rz_output one = {found, 1}, four = {found, 4};
 
@@ -618,7 +632,7 @@ static void expect_fold_with(struct rz_list points, struct rz_list input, struct
 }
 
 static void expect_nulls_in_folds(void) {
-    const struct rz_list both = rz_list_of(basis, 2), all = rz_list_of(word, 4);
+    const struct rz_list both = RZ_LIST(basis), all = RZ_LIST(word);
     struct rz_fold_call call = fold_d();
     uint64_t list[ROOM], other[ROOM];
     const struct rz_output values = {list, 2}, one = {list, 1}, next_basis = {other, 1};
@@ -638,7 +652,7 @@ static void expect_nulls_in_folds(void) {
     expect_untouched(other, "null: next basis where nothing was done");
 
     call.step = 2;
-    expect(rz_accepted(rz_fold_answer(&call, one, no_room)), "null: no next basis");
+    expect(rz_done(rz_fold_answer(&call, one, no_room)), "null: no next basis");
     expect(list[0] != PATTERN, "null: the value of a fold to one point");
 }
 
@@ -649,9 +663,8 @@ static void expect_both(const struct rz_run *run, struct rz_answer due, const ch
     fill(last);
     expect_answer(rz_prove_answer(run, no_room, rz_output_of(last, 1)), due, what);
     expect_untouched(last, what);
-    expect_answer(rz_judge_answer(run, rz_list_of(queries_g, 2), no_entries,
-                                  rz_list_of(last_g, 1)),
-                  due, what);
+    expect_answer(rz_judge_answer(run, RZ_LIST(queries_g), no_entries, RZ_LIST(last_g)), due,
+                  what);
 }
 
 static void expect_nulls_in_shared_lists(void) {
@@ -686,7 +699,7 @@ static void expect_nulls_in_proofs(void) {
 
 static void expect_nulls_in_judging(void) {
     const struct rz_run run = run_g();
-    const struct rz_list queries = rz_list_of(queries_g, 2), last = rz_list_of(last_g, 1);
+    const struct rz_list queries = RZ_LIST(queries_g), last = RZ_LIST(last_g);
 
     expect_answer(rz_judge_answer(&run, missing, no_entries, last), nothing_done(),
                   "null: queries");
@@ -722,6 +735,7 @@ static void expect_nulls(void) {
 int main(void) {
     expect_version();
     expect_accepted();
+    expect_initialisers();
     for (size_t length = 0; length <= ROOM; length++) {
         expect_arithmetic(length);
         expect_raw_codes(length);
