@@ -63,17 +63,18 @@ struct rz_answer {
     uint64_t number, place, round, reads, value;
 };
 
-/* Initialises an answer that is still to come, as where nothing was done. {0} reads as accepted:
+/* Initialises an answer that is still to come, as where nothing was done; {0} would read as
+ * accepted:
  *
  *     struct rz_answer verdict = RZ_NO_ANSWER; */
 #define RZ_NO_ANSWER {RZ_NONE, RZ_NONE, RZ_NONE, 0, RZ_NONE}
 
-/* Of a judge's verdict, that is of what rz_judge_answer and rz_judge_transcript_answer answer: 1
- * exactly where number is 0, and the judge accepted. */
+/* For a judge's verdict, the answer of rz_judge_answer or rz_judge_transcript_answer: 1 exactly
+ * where number is 0, and the judge accepted. */
 static inline int rz_accepted(struct rz_answer verdict);
 
-/* Of the answer of a function that judges nothing: 1 exactly where number is 0, and the function
- * did what it is for. The layer lookup refuses nothing: there, value says whether there is a
+/* For the answer of a function that judges nothing: 1 exactly where number is 0, and the function
+ * did what it is for. The layer lookup refuses nothing: its value says whether there is such a
  * layer. */
 static inline int rz_done(struct rz_answer answer);
 
@@ -297,9 +298,9 @@ static inline struct rz_answer rz_prove_answer(const struct rz_run *run, struct 
                                                struct rz_output last);
 
 /* The layer lookup: layer i of a store, 1 <= i < r, is the part of `store` that starts at the
- * answer's place and has as many entries as its value says. It refuses nothing, and number is 0
- * for every i: value 0, with place 0, says that there is no such layer, because parameters are out
- * of range, i is another one or the store has another length. No round, 0 reads. */
+ * answer's place and has as many entries as its value says. It refuses nothing: value 0, with
+ * place 0, says that there is no such layer, because the parameters are out of range, i is another
+ * one or the store has another length; number is 0 then too. No round, 0 reads. */
 RZ_MUST_USE
 static inline struct rz_answer rz_layer_answer(size_t k, size_t rate, size_t step,
                                                struct rz_list store, size_t i);
