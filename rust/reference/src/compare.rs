@@ -9,9 +9,13 @@ pub mod protocol;
 pub mod reed_solomon;
 pub mod transcript;
 
+mod call;
 mod cosets;
 mod lent;
+mod library;
 mod lists;
+pub mod operation;
+mod refused;
 #[cfg(test)]
 mod wrong;
 

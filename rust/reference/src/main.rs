@@ -5,6 +5,7 @@
 //! 1 if one differs, having shown the smallest input that it found.
 
 use reference::compare;
+use reference::compare::operation::Razgwilh;
 use std::process::ExitCode;
 
 fn main() -> ExitCode {
@@ -15,10 +16,7 @@ fn main() -> ExitCode {
     );
     let parts = [
         compare::field::comparisons(&compare::field::RAZGWILH, &compare::field::FULL),
-        compare::reed_solomon::comparisons(
-            &compare::reed_solomon::RAZGWILH,
-            &compare::reed_solomon::FULL,
-        ),
+        compare::reed_solomon::comparisons(&Razgwilh, &compare::reed_solomon::FULL),
         compare::fold::comparisons(&compare::fold::RAZGWILH, &compare::fold::FULL),
         compare::protocol::comparisons(&compare::protocol::RAZGWILH, &compare::protocol::FULL),
         transcripts.comparisons,

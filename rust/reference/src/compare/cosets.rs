@@ -82,10 +82,9 @@ pub fn wrong_lengths(right: usize, fits: impl Fn(usize) -> bool) -> Vec<usize> {
     wrong
 }
 
-// Dependent bases. Each is made into a call as soon as it is there.
+// Dependent bases.
 
-/// Makes the element at a place the sum of some earlier ones: of those whose bit
-/// is set.
+/// Makes the element at a place the sum of some earlier ones: of those whose bit is set.
 fn insert_sum(basis: &mut Vec<u64>, place: usize, picked: u64) {
     let sum = point(0, &basis[..place], picked);
     basis.insert(place, sum);
@@ -110,70 +109,76 @@ pub fn all_places(dimensions: RangeInclusive<usize>) -> impl Iterator<Item = (us
     dimensions.flat_map(places_of)
 }
 
-pub fn zero_elements<C>(
-    random: &mut Random,
-    dimensions: RangeInclusive<usize>,
-    call: impl Fn(&mut Random, Vec<u64>) -> C,
-) -> Vec<C> {
-    let mut calls = Vec::new();
-    for (k, place) in all_places(dimensions) {
-        let basis = dependent(random, k, place, 0);
-        calls.push(call(random, basis));
-    }
-    calls
+/// Makes dependent bases of some dimensions.
+pub type Bases = fn(&mut Random, RangeInclusive<usize>) -> Vec<Vec<u64>>;
+
+pub fn with_zero_elements(random: &mut Random, dimensions: RangeInclusive<usize>) -> Vec<Vec<u64>> {
+    all_places(dimensions).map(|(k, place)| dependent(random, k, place, 0)).collect()
 }
 
-pub fn repeated_elements<C>(
+pub fn with_repeated_elements(
     random: &mut Random,
     dimensions: RangeInclusive<usize>,
-    call: impl Fn(&mut Random, Vec<u64>) -> C,
-) -> Vec<C> {
-    let mut calls = Vec::new();
+) -> Vec<Vec<u64>> {
+    let mut bases = Vec::new();
     for (k, place) in all_places(dimensions) {
-        for earlier in 0..place {
-            let basis = dependent(random, k, place, 1 << earlier);
-            calls.push(call(random, basis));
-        }
+        let earlier = 0..place;
+        bases.extend(earlier.map(|earlier| dependent(random, k, place, 1 << earlier)));
     }
-    calls
+    bases
 }
 
-/// Sums of two earlier elements or more: of any two next to each other, of all,
-/// and of any.
-pub fn sums_of_elements<C>(
+/// Sums of two earlier elements or more: of any two next to each other, of all, and of any.
+pub fn with_sums_of_elements(
     random: &mut Random,
     dimensions: RangeInclusive<usize>,
-    call: impl Fn(&mut Random, Vec<u64>) -> C,
-) -> Vec<C> {
-    let mut calls = Vec::new();
+) -> Vec<Vec<u64>> {
+    let mut bases = Vec::new();
     for (k, place) in all_places(dimensions) {
         for earlier in 1..place {
             let two = 3 << (earlier - 1);
             for picked in [two, u64::MAX, two | random.number()] {
-                let basis = dependent(random, k, place, picked);
-                calls.push(call(random, basis));
+                bases.push(dependent(random, k, place, picked));
             }
         }
     }
-    calls
+    bases
 }
 
-pub fn two_dependent_places<C>(
+pub fn dependent_at_two_places(
     random: &mut Random,
     dimensions: RangeInclusive<usize>,
-    call: impl Fn(&mut Random, Vec<u64>) -> C,
-) -> Vec<C> {
-    let mut calls = Vec::new();
+) -> Vec<Vec<u64>> {
+    let mut bases = Vec::new();
     for (k, second) in all_places(dimensions) {
         for first in 0..second {
             let mut basis = any_basis(random, k - 2);
             insert_sum(&mut basis, first, random.number());
             insert_sum(&mut basis, second, random.number());
-            calls.push(call(random, basis));
+            bases.push(basis);
         }
     }
-    calls
+    bases
 }
+
+// The same as calls, for comparisons that do not have them from their description.
+
+macro_rules! as_calls {
+    ($name:ident, $bases:ident) => {
+        pub fn $name<C>(
+            random: &mut Random,
+            dimensions: RangeInclusive<usize>,
+            call: impl Fn(&mut Random, Vec<u64>) -> C,
+        ) -> Vec<C> {
+            $bases(random, dimensions).into_iter().map(|basis| call(random, basis)).collect()
+        }
+    };
+}
+
+as_calls!(zero_elements, with_zero_elements);
+as_calls!(repeated_elements, with_repeated_elements);
+as_calls!(sums_of_elements, with_sums_of_elements);
+as_calls!(two_dependent_places, dependent_at_two_places);
 
 // Bases of any length.
 

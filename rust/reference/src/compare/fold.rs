@@ -5,7 +5,6 @@ mod inputs;
 
 use super::lent::{Lent, APART, FILLS};
 use super::lists::show_elements;
-use super::reed_solomon::SafeCall as CodeCall;
 use super::{
     compare, Comparison, Fixed, Show, LEFT_AND_RIGHT, PAPER_AND_LIBRARY, REFERENCE_AND_LIBRARY,
 };
@@ -20,6 +19,8 @@ use inputs::OutOfRange;
 use razgwilh::{Answer, Fold};
 
 pub(super) use inputs::challenges as challenges_of_case_j;
+
+type CodeCall = fn(u64, &[u64], &[u64], &mut [u64]) -> Answer;
 
 /// Takes what is given, list 6 and list 7.
 type SafeCall = fn(Fold, &mut [u64], &mut [u64]) -> Answer;

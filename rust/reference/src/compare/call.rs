@@ -1,0 +1,325 @@
+//! A call of an operation over lists, how it is shown, and how it is made smaller.
+
+use super::lists::{
+    fitted, is_small, left_out, show_elements, simpler_bases, simpler_lists, simpler_numbers,
+};
+use super::operation::Operation;
+use super::{Input, Show};
+use crate::answer::ANSWER_LENGTH;
+use crate::compare::lent::FILLS;
+use std::collections::BTreeSet;
+use std::ops::{Index, IndexMut, Range};
+
+/// A number that is given to an operation.
+#[derive(Clone, Copy, Debug, PartialEq, Eq)]
+pub enum Number {
+    K,
+    Rate,
+    Step,
+    Offset,
+    Challenge,
+    Layer,
+}
+
+impl Number {
+    const NAMES: [&'static str; 6] = ["k", "rate", "step", "offset", "challenge", "layer"];
+
+    /// Elements are shown in hexadecimal.
+    fn show(self, number: u64) -> String {
+        let name = Number::NAMES[self as usize];
+        match self {
+            Number::Offset | Number::Challenge => format!("{name} {number:x}"),
+            _ => format!("{name} {number}"),
+        }
+    }
+}
+
+/// A list that is given to an operation or lent to it for writing, in the order of their
+/// numbers. The queries have no number: no length of theirs is a wrong length.
+#[derive(Clone, Copy, Debug, PartialEq, Eq, PartialOrd, Ord)]
+pub enum List {
+    Basis,
+    Challenges,
+    /// The word, or the coefficients to encode.
+    Given,
+    Store,
+    Last,
+    Output,
+    NextBasis,
+    Queries,
+}
+
+impl List {
+    const NAMES: [&'static str; 8] =
+        ["basis", "challenges", "list 3", "store", "last", "list 6", "list 7", "queries"];
+
+    /// The number that a refusal names the list by.
+    pub fn number(self) -> u64 {
+        self as u64 + 1
+    }
+
+    pub fn name(self) -> &'static str {
+        List::NAMES[self as usize]
+    }
+}
+
+/// What is given to an operation. Of a list that is lent for writing only the length counts.
+#[derive(Clone)]
+pub struct Call {
+    pub operation: &'static Operation,
+    pub numbers: [u64; 6],
+    pub lists: [Vec<u64>; 8],
+    /// The length of the list for the answer.
+    pub answer: usize,
+    /// What the lists that are written to are filled from.
+    pub fill: u64,
+}
+
+impl Index<Number> for Call {
+    type Output = u64;
+
+    fn index(&self, number: Number) -> &u64 {
+        &self.numbers[number as usize]
+    }
+}
+
+impl IndexMut<Number> for Call {
+    fn index_mut(&mut self, number: Number) -> &mut u64 {
+        &mut self.numbers[number as usize]
+    }
+}
+
+impl Index<List> for Call {
+    type Output = Vec<u64>;
+
+    fn index(&self, list: List) -> &Vec<u64> {
+        &self.lists[list as usize]
+    }
+}
+
+impl IndexMut<List> for Call {
+    fn index_mut(&mut self, list: List) -> &mut Vec<u64> {
+        &mut self.lists[list as usize]
+    }
+}
+
+impl Call {
+    /// With zeros for numbers, and without lists.
+    pub fn of(operation: &'static Operation) -> Call {
+        Call {
+            operation,
+            numbers: Default::default(),
+            lists: Default::default(),
+            answer: ANSWER_LENGTH,
+            fill: FILLS[0],
+        }
+    }
+
+    pub fn with(mut self, number: Number, value: u64) -> Call {
+        self[number] = value;
+        self
+    }
+
+    pub fn with_list(mut self, list: List, numbers: Vec<u64>) -> Call {
+        self[list] = numbers;
+        self
+    }
+
+    /// With zeros in a list, as one that is lent for writing has them.
+    pub fn with_length(self, list: List, length: usize) -> Call {
+        self.with_list(list, vec![0; length])
+    }
+
+    /// The dimension. Operations that are not given it take the length of the basis for it.
+    pub fn k(&self) -> u64 {
+        if self.operation.takes(Number::K) {
+            self[Number::K]
+        } else {
+            self[List::Basis].len() as u64
+        }
+    }
+
+    pub fn due_length(&self, list: List) -> usize {
+        (self.operation.due_length)(self, list)
+    }
+
+    /// Whether a list has a length that is right for these numbers.
+    pub fn fits(&self, list: List) -> bool {
+        (self.operation.fits)(list, self[list].len(), self.due_length(list))
+    }
+
+    /// The call without any list, but for a basis that the dimension is taken from.
+    pub fn without_lists(mut self) -> Call {
+        let carries_k = |list| list == List::Basis && !self.operation.takes(Number::K);
+        for list in self.operation.all_lists() {
+            if !carries_k(list) {
+                self.lists[list as usize].clear();
+            }
+        }
+        self
+    }
+
+    fn length_of_lists(&self) -> usize {
+        self.lists.iter().map(Vec::len).sum()
+    }
+}
+
+impl Show for Call {
+    fn show(&self) -> String {
+        let operation = self.operation;
+        let numbers = operation.numbers.iter().map(|&number| number.show(self[number]));
+        let given = operation.given.iter().map(|&list| {
+            let elements = show_elements(&self[list]);
+            format!("{}: {elements}", list.name())
+        });
+        let lent = operation.lent.iter().map(|&list| {
+            let length = self[list].len();
+            format!("{} of length {length}", list.name())
+        });
+        let shown: Vec<String> = numbers.chain(given).chain(lent).collect();
+        let Call { answer, fill, .. } = self;
+        format!("{}; answer of length {answer}, filled from {fill:x}", shown.join("; "))
+    }
+}
+
+// Making a call smaller.
+
+impl Input for Call {
+    type Size = ([u64; 3], usize, u32, [u64; 6], [Vec<u64>; 8]);
+
+    /// Low parameters are small, then short lists, and among them those with few bits.
+    fn size(&self) -> Self::Size {
+        let parameters = [self.k(), self[Number::Rate], self[Number::Step]];
+        let others = &self.numbers[Number::Offset as usize..];
+        let numbers = others.iter().chain(self.lists.iter().flatten());
+        (
+            parameters,
+            self.length_of_lists(),
+            numbers.map(|number| number.count_ones()).sum(),
+            self.numbers,
+            self.lists.clone(),
+        )
+    }
+
+    /// The length of the answer stays, since a comparison may be about it.
+    fn simpler(&self) -> Vec<Call> {
+        let mut all = self.with_lower_parameters();
+        all.push(self.clone().without_lists());
+        for list in self.operation.all_lists() {
+            all.extend(self.with_simpler_list(list));
+        }
+        let others = [Number::Offset, Number::Challenge, Number::Layer].into_iter();
+        for number in others.filter(|&number| self.operation.takes(number)) {
+            let simpler = simpler_numbers(self[number], self.is_small()).into_iter();
+            all.extend(simpler.map(|value| self.clone().with(number, value)));
+        }
+        all
+    }
+}
+
+impl Call {
+    fn is_small(&self) -> bool {
+        is_small(self.k() as usize)
+    }
+
+    /// Lists are as much too long or too short as they were. Small calls are mended as well,
+    /// for a difference that only calls show which nothing is wrong with.
+    fn with_lower_parameters(&self) -> Vec<Call> {
+        let mut all = self.with_lower_dimensions();
+        for number in [Number::Rate, Number::Step] {
+            let lower = lower_than(self[number]).into_iter();
+            all.extend(lower.map(|value| self.fitted_to(self.clone().with(number, value))));
+        }
+        let small = all.iter().filter(|call| call.is_small());
+        let mended: Vec<Call> = small.filter_map(self.operation.mended).collect();
+        all.extend(mended);
+        all
+    }
+
+    /// With half of the basis, and with all of it but one element. A call above the range must
+    /// have lost its lists first, since in range right ones would make much work.
+    fn with_lower_dimensions(&self) -> Vec<Call> {
+        let k = self.k();
+        let largest = *self.operation.dimensions.end();
+        let in_range = k <= largest;
+        let empty = self.clone().without_lists().length_of_lists() == self.length_of_lists();
+        if in_range || (empty && !self.operation.takes(Number::K)) {
+            let all = left_out(k as usize).into_iter();
+            return all.flat_map(|places| self.without(places)).collect();
+        }
+        if !empty {
+            return Vec::new();
+        }
+        let lower = [largest + 1, k / 2, k - 1].into_iter();
+        lower.map(|k| self.clone().with(Number::K, k)).collect()
+    }
+
+    /// The calls without these basis elements, for as far as there are any. Queries in range
+    /// stay so. A list that may be shorter than due also stays as it was for as far as it can.
+    fn without(&self, places: Range<usize>) -> Vec<Call> {
+        let k = self.k() - places.len() as u64;
+        let mut call = self.clone();
+        let kept = (0..self[List::Basis].len()).filter(|place| !places.contains(place));
+        call[List::Basis] = kept.map(|place| self[List::Basis][place]).collect();
+        if self.operation.takes(Number::K) {
+            call[Number::K] = k;
+        }
+        let limit = |k: u64| 1u64.checked_shl(k as u32).unwrap_or(u64::MAX);
+        for query in &mut call[List::Queries] {
+            if *query < limit(self.k()) {
+                *query %= limit(k);
+            }
+        }
+        let fitted = self.fitted_to(call);
+        let mut all = vec![fitted.clone()];
+        if self.fits(List::Given) && self.operation.given.contains(&List::Given) {
+            let length = self[List::Given].len().min(fitted.due_length(List::Given));
+            let given = self[List::Given][..length].to_vec();
+            all.push(fitted.with_list(List::Given, given));
+        }
+        all
+    }
+
+    /// The other call with all lists but the basis fitting its numbers as they do those of
+    /// this one.
+    fn fitted_to(&self, mut other: Call) -> Call {
+        let lists = self.operation.lists();
+        for list in lists.into_iter().filter(|&list| list != List::Basis) {
+            let due = other.due_length(list);
+            let length = fitted(self[list].len(), self.due_length(list), due);
+            other[list].resize(length, 0);
+        }
+        other
+    }
+
+    /// Of a list that is lent only the length counts. Of a large call only large changes are
+    /// worth the cost.
+    fn with_simpler_list(&self, list: List) -> Vec<Call> {
+        let small = self.is_small();
+        let numbers = &self[list];
+        let shorter = |length: usize| numbers[..length].to_vec();
+        let halved = [0, numbers.len() / 2, numbers.len().saturating_sub(1)];
+        let mut simpler = match list {
+            _ if self.operation.lent.contains(&list) => halved.map(shorter).to_vec(),
+            List::Basis => simpler_bases(numbers, small),
+            _ => simpler_lists(numbers, small),
+        };
+        if list == List::Basis && self.operation.takes(Number::K) {
+            simpler.extend(halved.map(shorter));
+        }
+        let mut calls: Vec<Call> =
+            simpler.into_iter().map(|numbers| self.clone().with_list(list, numbers)).collect();
+        if small && list == List::Given {
+            let mended: Vec<Call> = calls.iter().filter_map(self.operation.mended).collect();
+            calls.extend(mended);
+        }
+        calls
+    }
+}
+
+/// The lowest rates or steps, and those near this one.
+fn lower_than(number: u64) -> BTreeSet<u64> {
+    let near = [number / 2, number.saturating_sub(1)];
+    let all = (0..=4).chain(near);
+    all.filter(|lower| *lower < number).collect()
+}

@@ -1,0 +1,331 @@
+//! An operation over lists, described once: what it is given, which lengths are right, and what
+//! is due. All comparisons of its calls are made from this.
+
+use super::call::{Call, List, Number};
+use super::cosets::longest_basis;
+use super::lent::{Lent, APART, FILLS};
+use super::{compare, Comparison, Fixed, Show, PAPER_AND_LIBRARY, REFERENCE_AND_LIBRARY};
+use crate::answer::{raw, Answer, ANSWER_LENGTH};
+use crate::random::Random;
+use std::ops::RangeInclusive;
+
+/// Dimension, rate and step; zero for those that an operation does not take.
+pub type Setting = [u64; 3];
+
+/// Writes to the lent lists and answers.
+pub type Behaviour = fn(&Call, &mut Outputs) -> Answer;
+
+/// Writes the answer to its list as well.
+pub type RawBehaviour = fn(&Call, &mut Outputs, &mut [u64]);
+
+pub struct Operation {
+    /// As the names of its comparisons have it.
+    pub name: &'static str,
+    /// In the order of the paper.
+    pub numbers: &'static [Number],
+    pub given: &'static [List],
+    /// The lists lent for writing.
+    pub lent: &'static [List],
+    /// The dimensions in range.
+    pub dimensions: RangeInclusive<u64>,
+    /// All right settings of a dimension.
+    pub settings: fn(u64) -> Vec<Setting>,
+    /// The length that a list must have. Where there is none, the numbers being bad, it is that
+    /// of the nearest there is.
+    pub due_length: fn(&Call, List) -> usize,
+    /// Whether a list may have the first length where the second is due.
+    pub fits: fn(List, usize, usize) -> bool,
+    /// The refusal that is due before the work begins.
+    pub refusal: fn(&Call) -> Option<Answer>,
+    /// Writes what is due, and gives the answer that is due.
+    pub due: Behaviour,
+    /// The call with other lists that make nothing wrong with it, if there are such lists and
+    /// they do not go without saying.
+    pub mended: fn(&Call) -> Option<Call>,
+    /// The functions of the verified library.
+    pub safe: Behaviour,
+    pub raw: RawBehaviour,
+    /// A right call with a setting. Its parts are of a few sorts each, in turn.
+    pub right: fn(&mut Random, Setting, usize) -> Call,
+    /// More calls with a setting that a few of every sort should hold.
+    pub special: fn(&mut Random, Setting) -> Vec<Call>,
+    /// What the names of comparisons have for a dimension out of range, for what a dimension must
+    /// not be below, and for several lists of wrong lengths.
+    pub k_out_of_range: &'static str,
+    pub least_k: &'static str,
+    pub several_lists: &'static str,
+}
+
+/// Only the length that is due is right.
+pub fn exactly(_: List, length: usize, due: usize) -> bool {
+    length == due
+}
+
+/// There are no better lists.
+pub fn not_mended(_: &Call) -> Option<Call> {
+    None
+}
+
+pub fn nothing_special(_: &mut Random, _: Setting) -> Vec<Call> {
+    Vec::new()
+}
+
+impl PartialEq for Operation {
+    fn eq(&self, other: &Operation) -> bool {
+        self.name == other.name
+    }
+}
+
+impl Operation {
+    pub fn takes(&self, number: Number) -> bool {
+        self.numbers.contains(&number)
+    }
+
+    /// All lists, in the order of their numbers.
+    pub fn all_lists(&self) -> Vec<List> {
+        let mut lists = [self.given, self.lent].concat();
+        lists.sort_unstable();
+        lists
+    }
+
+    /// The lists whose length may be wrong.
+    pub fn lists(&self) -> Vec<List> {
+        let mut lists = self.all_lists();
+        let carries_k = |list| list == List::Basis && !self.takes(Number::K);
+        lists.retain(|&list| list != List::Queries && !carries_k(list));
+        lists
+    }
+
+    /// All right settings of some dimensions.
+    pub fn all_settings(&self, dimensions: impl IntoIterator<Item = u64>) -> Vec<Setting> {
+        dimensions.into_iter().flat_map(self.settings).collect()
+    }
+
+    /// The name of a comparison. Names are few, and live as long as the program.
+    pub fn title(&self, what: &str) -> &'static str {
+        format!("{}, {what}", self.name).leak()
+    }
+
+    // Calls with any numbers.
+
+    /// With a basis that is independent if it can be, and lists of the lengths that the setting
+    /// asks for.
+    pub fn any(&'static self, random: &mut Random, setting: Setting) -> Call {
+        let k = match self.takes(Number::K) {
+            true => Call::of(self).with_setting(setting).due_length(List::Basis),
+            false => setting[0] as usize,
+        };
+        let basis = longest_basis(random, k);
+        self.any_over(random, setting, basis)
+    }
+
+    pub fn any_over(&'static self, random: &mut Random, setting: Setting, basis: Vec<u64>) -> Call {
+        let mut call = Call::of(self).with_setting(setting).with_list(List::Basis, basis);
+        for number in [Number::Offset, Number::Challenge] {
+            if self.takes(number) {
+                call[number] = random.number();
+            }
+        }
+        for list in self.lists().into_iter().filter(|&list| list != List::Basis) {
+            let due = call.due_length(list);
+            call = call.with_any(random, list, due);
+        }
+        if self.given.contains(&List::Queries) {
+            let in_range = 1 << call.k().min(*self.dimensions.end());
+            call[List::Queries] = (0..3).map(|_| random.below(in_range) as u64).collect();
+        }
+        call.fill = FILLS[random.below(2)];
+        call
+    }
+}
+
+impl Call {
+    /// The lists are not made to fit.
+    pub fn with_setting(mut self, [k, rate, step]: Setting) -> Call {
+        for (number, value) in [(Number::K, k), (Number::Rate, rate), (Number::Step, step)] {
+            if self.operation.takes(number) {
+                self[number] = value;
+            }
+        }
+        self
+    }
+
+    pub fn setting(&self) -> Setting {
+        [self.k(), self[Number::Rate], self[Number::Step]]
+    }
+
+    /// With a list of another length: of any numbers, of independent ones, or lent.
+    pub fn with_any(self, random: &mut Random, list: List, length: usize) -> Call {
+        let numbers = match list {
+            List::Basis => longest_basis(random, length),
+            _ if self.operation.lent.contains(&list) => vec![0; length],
+            _ => random.list(length),
+        };
+        self.with_list(list, numbers)
+    }
+}
+
+// What is under test.
+
+/// A library that can be asked to make any call.
+pub trait Library {
+    fn safe(&self, call: &Call, outputs: &mut Outputs) -> Answer;
+
+    /// By the C convention: an answer list of another length than five leaves all lists alone.
+    fn raw(&self, call: &Call, outputs: &mut Outputs, answer: &mut [u64]);
+}
+
+/// The verified library.
+pub struct Razgwilh;
+
+impl Library for Razgwilh {
+    fn safe(&self, call: &Call, outputs: &mut Outputs) -> Answer {
+        (call.operation.safe)(call, outputs)
+    }
+
+    fn raw(&self, call: &Call, outputs: &mut Outputs, answer: &mut [u64]) {
+        (call.operation.raw)(call, outputs, answer)
+    }
+}
+
+/// The reference in the place of the library.
+pub struct Reference;
+
+impl Library for Reference {
+    fn safe(&self, call: &Call, outputs: &mut Outputs) -> Answer {
+        (call.operation.due)(call, outputs)
+    }
+
+    fn raw(&self, call: &Call, outputs: &mut Outputs, answer: &mut [u64]) {
+        if answer.len() == ANSWER_LENGTH {
+            answer.copy_from_slice(&raw(&self.safe(call, outputs)));
+        }
+    }
+}
+
+// What the lists hold after a call.
+
+/// The lists lent for writing, with the numbers around them, in the order of the operation.
+#[derive(PartialEq)]
+pub struct Outputs {
+    names: &'static [List],
+    pub lent: Vec<Lent>,
+}
+
+impl Outputs {
+    fn of(call: &Call) -> Outputs {
+        let names = call.operation.lent;
+        let fills = (0..).map(|place| call.fill + place * APART);
+        let lent = names.iter().zip(fills);
+        let lent = lent.map(|(&list, fill)| Lent::filled(call[list].len(), fill)).collect();
+        Outputs { names, lent }
+    }
+
+    /// All lists at once, of which there are N.
+    pub fn lists<const N: usize>(&mut self) -> [&mut [u64]; N] {
+        let lists: Vec<&mut [u64]> = self.lent.iter_mut().map(Lent::list).collect();
+        lists.try_into().expect("as many lists as the operation has")
+    }
+
+    /// The only list, or the first one.
+    pub fn first(&mut self) -> &mut [u64] {
+        self.lent[0].list()
+    }
+
+    /// What the lists hold, whatever was there before.
+    pub fn contents(&mut self) -> Vec<Vec<u64>> {
+        self.lent.iter_mut().map(|lent| lent.list().to_vec()).collect()
+    }
+}
+
+/// An answer, as a list of numbers or as a value, and the lists that were written to.
+#[derive(PartialEq)]
+pub struct After<A> {
+    pub answer: A,
+    pub outputs: Outputs,
+}
+
+impl<A: Show> Show for After<A> {
+    fn show(&self) -> String {
+        let lists = self.outputs.names.iter().zip(&self.outputs.lent);
+        let shown = lists.map(|(list, lent)| format!("; {}: {}", list.name(), lent.show()));
+        format!("answer: {}{}", self.answer.show(), shown.collect::<String>())
+    }
+}
+
+/// Lends the lists, has them written to, and gives all of them.
+pub fn after(call: &Call, write: impl FnOnce(&mut Outputs) -> Answer) -> After<Answer> {
+    let mut outputs = Outputs::of(call);
+    let answer = write(&mut outputs);
+    After { answer, outputs }
+}
+
+pub fn after_safe(library: &dyn Library, call: &Call) -> After<Answer> {
+    after(call, |outputs| library.safe(call, outputs))
+}
+
+pub fn after_raw(library: &dyn Library, call: &Call) -> After<Lent> {
+    let mut outputs = Outputs::of(call);
+    let fill = call.fill + call.operation.lent.len() as u64 * APART;
+    let mut answer = Lent::filled(call.answer, fill);
+    library.raw(call, &mut outputs, answer.list());
+    After { answer, outputs }
+}
+
+// Comparisons.
+
+/// Compares calls by the C convention with the reference.
+pub fn raw_calls(
+    library: &dyn Library,
+    name: &'static str,
+    inputs: impl IntoIterator<Item = Call>,
+) -> Comparison {
+    compare(
+        name,
+        inputs,
+        REFERENCE_AND_LIBRARY,
+        |call| after_raw(&Reference, call),
+        |call| after_raw(library, call),
+    )
+}
+
+/// Compares safe calls with the reference.
+pub fn safe_calls(
+    library: &dyn Library,
+    name: &'static str,
+    inputs: impl IntoIterator<Item = Call>,
+) -> Comparison {
+    compare(
+        name,
+        inputs,
+        REFERENCE_AND_LIBRARY,
+        |call| after_safe(&Reference, call),
+        |call| after_safe(library, call),
+    )
+}
+
+/// Compares the safe call of a case with what the paper has for it: an answer, and for each lent
+/// list what it holds, if it is written to.
+pub fn case(
+    library: &dyn Library,
+    name: &'static str,
+    call: Call,
+    due: Answer,
+    lists: &[Option<&[u64]>],
+) -> Comparison {
+    let write = |outputs: &mut Outputs| {
+        for (lent, due) in outputs.lent.iter_mut().zip(lists) {
+            if let Some(due) = due {
+                lent.list().copy_from_slice(due);
+            }
+        }
+        due
+    };
+    compare(
+        name,
+        [Fixed(call)],
+        PAPER_AND_LIBRARY,
+        |Fixed(call)| after(call, write),
+        |Fixed(call)| after_safe(library, call),
+    )
+}
