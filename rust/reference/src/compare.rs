@@ -108,9 +108,9 @@ pub fn compare_on_threads<I: Input + Sync, A: PartialEq + Show>(
 const THREADS: usize = 4;
 
 /// Asks about each input. The answers are in the order of the inputs.
-fn on_threads<I: Sync>(inputs: &[I], ask: impl Fn(&I) -> bool + Sync) -> Vec<bool> {
+fn on_threads<I: Sync, A: Send>(inputs: &[I], ask: impl Fn(&I) -> A + Sync) -> Vec<A> {
     let share = inputs.len().div_ceil(THREADS).max(1);
-    let ask_all = |share: &[I]| -> Vec<bool> { share.iter().map(&ask).collect() };
+    let ask_all = |share: &[I]| -> Vec<A> { share.iter().map(&ask).collect() };
     thread::scope(|scope| {
         let start = |share| scope.spawn(move || ask_all(share));
         let threads: Vec<_> = inputs.chunks(share).map(start).collect();

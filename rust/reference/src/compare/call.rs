@@ -24,9 +24,13 @@ pub enum Number {
 impl Number {
     const NAMES: [&'static str; 6] = ["k", "rate", "step", "offset", "challenge", "layer"];
 
+    pub fn name(self) -> &'static str {
+        Number::NAMES[self as usize]
+    }
+
     /// Elements are shown in hexadecimal.
     fn show(self, number: u64) -> String {
-        let name = Number::NAMES[self as usize];
+        let name = self.name();
         match self {
             Number::Offset | Number::Challenge => format!("{name} {number:x}"),
             _ => format!("{name} {number}"),
@@ -205,6 +209,7 @@ impl Input for Call {
     fn simpler(&self) -> Vec<Call> {
         let mut all = self.with_lower_parameters();
         all.push(self.clone().without_lists());
+        all.push(self.with_zeros());
         for list in self.operation.all_lists() {
             all.extend(self.with_simpler_list(list));
         }
@@ -220,6 +225,15 @@ impl Input for Call {
 impl Call {
     fn is_small(&self) -> bool {
         is_small(self.k() as usize)
+    }
+
+    /// A run of zeros is honest, whatever the challenges are.
+    fn with_zeros(&self) -> Call {
+        let mut call = self.clone();
+        for list in [List::Given, List::Store, List::Last] {
+            call[list].fill(0);
+        }
+        call
     }
 
     /// Lists are as much too long or too short as they were. Small calls are mended as well,

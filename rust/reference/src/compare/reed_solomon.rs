@@ -289,3 +289,7 @@ fn table_a(library: &dyn Library) -> Vec<Comparison> {
         case("case M of table A, interpolate", m(&INTERPOLATE), refusal, None),
     ]
 }
+
+/// Each comparison is shown to fail for a library that is wrong.
+#[cfg(test)]
+mod tests;

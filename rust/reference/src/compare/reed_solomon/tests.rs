@@ -1,0 +1,209 @@
+use super::*;
+use crate::compare::wrong::{
+    alike, and_then, first_of_all, hold_table, instead, is_refused, refusing, right, right_library,
+    row, shared_rows, Others, Row, Wrong,
+};
+use crate::coset::first_dependent;
+
+/// Few and small enough to run without optimisation.
+const FEW: Amounts = Amounts {
+    encodings: [5, 15, 15, 15, 5, 0, 0, 1, 0, 0, 0, 0, 0],
+    interpolations: [5, 15, 15, 15, 5, 0, 0, 1, 0, 0, 0, 0, 0],
+    round_trips: [5, 15, 15, 5, 0, 0, 0, 0, 0, 0, 0, 0, 0],
+    refused: refused::Amounts {
+        out_of_range: &[(13, 13), (32, 0), (32 + 12, 12), (64, 0), (256 + 12, 12)],
+        dimensions: &[0, 1, 2, 3, 4],
+        too_small: 0,
+        several_lists: 200,
+        largest_dependent: 4,
+        several_causes: 3,
+        every_sort: (&[0, 1, 2, 3, 4], 5),
+    },
+};
+
+// The comparisons that a mistake of one sort shows in, of both operations or of one.
+
+const SMALL: &str = "k 0 to 6";
+const LARGE: &str = "k 7 to 12";
+const TRIP: &str = "interpolate after encode gives the coefficients";
+const OTHER_TRIP: &str = "encode after interpolate gives the word";
+const SAFE: &str = "safe calls";
+const E_ENCODE: &str = "case E of table A, encode";
+const E_INTERPOLATE: &str = "case E of table A, interpolate";
+const ENCODE_SMALL: &str = "encode, k 0 to 6";
+const ENCODE_LARGE: &str = "encode, k 7 to 12";
+const ENCODE_SAFE: &str = "encode, safe calls";
+const INTERPOLATE_SMALL: &str = "interpolate, k 0 to 6";
+
+const OF_ENCODE: Others = Others {
+    right: &[ENCODE_SMALL, ENCODE_LARGE],
+    safely: &[TRIP, OTHER_TRIP, E_ENCODE],
+    dependent: &["case M of table A, encode"],
+};
+
+const OF_INTERPOLATE: Others = Others {
+    right: &[INTERPOLATE_SMALL, "interpolate, k 7 to 12"],
+    safely: &[TRIP, OTHER_TRIP, E_INTERPOLATE],
+    dependent: &["case M of table A, interpolate"],
+};
+
+/// With the call changed if it is one of encoding.
+fn encoding_instead(change: impl Fn(&mut Call) + Send + Sync + 'static) -> Wrong {
+    instead(move |mut call| {
+        change(&mut call);
+        call
+    })
+    .of(&ENCODE)
+}
+
+/// Round trips stay silent where both directions are wrong alike.
+fn rows() -> Vec<Row<Wrong>> {
+    let points_from_0 = |call: Call| {
+        let powers = (0..call.k()).map(|place| 1 << place).collect();
+        call.with(Number::Offset, 0).with_list(List::Basis, powers)
+    };
+    vec![
+        // The coset of case E has no offset.
+        row("the offset is ignored", instead(|call| call.with(Number::Offset, 0)))
+            .differs(&[SMALL, LARGE, SAFE])
+            .smallest(SMALL, "offset 1; basis: 1; list 3: 0, 1; list 6 of length 2;"),
+        row("the points are 0, 1, 2 and so on", instead(points_from_0))
+            .differs(&[SMALL, LARGE, SAFE]),
+        row(
+            "the points go by the bits from above",
+            instead(|mut call| {
+                call[List::Basis].reverse();
+                call
+            }),
+        )
+        .differs(&[SMALL, LARGE, SAFE, E_ENCODE, E_INTERPOLATE])
+        .smallest(SMALL, "offset 0; basis: 1, 2; list 3: 0, 1; list 6 of length 4;"),
+        row(
+            "the top bit of the offset is lost",
+            instead(|mut call| {
+                call[Number::Offset] &= u64::MAX >> 1;
+                call
+            }),
+        )
+        .differs(&[SMALL])
+        .among_others()
+        .smallest(SMALL, "offset 8000000000000000; basis: 1; list 3: 0, 1; list 6 of length 2;"),
+        row(
+            "the last coefficient is not encoded",
+            encoding_instead(|call| {
+                call[List::Given].pop();
+            }),
+        )
+        .differs(&[ENCODE_SMALL, ENCODE_LARGE, TRIP, OTHER_TRIP, ENCODE_SAFE, E_ENCODE])
+        .smallest(ENCODE_SMALL, "offset 0; basis: nothing; list 3: 1; list 6 of length 1;"),
+        row(
+            "coefficients left off are one",
+            encoding_instead(|call| {
+                let points = call[List::Output].len();
+                call[List::Given].resize(points, 1)
+            }),
+        )
+        .differs(&[ENCODE_SMALL, TRIP, ENCODE_SAFE, E_ENCODE])
+        .smallest(ENCODE_SMALL, "offset 0; basis: nothing; list 3: nothing; list 6 of length 1;"),
+        row("the constant comes last", alike(with_the_constant_last)).differs(&[
+            SMALL,
+            LARGE,
+            SAFE,
+            E_ENCODE,
+            E_INTERPOLATE,
+        ]),
+        row(
+            "the constant is wrong if the first value has its top bit",
+            and_then(|call, outputs| outputs.first()[0] ^= call[List::Given][0] >> 63)
+                .of(&INTERPOLATE),
+        )
+        .differs(&[INTERPOLATE_SMALL, TRIP, OTHER_TRIP])
+        .among_others()
+        .smallest(
+            INTERPOLATE_SMALL,
+            "offset 0; basis: nothing; list 3: 8000000000000000; list 6 of length 1;",
+        ),
+        row("the last number is not written", not_writing(|output| output.len().saturating_sub(1)))
+            .differs(&[SMALL, LARGE, TRIP, OTHER_TRIP, SAFE, E_ENCODE, E_INTERPOLATE])
+            .smallest(
+                INTERPOLATE_SMALL,
+                "offset 0; basis: nothing; list 3: 0; list 6 of length 1;",
+            ),
+        row(
+            "zeros at the end are not written",
+            not_writing(|output| {
+                output.iter().rposition(|&number| number != 0).map_or(0, |n| n + 1)
+            }),
+        )
+        .differs(&[INTERPOLATE_SMALL, TRIP, E_INTERPOLATE])
+        .agrees(&[E_ENCODE]),
+        row(
+            "fewer coefficients than points are refused",
+            refusing_lengths(|given, points| given < points),
+        )
+        .differs(&[ENCODE_SMALL, TRIP, ENCODE_SAFE, E_ENCODE]),
+        row(
+            "as many coefficients as points are refused",
+            refusing_lengths(|given, points| given == points),
+        )
+        .differs(&[ENCODE_SMALL, ENCODE_LARGE, TRIP, OTHER_TRIP, ENCODE_SAFE])
+        .smallest(ENCODE_SMALL, "offset 0; basis: nothing; list 3: 0; list 6 of length 1;"),
+        row(
+            "only right calls of large dimensions are taken",
+            refusing(4, |call, answer| {
+                let independent = first_dependent(&call[List::Basis]).is_none();
+                let lengths = [List::Given, List::Output].map(|list| call[list].len());
+                let fitting = lengths[0] > 0 && lengths[0] == lengths[1];
+                match independent && fitting && call.k() > 13 {
+                    true => done(),
+                    false => answer,
+                }
+            }),
+        )
+        .differs(&["k over 12"]),
+    ]
+}
+
+fn with_the_constant_last(call: &Call, outputs: &mut Outputs) -> Answer {
+    if is_refused(call) {
+        return right(call, outputs);
+    }
+    let mut other = call.clone();
+    if call.operation == &ENCODE {
+        other[List::Given].resize(call[List::Output].len(), 0);
+        other[List::Given].reverse();
+    }
+    let answer = right(&other, outputs);
+    if call.operation == &INTERPOLATE {
+        outputs.first().reverse();
+    }
+    answer
+}
+
+/// Leaves the numbers of a list from a place on as they were.
+fn not_writing(from: fn(&[u64]) -> usize) -> Wrong {
+    alike(move |call, outputs| {
+        let before = outputs.first().to_vec();
+        let answer = right(call, outputs);
+        let output = outputs.first();
+        let from = from(output);
+        output[from..].copy_from_slice(&before[from..]);
+        answer
+    })
+}
+
+/// Refuses to encode for how many coefficients there are beside points.
+fn refusing_lengths(wrong: fn(usize, usize) -> bool) -> Wrong {
+    first_of_all(move |call| {
+        let lengths = wrong(call[List::Given].len(), call[List::Output].len());
+        (lengths && !is_refused(call)).then(|| refused_at(13, 3))
+    })
+    .of(&ENCODE)
+}
+
+#[test]
+fn wrong_libraries_differ_as_they_should() {
+    let shared = [shared_rows(&ENCODE, &OF_ENCODE), shared_rows(&INTERPOLATE, &OF_INTERPOLATE)];
+    let rows: Vec<Row<Wrong>> = shared.into_iter().flatten().chain(rows()).collect();
+    hold_table(&right_library(), &rows, |library| comparisons(library, &FEW));
+}
