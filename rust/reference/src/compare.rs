@@ -152,17 +152,15 @@ fn comparison<I: Input, A: Show + PartialEq>(
     Comparison { name, inputs: compared, difference }
 }
 
-/// Goes to a simpler input for as long as one differs as well. It ends because
-/// the size falls in each step.
+/// Goes to a simpler input for as long as one differs as well, the smallest of them first. It ends
+/// because the size falls in each step.
 fn shrink<I: Input>(input: I, differs: impl Fn(&I) -> bool) -> I {
     let mut smallest = input;
     loop {
-        let next = smallest
-            .simpler()
-            .into_iter()
-            .filter(|simpler| simpler.size() < smallest.size() && differs(simpler))
-            .min_by_key(I::size);
-        match next {
+        let mut simpler = smallest.simpler();
+        simpler.retain(|simpler| simpler.size() < smallest.size());
+        simpler.sort_by_cached_key(I::size);
+        match simpler.into_iter().find(&differs) {
             Some(input) => smallest = input,
             None => return smallest,
         }

@@ -17,7 +17,7 @@ fn main() -> ExitCode {
     let parts = [
         compare::field::comparisons(&compare::field::RAZGWILH, &compare::field::FULL),
         compare::reed_solomon::comparisons(&Razgwilh, &compare::reed_solomon::FULL),
-        compare::fold::comparisons(&compare::fold::RAZGWILH, &compare::fold::FULL),
+        compare::fold::comparisons(&Razgwilh, &compare::fold::FULL),
         compare::protocol::comparisons(&compare::protocol::RAZGWILH, &compare::protocol::FULL),
         transcripts.comparisons,
     ];

@@ -5,7 +5,7 @@ use super::lists::{
 };
 use super::operation::Operation;
 use super::{Input, Show};
-use crate::answer::ANSWER_LENGTH;
+use crate::answer::{Answer, ANSWER_LENGTH};
 use crate::compare::lent::FILLS;
 use std::collections::BTreeSet;
 use std::ops::{Index, IndexMut, Range};
@@ -134,6 +134,16 @@ impl Call {
         self.with_list(list, vec![0; length])
     }
 
+    /// With zeros in as many places as are due.
+    pub fn with_due_length(self, list: List) -> Call {
+        let due = self.due_length(list);
+        self.with_length(list, due)
+    }
+
+    pub fn with_fill(self, fill: u64) -> Call {
+        Call { fill, ..self }
+    }
+
     /// The dimension. Operations that are not given it take the length of the basis for it.
     pub fn k(&self) -> u64 {
         if self.operation.takes(Number::K) {
@@ -141,6 +151,11 @@ impl Call {
         } else {
             self[List::Basis].len() as u64
         }
+    }
+
+    /// The refusal that is due before the work begins.
+    pub fn refusal(&self) -> Option<Answer> {
+        (self.operation.refusal)(self)
     }
 
     pub fn due_length(&self, list: List) -> usize {
@@ -223,7 +238,7 @@ impl Input for Call {
 }
 
 impl Call {
-    fn is_small(&self) -> bool {
+    pub fn is_small(&self) -> bool {
         is_small(self.k() as usize)
     }
 

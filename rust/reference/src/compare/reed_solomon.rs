@@ -245,7 +245,7 @@ fn round_trips(library: &dyn Library, amounts: &Turns) -> [Comparison; 2] {
 /// The list itself, with zeros for coefficients that were left off. A call that is refused, as
 /// smaller ones may be, gives nothing back.
 fn trip_due(call: &Call) -> Option<Trip> {
-    if (call.operation.refusal)(call).is_some() {
+    if call.refusal().is_some() {
         return None;
     }
     let mut list = call[List::Given].clone();
@@ -254,7 +254,7 @@ fn trip_due(call: &Call) -> Option<Trip> {
 }
 
 fn trip_of_library(library: &dyn Library, call: &Call, back: &'static Operation) -> Option<Trip> {
-    if (call.operation.refusal)(call).is_some() {
+    if call.refusal().is_some() {
         return None;
     }
     let mut there = after_safe(library, call);

@@ -18,13 +18,15 @@ pub struct Row<L> {
     differ: Vec<String>,
     /// Those that must agree; all others, if this is not said.
     agree: Option<Vec<String>>,
+    /// Those of which nothing is said unless they must differ.
+    unsaid: &'static [&'static str],
     /// Comparisons, and what the smallest input that is shown for them must hold.
     smallest: Vec<(String, String)>,
 }
 
 pub fn row<L>(what: impl Into<String>, library: L) -> Row<L> {
     let (differ, smallest) = (Vec::new(), Vec::new());
-    Row { what: what.into(), library, differ, agree: None, smallest }
+    Row { what: what.into(), library, differ, agree: None, unsaid: &[], smallest }
 }
 
 impl<L> Row<L> {
@@ -58,7 +60,11 @@ impl<L> Row<L> {
             let name = comparison.name;
             let is_named = |names: &[String]| names.iter().any(|end| name.ends_with(end));
             let must_differ = is_named(&self.differ);
-            let must_agree = self.agree.as_ref().map_or(!must_differ, |agree| is_named(agree));
+            let is_unsaid = self.unsaid.iter().any(|end| name.ends_with(end));
+            let must_agree = match &self.agree {
+                Some(agree) => is_named(agree),
+                None => !must_differ && !is_unsaid,
+            };
             if (comparison.agrees() && must_differ) || (!comparison.agrees() && must_agree) {
                 let does = if comparison.agrees() { "agrees" } else { "differs" };
                 faults.push(format!("{}: {name} {does}", self.what));
@@ -138,6 +144,14 @@ impl Wrong {
     }
 }
 
+impl Row<Wrong> {
+    /// Only this operation is wrong, unless the row has another one.
+    pub fn of(mut self, operation: &'static Operation) -> Row<Wrong> {
+        self.library.operation.get_or_insert(operation);
+        self
+    }
+}
+
 /// The reference as one of these.
 pub fn right_library() -> Wrong {
     alike(right)
@@ -170,7 +184,7 @@ pub fn right(call: &Call, outputs: &mut Outputs) -> Answer {
 }
 
 pub fn is_refused(call: &Call) -> bool {
-    (call.operation.refusal)(call).is_some()
+    call.refusal().is_some()
 }
 
 /// Does what is right for another call, whose lent lists may be shorter.
@@ -360,6 +374,9 @@ pub struct Others {
     pub safely: &'static [&'static str],
     /// Those of safe calls with a dependent basis.
     pub dependent: &'static [&'static str],
+    /// Those of calls that are refused for other causes among others: what they show of a mistake is
+    /// left open.
+    pub unsaid: &'static [&'static str],
 }
 
 /// The names of the comparisons that are made from the description of an operation.
@@ -424,12 +441,8 @@ pub fn shared_rows(operation: &'static Operation, others: &Others) -> Vec<Row<Wr
         wrong_dimensions(operation),
         wrong_settings(operation),
     ];
-    let of_operation = |row: Row<Wrong>| Row {
-        what: format!("{}: {}", operation.name, row.what),
-        library: row.library.of(operation),
-        ..row
-    };
-    all.into_iter().flatten().map(of_operation).collect()
+    let unsaid = others.unsaid;
+    all.into_iter().flatten().map(|row| Row { unsaid, ..row.of(operation) }).collect()
 }
 
 fn wrong_writing(operation: &'static Operation, others: &Others) -> Vec<Row<Wrong>> {
@@ -612,12 +625,14 @@ fn wrong_order(operation: &'static Operation) -> Vec<Row<Wrong>> {
     }
     let dependent_before = |number| {
         first_of_all(move |call| {
-            let refusal = (call.operation.refusal)(call)?;
+            let refusal = call.refusal()?;
             dependent(&call[List::Basis]).filter(|_| refusal.number == number)
         })
     };
     rows.push(
-        row("the basis comes before the lists", dependent_before(13)).differs(&[&names.several]),
+        row("the basis comes before the lists", dependent_before(13))
+            .differs(&[&names.several])
+            .agrees(&names.bases),
     );
     rows.push(
         row("the basis comes before the dimension", dependent_before(4))
@@ -629,7 +644,7 @@ fn wrong_order(operation: &'static Operation) -> Vec<Row<Wrong>> {
         row(
             "the lists come before the dimension",
             first_of_all(|call| {
-                let refusal = (call.operation.refusal)(call)?;
+                let refusal = call.refusal()?;
                 let mut others = causes(call).into_iter().filter(|cause| cause.number == 13);
                 others.next().filter(|_| refusal.number == 4)
             }),

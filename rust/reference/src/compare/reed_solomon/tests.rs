@@ -39,12 +39,14 @@ const OF_ENCODE: Others = Others {
     right: &[ENCODE_SMALL, ENCODE_LARGE],
     safely: &[TRIP, OTHER_TRIP, E_ENCODE],
     dependent: &["case M of table A, encode"],
+    unsaid: &[],
 };
 
 const OF_INTERPOLATE: Others = Others {
     right: &[INTERPOLATE_SMALL, "interpolate, k 7 to 12"],
     safely: &[TRIP, OTHER_TRIP, E_INTERPOLATE],
     dependent: &["case M of table A, interpolate"],
+    unsaid: &[],
 };
 
 /// With the call changed if it is one of encoding.
