@@ -13,10 +13,10 @@ use super::{PAPER_AND_LIBRARY, REFERENCE_AND_LIBRARY};
 use crate::answer::{refused_at, went_well, Answer};
 use crate::coset::points;
 use crate::field;
-use crate::fold::{self, Folded, DIMENSIONS, STEPS};
+use crate::fold::{self, Fold, Folded, DIMENSIONS, STEPS};
 use crate::polynomial::value;
 use crate::random::Random;
-use razgwilh::Fold;
+
 use std::ops::RangeInclusive;
 
 pub static FOLD: Operation = Operation {

@@ -1,33 +1,52 @@
-//! The functions of the verified library as the comparisons call them. Nothing else here knows
-//! how it is called.
+//! The functions of the verified library as the comparisons call them. Nothing else here knows how
+//! it is called.
 
 use super::call::{Call, List, Number};
 use super::operation::Outputs;
-use crate::answer::{went_well, Answer};
+use crate::answer::{accepted, done, went_well, Answer, DEGREE_TOO_HIGH};
+use razgwilh::{raw, Fold, Refusal, Run};
+
+/// The refusal as an answer. A prover's degree is also the value of a raw answer.
+fn refusal(refusal: Refusal) -> Answer {
+    let Refusal { cause, place, round, reads } = refusal;
+    let number = cause.number();
+    let value = place.filter(|_| number == DEGREE_TOO_HIGH);
+    Answer { number, place, round, reads, value }
+}
+
+fn answer_of(result: Result<(), Refusal>) -> Answer {
+    result.map_or_else(refusal, |()| done())
+}
+
+// Encoding and interpolation.
 
 pub fn encode(call: &Call, outputs: &mut Outputs) -> Answer {
-    razgwilh::encode(call[Number::Offset], &call[List::Basis], &call[List::Given], outputs.first())
+    let (basis, given) = (&call[List::Basis], &call[List::Given]);
+    answer_of(razgwilh::encode(call[Number::Offset], basis, given, outputs.first()))
 }
 
 pub fn raw_encode(call: &Call, outputs: &mut Outputs, answer: &mut [u64]) {
     let (basis, given) = (&call[List::Basis], &call[List::Given]);
-    razgwilh::encode_into(call[Number::Offset], basis, given, outputs.first(), answer)
+    raw::encode(call[Number::Offset], basis, given, outputs.first(), answer)
 }
 
 pub fn interpolate(call: &Call, outputs: &mut Outputs) -> Answer {
     let (basis, given) = (&call[List::Basis], &call[List::Given]);
-    razgwilh::interpolate(call[Number::Offset], basis, given, outputs.first())
+    answer_of(razgwilh::interpolate(call[Number::Offset], basis, given, outputs.first()))
 }
 
 pub fn raw_interpolate(call: &Call, outputs: &mut Outputs, answer: &mut [u64]) {
     let (basis, given) = (&call[List::Basis], &call[List::Given]);
-    razgwilh::interpolate_into(call[Number::Offset], basis, given, outputs.first(), answer)
+    raw::interpolate(call[Number::Offset], basis, given, outputs.first(), answer)
 }
 
-fn fold_of(call: &Call) -> razgwilh::Fold<'_> {
-    razgwilh::Fold {
-        k: call[Number::K] as usize,
-        step: call[Number::Step] as usize,
+// The fold.
+
+fn fold_of(call: &Call) -> Fold<'_> {
+    let [k, _, step] = parameters_of(call);
+    Fold {
+        k,
+        step,
         offset: call[Number::Offset],
         basis: &call[List::Basis],
         word: &call[List::Given],
@@ -37,19 +56,22 @@ fn fold_of(call: &Call) -> razgwilh::Fold<'_> {
 
 pub fn fold(call: &Call, outputs: &mut Outputs) -> Answer {
     let [values, next_basis] = outputs.lists();
-    razgwilh::fold(fold_of(call), values, next_basis)
+    razgwilh::fold(fold_of(call), values, next_basis).map_or_else(refusal, went_well)
 }
 
 pub fn raw_fold(call: &Call, outputs: &mut Outputs, answer: &mut [u64]) {
     let [values, next_basis] = outputs.lists();
-    razgwilh::fold_into(fold_of(call), values, next_basis, answer)
+    raw::fold(fold_of(call), values, next_basis, answer)
 }
 
-fn run_of(call: &Call) -> razgwilh::Run<'_> {
-    razgwilh::Run {
-        k: call[Number::K] as usize,
-        rate: call[Number::Rate] as usize,
-        step: call[Number::Step] as usize,
+// The protocol.
+
+fn run_of(call: &Call) -> Run<'_> {
+    let [k, rate, step] = parameters_of(call);
+    Run {
+        k,
+        rate,
+        step,
         offset: call[Number::Offset],
         basis: &call[List::Basis],
         challenges: &call[List::Challenges],
@@ -57,28 +79,29 @@ fn run_of(call: &Call) -> razgwilh::Run<'_> {
     }
 }
 
+fn parameters_of(call: &Call) -> [usize; 3] {
+    [Number::K, Number::Rate, Number::Step].map(|number| call[number] as usize)
+}
+
 pub fn prove(call: &Call, outputs: &mut Outputs) -> Answer {
     let [store, last] = outputs.lists();
-    razgwilh::prove(run_of(call), store, last)
+    answer_of(razgwilh::prove(run_of(call), store, last))
 }
 
 pub fn raw_prove(call: &Call, outputs: &mut Outputs, answer: &mut [u64]) {
     let [store, last] = outputs.lists();
-    razgwilh::prove_into(run_of(call), store, last, answer)
+    raw::prove(run_of(call), store, last, answer)
 }
 
 pub fn judge(call: &Call, _: &mut Outputs) -> Answer {
     let [queries, store, last] = [List::Queries, List::Store, List::Last].map(|list| &call[list]);
-    razgwilh::judge(run_of(call), queries, store, last)
+    let verdict = razgwilh::judge(run_of(call), queries, store, last);
+    verdict.map_or_else(refusal, |verdict| accepted(verdict.reads))
 }
 
 pub fn raw_judge(call: &Call, _: &mut Outputs, answer: &mut [u64]) {
     let [queries, store, last] = [List::Queries, List::Store, List::Last].map(|list| &call[list]);
-    razgwilh::judge_into(run_of(call), queries, store, last, answer)
-}
-
-fn parameters_of(call: &Call) -> [usize; 3] {
-    [Number::K, Number::Rate, Number::Step].map(|number| call[number] as usize)
+    raw::judge(run_of(call), queries, store, last, answer)
 }
 
 /// The part as the answer of a raw call has it: where it begins in the store, and its length.
@@ -95,6 +118,20 @@ pub fn layer(call: &Call, _: &mut Outputs) -> Answer {
 
 pub fn raw_layer(call: &Call, _: &mut Outputs, answer: &mut [u64]) {
     let [k, rate, step] = parameters_of(call);
-    let store = &call[List::Store];
-    razgwilh::layer_into(k, rate, step, store, call[Number::Layer] as usize, answer)
+    raw::layer(k, rate, step, &call[List::Store], call[Number::Layer] as usize, answer)
+}
+
+pub fn rounds(call: &Call, _: &mut Outputs) -> Answer {
+    let [k, rate, step] = parameters_of(call);
+    went_well(razgwilh::rounds(k, rate, step) as u64)
+}
+
+pub fn store_length(call: &Call, _: &mut Outputs) -> Answer {
+    let [k, rate, step] = parameters_of(call);
+    went_well(razgwilh::store_length(k, rate, step) as u64)
+}
+
+pub fn last_length(call: &Call, _: &mut Outputs) -> Answer {
+    let [k, rate, step] = parameters_of(call);
+    went_well(razgwilh::last_length(k, rate, step) as u64)
 }
