@@ -165,7 +165,7 @@ fn all_right_calls(random: &mut Random, amounts: &Turns) -> Vec<Call> {
 
 /// One call of each dimension with each step, made when it is needed.
 fn large_calls(mut random: Random, dimensions: &[u64]) -> impl Iterator<Item = Call> {
-    let settings = FOLD.all_settings(dimensions.iter().copied()).into_iter();
+    let settings = FOLD.all_settings(dimensions).into_iter();
     settings.map(move |[k, _, step]| right(&mut random, k, step, 0))
 }
 

@@ -96,9 +96,15 @@ impl Operation {
         lists
     }
 
+    /// The numbers that have a range of their own, whatever the dimension is.
+    pub fn ranged(&self) -> Vec<Number> {
+        let numbers = [Number::Rate, Number::Step].into_iter();
+        numbers.filter(|&number| self.takes(number)).collect()
+    }
+
     /// All right settings of some dimensions.
-    pub fn all_settings(&self, dimensions: impl IntoIterator<Item = u64>) -> Vec<Setting> {
-        dimensions.into_iter().flat_map(self.settings).collect()
+    pub fn all_settings(&self, dimensions: &[u64]) -> Vec<Setting> {
+        dimensions.iter().flat_map(|&k| (self.settings)(k)).collect()
     }
 
     /// The name of a comparison. Names are few, and live as long as the program.

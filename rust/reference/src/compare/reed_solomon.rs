@@ -151,9 +151,9 @@ fn right_calls(
     amounts: &Turns,
 ) -> Vec<Call> {
     let mut calls = Vec::new();
-    for setting in operation.all_settings(dimensions) {
-        let turns = 0..amounts[setting[0] as usize];
-        calls.extend(turns.map(|turn| (operation.right)(random, setting, turn)));
+    for k in dimensions {
+        let turns = 0..amounts[k as usize];
+        calls.extend(turns.map(|turn| (operation.right)(random, [k, 0, 0], turn)));
     }
     calls
 }

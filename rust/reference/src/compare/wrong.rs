@@ -2,12 +2,12 @@
 
 use super::call::{Call, List, Number};
 use super::operation::{after, Library, Operation, Outputs, Reference};
-use super::refused::causes;
-use super::{on_threads, Comparison};
+use super::refused::{causes, range, DEPENDENT};
+use super::Comparison;
 use crate::answer::{done, raw, refused, refused_at, Answer, ANSWER_LENGTH};
 use crate::coset::{first_dependent, point};
 use std::collections::HashSet;
-use std::sync::Arc;
+use std::rc::Rc;
 
 // A table.
 
@@ -57,68 +57,73 @@ impl<L> Row<L> {
     fn faults(&self, comparisons: &[Comparison]) -> Vec<String> {
         let mut faults = Vec::new();
         for comparison in comparisons {
-            let name = comparison.name;
-            let is_named = |names: &[String]| names.iter().any(|end| name.ends_with(end));
-            let must_differ = is_named(&self.differ);
-            let is_unsaid = self.unsaid.iter().any(|end| name.ends_with(end));
+            let is_in = |names: &[String]| names.iter().any(|end| comparison.name.ends_with(end));
+            let must_differ = is_in(&self.differ);
+            let is_unsaid = self.unsaid.iter().any(|end| comparison.name.ends_with(end));
             let must_agree = match &self.agree {
-                Some(agree) => is_named(agree),
+                Some(agree) => is_in(agree),
                 None => !must_differ && !is_unsaid,
             };
-            if (comparison.agrees() && must_differ) || (!comparison.agrees() && must_agree) {
-                let does = if comparison.agrees() { "agrees" } else { "differs" };
-                faults.push(format!("{}: {name} {does}", self.what));
+            match comparison.agrees() {
+                true if must_differ => faults.push(format!("{} agrees", comparison.name)),
+                false if must_agree => faults.push(format!("{} differs", comparison.name)),
+                _ => (),
             }
         }
         for (name, holds) in &self.smallest {
-            let mut named = comparisons.iter().filter(|one| one.name.ends_with(name));
-            let difference = named.next().and_then(|one| one.difference.as_ref());
-            let shown = difference.map_or("nothing", |difference| &difference.smallest);
+            let shown = smallest(comparisons, name);
             if !shown.contains(holds) {
-                faults.push(format!("{}: {name} shows {shown}", self.what));
+                faults.push(format!("{name} shows {shown}"));
             }
         }
-        let names: Vec<&str> = comparisons.iter().map(|comparison| comparison.name).collect();
-        let all = self.differ.iter().chain(self.agree.iter().flatten());
-        let unknown = all.filter(|end| !names.iter().any(|name| name.ends_with(*end)));
-        faults.extend(unknown.map(|end| format!("{}: no comparison is called {end}", self.what)));
-        faults
+        for end in self.differ.iter().chain(self.agree.iter().flatten()) {
+            if !comparisons.iter().any(|comparison| comparison.name.ends_with(end)) {
+                faults.push(format!("there is no {end}"));
+            }
+        }
+        faults.into_iter().map(|fault| format!("{}: {fault}", self.what)).collect()
     }
+}
+
+/// The names of the comparisons that do not agree.
+pub fn differing(comparisons: &[Comparison]) -> Vec<&'static str> {
+    let wrong = comparisons.iter().filter(|comparison| !comparison.agrees());
+    wrong.map(|comparison| comparison.name).collect()
+}
+
+/// The smallest input of the comparison of this name, if it differs.
+pub fn smallest(comparisons: &[Comparison], name: &str) -> String {
+    let mut named = comparisons.iter().filter(|one| one.name.ends_with(name));
+    let difference = named.next().and_then(|comparison| comparison.difference.as_ref());
+    difference.map_or("nothing".to_string(), |difference| difference.smallest.clone())
 }
 
 /// Holds that the right library agrees with the reference, that each row is as it says, that every
 /// comparison differs for some row, and that no two comparisons have one name.
-pub fn hold_table<L: Sync>(
-    right: &L,
-    rows: &[Row<L>],
-    comparisons: impl Fn(&L) -> Vec<Comparison> + Sync,
-) {
+pub fn hold_table<L>(right: &L, rows: &[Row<L>], comparisons: impl Fn(&L) -> Vec<Comparison>) {
     let all = comparisons(right);
     assert_eq!(differing(&all), [""; 0]);
-    let names: HashSet<&str> = all.iter().map(|comparison| comparison.name).collect();
-    assert_eq!(names.len(), all.len());
-    let checked = on_threads(rows, |row| {
+    let mut never: HashSet<&str> = all.iter().map(|comparison| comparison.name).collect();
+    assert_eq!(never.len(), all.len());
+    let mut faults = Vec::new();
+    for row in rows {
         let comparisons = comparisons(&row.library);
-        (row.faults(&comparisons), differing(&comparisons))
-    });
-    let (faults, failed): (Vec<Vec<String>>, Vec<Vec<&str>>) = checked.into_iter().unzip();
-    let faults = faults.concat();
+        faults.extend(row.faults(&comparisons));
+        for name in differing(&comparisons) {
+            never.remove(name);
+        }
+    }
     assert!(faults.is_empty(), "{}", faults.join("\n"));
-    let failed: HashSet<&str> = failed.concat().into_iter().collect();
-    let never: Vec<&&str> = names.iter().filter(|name| !failed.contains(*name)).collect();
     assert!(never.is_empty(), "no wrong library shows in {never:?}");
 }
 
 // Libraries with one mistake.
 
-type Safe = Arc<dyn Fn(&Call, &mut Outputs) -> Answer + Send + Sync>;
-type Raw = Arc<dyn Fn(&Call, &mut Outputs, &mut [u64]) + Send + Sync>;
-
 /// The reference with another behaviour, of all operations or of one.
 pub struct Wrong {
     operation: Option<&'static Operation>,
-    safe: Safe,
-    raw: Raw,
+    safe: Rc<dyn Fn(&Call, &mut Outputs) -> Answer>,
+    raw: Rc<dyn Fn(&Call, &mut Outputs, &mut [u64])>,
 }
 
 impl Library for Wrong {
@@ -158,20 +163,18 @@ pub fn right_library() -> Wrong {
 }
 
 /// Both the safe call and that by the C convention behave like this.
-pub fn alike(behaviour: impl Fn(&Call, &mut Outputs) -> Answer + Send + Sync + 'static) -> Wrong {
-    let safe = Arc::new(behaviour);
+pub fn alike(behaviour: impl Fn(&Call, &mut Outputs) -> Answer + 'static) -> Wrong {
+    let safe = Rc::new(behaviour);
     let behaviour = safe.clone();
-    let raw = Arc::new(move |call: &Call, outputs: &mut Outputs, answer: &mut [u64]| {
+    let raw = Rc::new(move |call: &Call, outputs: &mut Outputs, answer: &mut [u64]| {
         into_five(answer, || behaviour(call, outputs))
     });
     Wrong { operation: None, safe, raw }
 }
 
 /// Only the call by the C convention is wrong.
-pub fn raw_alone(
-    behaviour: impl Fn(&Call, &mut Outputs, &mut [u64]) + Send + Sync + 'static,
-) -> Wrong {
-    Wrong { raw: Arc::new(behaviour), ..right_library() }
+pub fn raw_alone(behaviour: impl Fn(&Call, &mut Outputs, &mut [u64]) + 'static) -> Wrong {
+    Wrong { raw: Rc::new(behaviour), ..right_library() }
 }
 
 /// Only the safe call is wrong.
@@ -199,20 +202,17 @@ pub fn as_if(other: Call, outputs: &mut Outputs) -> Answer {
 }
 
 /// Does what is right for another call unless this one is to be refused.
-pub fn instead(other: impl Fn(Call) -> Call + Send + Sync + 'static) -> Wrong {
-    alike(move |call, outputs| match is_refused(call) {
-        true => right(call, outputs),
-        false => as_if(other(call.clone()), outputs),
-    })
+pub fn instead(other: impl Fn(Call) -> Call + 'static) -> Wrong {
+    always_instead(move |call| if is_refused(&call) { call } else { other(call) })
 }
 
 /// Does what is right for another call, whether or not this one is to be refused.
-pub fn always_instead(other: impl Fn(Call) -> Call + Send + Sync + 'static) -> Wrong {
+pub fn always_instead(other: impl Fn(Call) -> Call + 'static) -> Wrong {
     alike(move |call, outputs| as_if(other(call.clone()), outputs))
 }
 
 /// Does what is right, and then something to the lists if that went well.
-pub fn and_then(change: impl Fn(&Call, &mut Outputs) + Send + Sync + 'static) -> Wrong {
+pub fn and_then(change: impl Fn(&Call, &mut Outputs) + 'static) -> Wrong {
     alike(move |call, outputs| {
         let answer = right(call, outputs);
         if answer.number == 0 {
@@ -223,7 +223,7 @@ pub fn and_then(change: impl Fn(&Call, &mut Outputs) + Send + Sync + 'static) ->
 }
 
 /// Does something to the lists of a call that is to be refused.
-pub fn when_refused(change: impl Fn(&Call, &mut Outputs) + Send + Sync + 'static) -> Wrong {
+pub fn when_refused(change: impl Fn(&Call, &mut Outputs) + 'static) -> Wrong {
     alike(move |call, outputs| {
         if is_refused(call) {
             change(call, outputs);
@@ -233,18 +233,12 @@ pub fn when_refused(change: impl Fn(&Call, &mut Outputs) + Send + Sync + 'static
 }
 
 /// Gives another answer, having done what is right.
-pub fn answering(other: impl Fn(&Call, Answer) -> Answer + Send + Sync + 'static) -> Wrong {
-    alike(move |call, outputs| {
-        let answer = right(call, outputs);
-        other(call, answer)
-    })
+pub fn answering(other: impl Fn(&Call, Answer) -> Answer + 'static) -> Wrong {
+    alike(move |call, outputs| other(call, right(call, outputs)))
 }
 
 /// Gives another answer for the refusals of one number.
-pub fn refusing(
-    number: u64,
-    other: impl Fn(&Call, Answer) -> Answer + Send + Sync + 'static,
-) -> Wrong {
+pub fn refusing(number: u64, other: impl Fn(&Call, Answer) -> Answer + 'static) -> Wrong {
     answering(move |call, answer| match answer.number == number && is_refused(call) {
         true => other(call, answer),
         false => answer,
@@ -252,24 +246,8 @@ pub fn refusing(
 }
 
 /// Refuses for a cause before the reference looks for any.
-pub fn first_of_all(cause: impl Fn(&Call) -> Option<Answer> + Send + Sync + 'static) -> Wrong {
+pub fn first_of_all(cause: impl Fn(&Call) -> Option<Answer> + 'static) -> Wrong {
     alike(move |call, outputs| cause(call).unwrap_or_else(|| right(call, outputs)))
-}
-
-// Comparisons.
-
-/// The names of the comparisons that do not agree.
-pub fn differing(comparisons: &[Comparison]) -> Vec<&'static str> {
-    let wrong = comparisons.iter().filter(|comparison| !comparison.agrees());
-    wrong.map(|comparison| comparison.name).collect()
-}
-
-/// The smallest input of the comparison of this name.
-pub fn smallest(comparisons: &[Comparison], name: &str) -> String {
-    let mut named = comparisons.iter().filter(|one| one.name == name);
-    let comparison = named.next().expect("a comparison of this name");
-    let difference = comparison.difference.as_ref();
-    difference.expect("a difference").smallest.clone()
 }
 
 // Answers.
@@ -379,12 +357,12 @@ pub struct Others {
     pub unsaid: &'static [&'static str],
 }
 
-/// The names of the comparisons that are made from the description of an operation.
+/// The comparisons that a mistake of one sort shows in.
 struct Names {
     damaged: String,
     k_out: String,
-    /// Of the rate, the step, and a dimension that is too small for them.
-    settings: Vec<String>,
+    ranges: Vec<String>,
+    too_small: Vec<String>,
     lists: Vec<String>,
     several_lists: String,
     bases: Vec<String>,
@@ -396,26 +374,17 @@ struct Names {
 impl Names {
     fn of(operation: &Operation) -> Names {
         let name = |what: &str| format!("{}, {what}", operation.name);
-        let bases = [
-            "zero in the basis",
-            "a repeated basis element",
-            "a sum of earlier basis elements",
-            "a basis dependent at two places",
-        ];
-        let mut settings = Vec::new();
-        settings.extend(operation.takes(Number::Rate).then(|| name("rate out of range")));
-        if operation.takes(Number::Step) {
-            settings.push(name("step out of range"));
-            settings.push(name(&format!("k below {}", operation.least_k)));
-        }
+        let out_of_range = |number: Number| name(&format!("{} out of range", number.name()));
         let of_list = |list: List| name(&format!("list {} of a wrong length", list.number()));
+        let too_small = name(&format!("k below {}", operation.least_k));
         Names {
             damaged: name(&format!("{} and damaged", operation.k_out_of_range)),
             k_out: name(operation.k_out_of_range),
-            settings,
+            ranges: operation.ranged().into_iter().map(out_of_range).collect(),
+            too_small: operation.takes(Number::Step).then_some(too_small).into_iter().collect(),
             lists: operation.lists().into_iter().map(of_list).collect(),
             several_lists: name(operation.several_lists),
-            bases: bases.map(name).to_vec(),
+            bases: DEPENDENT.map(|(what, _)| name(what)).to_vec(),
             several: name("several causes"),
             other_answer: format!("{} with an answer list of another length", operation.name),
             safe: name("safe calls"),
@@ -423,98 +392,81 @@ impl Names {
     }
 
     /// All comparisons of calls by the C convention that are refused and answered.
-    fn refused(&self) -> Vec<String> {
+    fn refused(&self) -> Vec<&str> {
         let alone = [&self.damaged, &self.k_out, &self.several_lists, &self.several];
-        let alone: Vec<String> = alone.into_iter().cloned().collect();
-        [alone, self.settings.clone(), self.lists.clone(), self.bases.clone()].concat()
+        let groups = [&self.ranges, &self.too_small, &self.lists, &self.bases];
+        let all = alone.into_iter().chain(groups.into_iter().flatten());
+        all.map(String::as_str).collect()
     }
 }
 
 /// The mistakes that every operation could make.
 pub fn shared_rows(operation: &'static Operation, others: &Others) -> Vec<Row<Wrong>> {
+    let names = &Names::of(operation);
     let all = [
-        wrong_writing(operation, others),
-        wrong_answers(operation, others),
-        wrong_lists(operation),
-        wrong_order(operation),
-        wrong_bases(operation, others),
-        wrong_dimensions(operation),
-        wrong_settings(operation),
+        wrong_writing(operation, others, names),
+        wrong_answers(operation, others, names),
+        wrong_lists(operation, names),
+        wrong_order(operation, names),
+        wrong_bases(others, names),
+        wrong_dimensions(operation, names),
+        wrong_ranges(operation, names),
     ];
     let unsaid = others.unsaid;
     all.into_iter().flatten().map(|row| Row { unsaid, ..row.of(operation) }).collect()
 }
 
-fn wrong_writing(operation: &'static Operation, others: &Others) -> Vec<Row<Wrong>> {
-    let names = Names::of(operation);
-    let refused = [names.refused(), vec![names.safe.clone()]].concat();
-    let mut rows = vec![row(
-        "nothing is done",
-        Wrong { raw: Arc::new(|_, _, _| ()), ..alike(|_, _| refused_at(0, 0)) },
-    )
-    .differs(&refused)
-    .differs(others.right)
-    .differs(others.safely)
-    .agrees(&[names.other_answer])];
-    if operation.lent.is_empty() {
-        return rows;
-    }
-    rows.push(
-        row(
-            "a refusal clears the lists",
-            when_refused(|_, outputs| outputs.lent.iter_mut().for_each(|lent| lent.list().fill(0))),
-        )
+fn wrong_writing(operation: &Operation, others: &Others, names: &Names) -> Vec<Row<Wrong>> {
+    let nothing = Wrong { raw: Rc::new(|_, _, _| ()), ..alike(|_, _| refused_at(0, 0)) };
+    let clearing =
+        when_refused(|_, outputs| outputs.lent.iter_mut().for_each(|lent| lent.list().fill(0)));
+    let refused = [&names.refused()[..], &[&names.safe], others.dependent].concat();
+    let mut rows = vec![row("nothing is done", nothing)
         .differs(&refused)
-        .differs(others.dependent),
-    );
+        .differs(others.right)
+        .differs(others.safely)
+        .agrees(&[&names.other_answer])];
+    if !operation.lent.is_empty() {
+        rows.push(row("a refusal clears the lists", clearing).differs(&refused));
+    }
     for (place, list) in operation.lent.iter().enumerate() {
-        let first_of_list = when_refused(move |_, outputs| {
+        let first_number = when_refused(move |_, outputs| {
             outputs.lent[place].list().iter_mut().take(1).for_each(|first| *first ^= 1)
         });
         // Of dimensions out of range only the first is left, which may leave the list empty.
-        let differing: Vec<&String> = refused.iter().filter(|name| **name != names.k_out).collect();
-        rows.push(
-            row(format!("a refusal writes to {}", list.name()), first_of_list)
-                .differs(&differing)
-                .differs(others.dependent)
-                .agrees(others.right),
-        );
+        let mut shown = refused.clone();
+        shown.retain(|name| *name != names.k_out);
+        let what = format!("a refusal writes to {}", list.name());
+        rows.push(row(what, first_number).differs(&shown).agrees(others.right));
     }
     rows
 }
 
-fn wrong_answers(operation: &'static Operation, others: &Others) -> Vec<Row<Wrong>> {
-    let names = Names::of(operation);
-    let safely = [others.safely, others.dependent].concat();
+fn wrong_answers(operation: &Operation, others: &Others, names: &Names) -> Vec<Row<Wrong>> {
+    let not_looking =
+        raw_alone(|call, outputs, answer| write_what_fits(right(call, outputs), answer));
+    let longer = raw_alone(|call, outputs, answer| {
+        if let Some(five) = answer.get_mut(..ANSWER_LENGTH) {
+            Reference.raw(call, outputs, five)
+        }
+    });
+    let without_an_answer = raw_alone(|call, outputs, answer| {
+        let due = right(call, outputs);
+        into_five(answer, || due);
+    });
+    let only_safe = safe_alone(answering(|_, answer| changed_at(4, answer)));
+    let safely = [others.safely, others.dependent, &[&names.safe]].concat();
+    let other_answer = &[&names.other_answer];
     let mut rows = vec![
-        row(
-            "the length of the answer is not looked at",
-            raw_alone(|call, outputs, answer| write_what_fits(right(call, outputs), answer)),
-        )
-        .differs(&[&names.other_answer]),
-        row(
-            "a longer answer is written to",
-            raw_alone(|call, outputs, answer| {
-                if let Some(five) = answer.get_mut(..ANSWER_LENGTH) {
-                    Reference.raw(call, outputs, five)
-                }
-            }),
-        )
-        .differs(&[&names.other_answer])
-        .smallest(&names.other_answer, "answer of length 6,"),
-        row("only a safe call is wrong", safe_alone(answering(|_, answer| changed_at(4, answer))))
-            .differs(&safely)
-            .differs(&[&names.safe]),
+        row("the length of the answer is not looked at", not_looking).differs(other_answer),
+        row("a longer answer is written to", longer)
+            .differs(other_answer)
+            .smallest(&names.other_answer, "answer of length 6,"),
+        row("only a safe call is wrong", only_safe).differs(&safely),
     ];
     if !operation.lent.is_empty() {
-        let without_an_answer = raw_alone(|call, outputs, answer| {
-            let due = right(call, outputs);
-            into_five(answer, || due);
-        });
-        rows.push(
-            row("the lists are written without an answer", without_an_answer)
-                .differs(&[&names.other_answer]),
-        );
+        let what = "the lists are written without an answer";
+        rows.push(row(what, without_an_answer).differs(other_answer));
     }
     for place in 0..ANSWER_LENGTH {
         let leaving = raw_alone(move |call, outputs, answer| {
@@ -524,50 +476,38 @@ fn wrong_answers(operation: &'static Operation, others: &Others) -> Vec<Row<Wron
                 answer[place] = left;
             }
         });
+        let changing = answering(move |_, answer| changed_at(place, answer));
+        let raw = [&names.refused()[..], others.right].concat();
         rows.push(
-            row(format!("number {place} of the answer is not written"), leaving)
-                .differs(&names.refused())
-                .differs(others.right),
+            row(format!("number {place} of the answer is not written"), leaving).differs(&raw),
         );
         rows.push(
-            row(
-                format!("number {place} of the answer is wrong"),
-                answering(move |_, answer| changed_at(place, answer)),
-            )
-            .differs(&names.refused())
-            .differs(others.right)
-            .differs(&safely)
-            .differs(&[&names.safe])
-            .agrees(&[&names.other_answer]),
+            row(format!("number {place} of the answer is wrong"), changing)
+                .differs(&raw)
+                .differs(&safely)
+                .agrees(other_answer),
         );
     }
     rows
 }
 
-fn wrong_lists(operation: &'static Operation) -> Vec<Row<Wrong>> {
-    let names = Names::of(operation);
+fn wrong_lists(operation: &Operation, names: &Names) -> Vec<Row<Wrong>> {
     let lists = operation.lists();
     let (last, before) = (lists[lists.len() - 1], lists[lists.len() - 2]);
+    let from_0 = refusing(13, |_, answer| refused_at(13, answer.place.unwrap_or(1) - 1));
+    let mistaken = refusing(13, move |_, answer| match answer.place == Some(last.number()) {
+        true => refused_at(13, before.number()),
+        false => answer,
+    });
     let named = [&names.several_lists, &names.several, &names.safe];
     let mut rows = vec![
-        row(
-            "a list is counted from 0",
-            refusing(13, |_, answer| refused_at(13, answer.place.unwrap_or(1) - 1)),
-        )
-        .differs(&names.lists)
-        .differs(&named),
+        row("a list is counted from 0", from_0).differs(&names.lists).differs(&named),
         row("the list is not named", refusing(13, |_, _| refused(13)))
             .differs(&names.lists)
             .differs(&named),
-        row(
-            "the last list is taken for the one before it",
-            refusing(13, move |_, answer| match answer.place == Some(last.number()) {
-                true => refused_at(13, before.number()),
-                false => answer,
-            }),
-        )
-        .differs(&names.lists[lists.len() - 1..])
-        .differs(&[&names.several, &names.safe]),
+        row("the last list is taken for the one before it", mistaken)
+            .differs(&names.lists[lists.len() - 1..])
+            .differs(&named[1..]),
     ];
     for (list, name) in lists.into_iter().zip(&names.lists) {
         let cut = always_instead(move |mut call| {
@@ -576,114 +516,84 @@ fn wrong_lists(operation: &'static Operation) -> Vec<Row<Wrong>> {
             call
         });
         // Where several lists are wrong the last is never the lowest.
-        let shows = if list == last { &named[1..] } else { &named };
-        rows.push(
-            row(format!("a longer {} is taken", list.name()), cut).differs(&[name]).differs(shows),
-        );
+        let shown = if list == last { &named[1..] } else { &named };
+        let what = format!("a longer {} is taken", list.name());
+        rows.push(row(what, cut).differs(&[name]).differs(shown));
     }
     rows
 }
 
-/// The refusals in the order of the paper, but for their places where they are not lists.
-fn same_cause(one: &Answer, other: &Answer) -> bool {
-    one.number == other.number && (one.number != 13 || one.place == other.place)
-}
-
-fn wrong_order(operation: &'static Operation) -> Vec<Row<Wrong>> {
-    let names = Names::of(operation);
-    let settings = [(4, Some(Number::K)), (5, Some(Number::Rate)), (6, Some(Number::Step))];
-    let taken = |(number, taken): (u64, Option<Number>)| match taken {
-        Some(taken) if number != 4 && !operation.takes(taken) => None,
-        _ => Some(refused(number)),
-    };
-    let mut order: Vec<Answer> = settings.into_iter().filter_map(taken).collect();
+/// The causes in the order of the paper, without the places that are not lists.
+fn order(operation: &Operation) -> Vec<Answer> {
+    let mut order = vec![refused(4)];
+    order.extend(operation.ranged().into_iter().map(|number| refused(range(number).1)));
     order.extend(operation.takes(Number::Step).then(|| refused(7)));
     order.extend(operation.lists().iter().map(|list| refused_at(13, list.number())));
     order.push(refused(8));
     if operation.given.contains(&List::Queries) {
         order.extend([refused(9), refused(10)]);
     }
+    order
+}
+
+fn wrong_order(operation: &Operation, names: &Names) -> Vec<Row<Wrong>> {
+    let is = |one: &Answer, cause: &Answer| {
+        one.number == cause.number && (one.number != 13 || one.place == cause.place)
+    };
     let mut rows = Vec::new();
-    for pair in order.windows(2) {
+    for pair in order(operation).windows(2) {
         let [first, second] = [pair[0], pair[1]];
-        let swapped = first_of_all(move |call| match &causes(call)[..] {
-            [one, other, ..] if same_cause(one, &first) && same_cause(other, &second) => {
-                Some(*other)
-            }
+        let swapped = first_of_all(move |call| match causes(call)[..] {
+            [one, other, ..] if is(&one, &first) && is(&other, &second) => Some(other),
             _ => None,
         });
-        let what = format!("cause {} comes before cause {}", second.number, first.number);
         let both_lists = first.number == 13 && second.number == 13;
-        let several_lists = [&names.several_lists];
+        let shown = [&names.several, &names.several_lists];
+        let what = format!("cause {} comes before cause {}", second.number, first.number);
         rows.push(
             row(what, swapped)
-                .differs(&[&names.several])
-                .differs(if both_lists { &several_lists } else { &[] })
+                .differs(if both_lists { &shown } else { &shown[..1] })
                 .agrees(&names.bases)
                 .agrees(&names.lists),
         );
     }
-    let dependent_before = |number| {
+    let before = |later: u64, earlier: u64| {
         first_of_all(move |call| {
             let refusal = call.refusal()?;
-            dependent(&call[List::Basis]).filter(|_| refusal.number == number)
+            let mut others = causes(call).into_iter().filter(|cause| cause.number == later);
+            others.next().filter(|_| refusal.number == earlier)
         })
     };
-    rows.push(
-        row("the basis comes before the lists", dependent_before(13))
-            .differs(&[&names.several])
-            .agrees(&names.bases),
-    );
-    rows.push(
-        row("the basis comes before the dimension", dependent_before(4))
-            .differs(&[&names.several, &names.damaged])
-            .agrees(&names.bases)
-            .agrees(&names.lists),
-    );
-    rows.push(
-        row(
-            "the lists come before the dimension",
-            first_of_all(|call| {
-                let refusal = call.refusal()?;
-                let mut others = causes(call).into_iter().filter(|cause| cause.number == 13);
-                others.next().filter(|_| refusal.number == 4)
-            }),
-        )
-        .differs(&[&names.several, &names.damaged])
-        .agrees(&names.bases)
-        .agrees(&names.lists),
-    );
+    for (what, wrong, shown) in [
+        ("the basis comes before the lists", before(8, 13), &[&names.several][..]),
+        ("the basis comes before the dimension", before(8, 4), &[&names.several, &names.damaged]),
+        ("the lists come before the dimension", before(13, 4), &[&names.several, &names.damaged]),
+    ] {
+        rows.push(row(what, wrong).differs(shown).agrees(&names.bases));
+    }
     rows
 }
 
-fn wrong_bases(operation: &'static Operation, others: &Others) -> Vec<Row<Wrong>> {
-    let names = Names::of(operation);
+fn wrong_bases(others: &Others, names: &Names) -> Vec<Row<Wrong>> {
     let bases = &names.bases;
     let testing = |test: BasisTest| {
         refusing(8, move |call, _| {
             test(&call[List::Basis]).map_or(done(), |place| refused_at(8, place as u64))
         })
     };
-    let shown = [&names.safe];
+    let from_1 = refusing(8, |_, answer| refused_at(8, answer.place.unwrap_or(0) + 1));
+    // Bases that a single bit keeps from being dependent show it.
+    let lower_half = first_of_all(|call| {
+        let cause = dependent(&lower_halves(&call[List::Basis]));
+        cause.filter(|_| !is_refused(call))
+    });
+    let safely = &[&[&names.safe[..]], others.dependent].concat();
     vec![
-        row(
-            "the place is counted from 1",
-            refusing(8, |_, answer| refused_at(8, answer.place.unwrap_or(0) + 1)),
-        )
-        .differs(bases)
-        .differs(&shown)
-        .differs(others.dependent),
-        row(
-            "the last dependent place is given",
-            refusing(8, |call, _| {
-                refused_at(8, last_dependent(&call[List::Basis]).unwrap_or(0) as u64)
-            }),
-        )
-        .differs(&bases[3..]),
+        row("the place is counted from 1", from_1).differs(bases).differs(safely),
+        row("the last dependent place is given", testing(last_dependent)).differs(&bases[3..]),
         row("the last element is not tested", testing(but_the_last))
             .differs(&bases[..3])
-            .differs(&shown)
-            .differs(others.dependent),
+            .differs(safely),
         row("the first element is not tested", testing(but_the_first))
             .differs(&bases[..3])
             .among_others(),
@@ -698,54 +608,44 @@ fn wrong_bases(operation: &'static Operation, others: &Others) -> Vec<Row<Wrong>
             .differs(&bases[2..3])
             .agrees(&bases[..2])
             .agrees(others.dependent),
-        // Bases that a single bit keeps from being dependent show it.
-        row(
-            "only the lower half of an element is tested",
-            first_of_all(|call| {
-                let cause = dependent(&lower_halves(&call[List::Basis]));
-                cause.filter(|_| !is_refused(call))
-            }),
-        )
-        .differs(&others.right[..1])
-        .agrees(bases)
-        .smallest(others.right[0], "100000000"),
+        row("only the lower half of an element is tested", lower_half)
+            .differs(&others.right[..1])
+            .agrees(bases)
+            .smallest(others.right[0], "100000000"),
     ]
 }
 
-fn wrong_dimensions(operation: &'static Operation) -> Vec<Row<Wrong>> {
-    let names = Names::of(operation);
+fn wrong_dimensions(operation: &Operation, names: &Names) -> Vec<Row<Wrong>> {
     let (lowest, highest) = (*operation.dimensions.start(), *operation.dimensions.end());
+    let refusing_lowest = first_of_all(move |call| (call.k() == lowest).then(|| refused(4)));
+    let taking =
+        refusing(4, move |call, answer| if call.k() == highest + 1 { done() } else { answer });
+    let as_place = refusing(4, |call, _| refused_at(4, call.k()));
     let mut rows = vec![
-        row(
-            "the lowest dimension is refused",
-            first_of_all(move |call| (call.k() == lowest).then(|| refused(4))),
-        )
-        .differs(&names.lists)
-        .differs(&[&names.safe])
-        .among_others(),
-        row(
-            "the dimension above the highest is taken",
-            refusing(4, move |call, answer| if call.k() == highest + 1 { done() } else { answer }),
-        )
-        .differs(&[&names.damaged, &names.safe])
-        .agrees(&names.lists),
-        row(
-            "the dimension out of range is given as a place",
-            refusing(4, |call, _| refused_at(4, call.k())),
-        )
-        .differs(&[&names.damaged, &names.k_out, &names.several, &names.safe]),
+        row("the lowest dimension is refused", refusing_lowest)
+            .differs(&names.lists)
+            .differs(&[&names.safe])
+            .among_others(),
+        row("the dimension above the highest is taken", taking)
+            .differs(&[&names.damaged, &names.safe])
+            .agrees(&names.lists),
+        row("the dimension out of range is given as a place", as_place).differs(&[
+            &names.damaged,
+            &names.k_out,
+            &names.several,
+            &names.safe,
+        ]),
     ];
-    // Without its lower bits a dimension that is the length of the basis leaves a basis in which
-    // damage may not show.
-    let (bits, shows) = match operation.takes(Number::K) {
+    // Of a dimension that is the length of the basis the lower bits leave a basis in which damage
+    // may not show.
+    let (bits, shown) = match operation.takes(Number::K) {
         true => (&[5, 6, 8, 32][..], &names.k_out),
         false => (&[5, 6, 8][..], &names.damaged),
     };
     for &bits in bits {
         let cut = refusing(4, move |call, answer| {
-            let mut cut = call.clone();
-            cut[Number::K] %= 1 << bits;
             let k = call.k() % (1 << bits);
+            let mut cut = call.clone().with(Number::K, k);
             if !call.operation.takes(Number::K) {
                 cut[List::Basis].truncate(k as usize);
             }
@@ -755,28 +655,26 @@ fn wrong_dimensions(operation: &'static Operation) -> Vec<Row<Wrong>> {
                 done()
             }
         });
-        rows.push(row(format!("the dimension is cut to {bits} bits"), cut).differs(&[shows]));
+        rows.push(row(format!("the dimension is cut to {bits} bits"), cut).differs(&[shown]));
     }
     rows
 }
 
-fn wrong_settings(operation: &'static Operation) -> Vec<Row<Wrong>> {
-    let names = Names::of(operation);
+fn wrong_ranges(operation: &Operation, names: &Names) -> Vec<Row<Wrong>> {
     let mut rows = Vec::new();
-    let numbers = [(Number::Rate, 5, 6), (Number::Step, 6, 3)];
-    let taken = numbers.into_iter().filter(|(number, ..)| operation.takes(*number));
-    for ((number, cause, highest), name) in taken.zip(&names.settings) {
-        for (value, shows) in [
+    for (number, name) in operation.ranged().into_iter().zip(&names.ranges) {
+        let (range, cause) = range(number);
+        for (value, shown) in [
             (0, &[name, &names.several][..]),
-            (highest + 1, &[name, &names.several, &names.safe]),
-            (highest + 5, &[name]),
+            (range.end() + 1, &[name, &names.several, &names.safe]),
+            (range.end() + 5, &[name]),
             (u64::MAX, &[name]),
         ] {
             let taking = refusing(cause, move |call, answer| match call[number] == value {
                 true => done(),
                 false => answer,
             });
-            rows.push(row(format!("{} {value} is taken", number.name()), taking).differs(shows));
+            rows.push(row(format!("{} {value} is taken", number.name()), taking).differs(shown));
         }
         for bits in [6, 8, 16, 32] {
             let cut = always_instead(move |mut call| {
@@ -787,11 +685,11 @@ fn wrong_settings(operation: &'static Operation) -> Vec<Row<Wrong>> {
             rows.push(row(what, cut).differs(&[name]));
         }
     }
-    if let [.., below] = &names.settings[..] {
+    for too_small in &names.too_small {
         for other in [refused(6), refused_at(13, 6)] {
             let what = format!("a dimension that is too small has number {}", other.number);
             let renamed = refusing(7, move |_, _| other);
-            rows.push(row(what, renamed).differs(&[below, &names.several, &names.safe]));
+            rows.push(row(what, renamed).differs(&[too_small, &names.several, &names.safe]));
         }
     }
     rows

@@ -1,6 +1,6 @@
 //! Properties that a fold has, with the library alone.
 
-use super::{all_right_calls, right_calls, Amounts, Turns, FOLD};
+use super::{all_right_calls, right_calls, Amounts, Turns};
 use crate::answer::Answer;
 use crate::compare::call::{Call, List, Number};
 use crate::compare::cosets;

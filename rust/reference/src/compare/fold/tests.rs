@@ -150,9 +150,7 @@ fn wrong_folds() -> Vec<Row<Wrong>> {
     });
     vec![
         row("entries are paired as in multiplicative FRI", with_entries(half_the_length_away))
-            .differs(RIGHT)
-            .differs(IN_TWO)
-            .differs(&[AT_POINTS, LOW_DEGREES, FIRST_OF_K])
+            .differs(&[RIGHT, IN_TWO, &[AT_POINTS, LOW_DEGREES, FIRST_OF_K]].concat())
             .agrees(&[SUMS])
             .smallest(
                 STEP_1,
@@ -160,33 +158,27 @@ fn wrong_folds() -> Vec<Row<Wrong>> {
             ),
         // The cosets of cases F, J and of the first fold of K have just these points.
         row("the points are 0, 1, 2 and so on", points_from_0)
-            .differs(RIGHT)
-            .differs(&[AT_POINTS, SAFE, CASE_D, SECOND_OF_K])
+            .differs(&[RIGHT, &[AT_POINTS, SAFE, CASE_D, SECOND_OF_K]].concat())
             .agrees(&[SUMS, CASE_F, CASE_J, FIRST_OF_K]),
         // A shift of all points leaves degrees, sums and folds in two as they are.
         row("the offset is ignored", instead(|call| call.with(Number::Offset, 0)))
-            .differs(RIGHT)
-            .differs(&[AT_POINTS, SAFE, CASE_D])
+            .differs(&[RIGHT, &[AT_POINTS, SAFE, CASE_D]].concat())
             .smallest(
                 STEP_1,
                 "k 2; step 1; offset 1; challenge 0; basis: 2, 1; list 3: 0 (4 times);",
             ),
         row("a coset is taken from behind", with_entries(from_behind))
-            .differs(RIGHT)
-            .differs(&[AT_POINTS, SAFE, CASE_F, CASE_J])
+            .differs(&[RIGHT, &[AT_POINTS, SAFE, CASE_F, CASE_J]].concat())
             .agrees(&[SUMS, CASE_D]),
         row("a coset that holds the challenge folds to zero", with_entries(zero_at_points))
-            .differs(SMALL)
-            .differs(&[AT_POINTS])
+            .differs(&[SMALL, &[AT_POINTS]].concat())
             .agrees(&[SUMS])
             .smallest(AT_POINTS, "k 2; step 1; offset 0; "),
         row("the step is ignored", and_then(with_step_1))
-            .differs(&[STEP_2, STEP_3, LARGE_2, LARGE_3])
-            .differs(IN_TWO)
+            .differs(&[&[STEP_2, STEP_3, LARGE_2, LARGE_3], IN_TWO].concat())
             .agrees(&[STEP_1, LARGE_1, ALL_ONES]),
         row("the challenge is ignored", instead(|call| call.with(Number::Challenge, 0)))
-            .differs(RIGHT)
-            .differs(&[AT_POINTS, SAFE, CASE_F, CASE_J])
+            .differs(&[RIGHT, &[AT_POINTS, SAFE, CASE_F, CASE_J]].concat())
             .agrees(&[SUMS, CASE_D])
             .smallest(STEP_1, "challenge 1; basis: 1, 2; list 3: 0 (3 times), 1;"),
         row(
@@ -202,8 +194,7 @@ fn wrong_folds() -> Vec<Row<Wrong>> {
         row("another challenge is exceptional", instead(with_another_exceptional))
             .differs(&[CASE_J_ALL]),
         row("a number is added to the first entry", and_then(|_, outputs| outputs.first()[0] ^= 1))
-            .differs(RIGHT)
-            .differs(&[AT_POINTS, SUMS, SAFE])
+            .differs(&[RIGHT, &[AT_POINTS, SUMS, SAFE]].concat())
             .among_others()
             .smallest(SUMS, "; other word: 0 (4 times)"),
         row(
@@ -213,10 +204,8 @@ fn wrong_folds() -> Vec<Row<Wrong>> {
                 call.with_list(List::Given, halves)
             }),
         )
-        .differs(RIGHT)
-        .differs(&[AT_POINTS])
-        .agrees(CASES)
-        .agrees(&[SUMS])
+        .differs(&[RIGHT, &[AT_POINTS]].concat())
+        .agrees(&[CASES, &[SUMS]].concat())
         .smallest(STEP_1, "list 3: 0 (2 times), 100000000, 0;"),
     ]
 }
@@ -274,21 +263,14 @@ fn wrong_cosets() -> Vec<Row<Wrong>> {
     });
     vec![
         row("the next offset forgets the offset", with_next_offset(|_| 0))
-            .differs(RIGHT)
-            .differs(IN_TWO)
-            .differs(&[SAFE, CASE_D]),
+            .differs(&[RIGHT, IN_TWO, &[SAFE, CASE_D]].concat()),
         row("the next offset is the offset", with_next_offset(|call| call[Number::Offset]))
-            .differs(RIGHT)
-            .differs(IN_TWO)
-            .differs(&[SAFE, CASE_D]),
+            .differs(&[RIGHT, IN_TWO, &[SAFE, CASE_D]].concat()),
         row("the next basis is the rest of the old one", keeping_the_basis)
-            .differs(RIGHT)
-            .differs(CASES)
-            .differs(&[LOW_DEGREES])
+            .differs(&[RIGHT, CASES, &[LOW_DEGREES]].concat())
             .agrees(&[AT_POINTS, SUMS]),
         row("q vanishes at the basis elements alone", vanishing_at_the_basis)
-            .differs(&[STEP_2, STEP_3])
-            .differs(IN_TWO)
+            .differs(&[&[STEP_2, STEP_3], IN_TWO].concat())
             .agrees(&[STEP_1]),
         // As a raw number all ones may be a value or stand for none.
         row("a next offset of all ones is taken for none", none_for_all_ones).differs(&[SAFE]),
@@ -331,22 +313,17 @@ fn wrong_writing() -> Vec<Row<Wrong>> {
     let smallest = "k 2; step 1; offset 0; challenge 0; basis: 1, 2; list 3: 0 (4 times);";
     vec![
         row("the last value is not written", not_writing(0, |place, _, length| place + 1 < length))
-            .differs(RIGHT)
-            .differs(IN_TWO)
-            .differs(CASES)
-            .differs(&[AT_POINTS, LOW_DEGREES, SUMS, SAFE, CASE_J_ALL])
+            .differs(
+                &[RIGHT, IN_TWO, CASES, &[AT_POINTS, LOW_DEGREES, SUMS, SAFE, CASE_J_ALL]].concat(),
+            )
             .smallest(STEP_2, smallest),
         // A dimension equal to the step leaves no basis to write.
         row("the next basis is not written", not_writing(1, |_, _, _| false))
-            .differs(RIGHT)
-            .differs(IN_TWO)
-            .differs(CASES)
-            .differs(&[SAFE])
+            .differs(&[RIGHT, IN_TWO, CASES, &[SAFE]].concat())
             .agrees(&[AT_POINTS, CASE_J_ALL])
             .smallest(STEP_2, smallest),
         row("zeros are not written", not_writing(0, |_, number, _| number != 0))
-            .differs(SMALL)
-            .differs(&[AT_POINTS, CASE_J])
+            .differs(&[SMALL, &[AT_POINTS, CASE_J]].concat())
             .agrees(&[CASE_F]),
         row(
             "the basis is tested too late",
