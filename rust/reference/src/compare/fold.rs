@@ -46,11 +46,8 @@ pub static FOLD: Operation = Operation {
     several_lists: "several lists of wrong lengths",
 };
 
-/// The largest dimension that lists are made for.
-const LARGEST_OF_LISTS: u64 = *DIMENSIONS.end() as u64 + 1;
-
 fn due_length(call: &Call, list: List) -> usize {
-    let k = call.k().min(LARGEST_OF_LISTS);
+    let k = call.k().min(refused::LARGEST_OF_LISTS);
     let left = k.saturating_sub(call[Number::Step]);
     match list {
         List::Basis => k as usize,
@@ -202,30 +199,7 @@ pub const FULL: Amounts = Amounts {
     challenges: 2_000,
     refused: refused::Amounts {
         out_of_range: &[
-            (1, 1),
-            (0, 0),
-            (21, 21),
-            (22, 6),
-            (23, 7),
-            (24, 8),
-            (31, 15),
-            (32, 0),
-            (32 + 1, 1),
-            (32 + 5, 5),
-            (63, 15),
-            (64, 0),
-            (64 + 1, 1),
-            (64 + 5, 5),
-            (127, 15),
-            (128 + 5, 5),
-            (255, 15),
-            (256, 0),
-            (256 + 5, 5),
-            ((1 << 16) + 5, 5),
-            ((1 << 32) + 5, 5),
-            ((1 << 63) + 5, 5),
-            (u64::MAX - 1, 14),
-            (u64::MAX, 15),
+            1, 0, 21, 22, 23, 24, 31, 32, 33, 37, 63, 64, 65, 69, 127, 133, 255, 256, 261,
         ],
         dimensions: &[2, 3, 4, 5, 6, 7, 8, 9, 10, 11, 12, 20],
         too_small: 480,

@@ -56,6 +56,9 @@ pub struct Operation {
     pub several_lists: &'static str,
 }
 
+/// Operations are descriptions that do not change.
+pub type Op = &'static Operation;
+
 /// Only the length that is due is right.
 pub fn exactly(_: List, length: usize, due: usize) -> bool {
     length == due

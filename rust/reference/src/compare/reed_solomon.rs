@@ -81,13 +81,10 @@ pub static INTERPOLATE: Operation = Operation {
 
 const BOTH: [&Operation; 2] = [&ENCODE, &INTERPOLATE];
 
-/// The largest dimension that lists are made for.
-const LARGEST_OF_LISTS: u64 = 20;
-
 fn due_length(call: &Call, list: List) -> usize {
     match list {
         List::Basis => call.k() as usize,
-        _ => 1 << call.k().min(LARGEST_OF_LISTS),
+        _ => 1 << call.k().min(refused::LARGEST_OF_LISTS),
     }
 }
 
@@ -175,16 +172,7 @@ pub const FULL: Amounts = Amounts {
     interpolations: [60, 600, 600, 600, 600, 240, 120, 60, 60, 10, 4, 2, 2],
     round_trips: [60, 120, 120, 120, 120, 60, 60, 20, 20, 5, 2, 1, 1],
     refused: refused::Amounts {
-        out_of_range: &[
-            (13, 13),
-            (14, 14),
-            (20, 20),
-            (32, 0),
-            (32 + 12, 12),
-            (64, 0),
-            (64 + 12, 12),
-            (256 + 12, 12),
-        ],
+        out_of_range: &[13, 14, 20, 32, 44, 64, 76, 268],
         dimensions: &[0, 1, 2, 3, 4, 5, 6, 7, 8, 9, 10, 11, 12],
         too_small: 0,
         several_lists: 200,

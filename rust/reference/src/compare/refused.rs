@@ -5,7 +5,7 @@
 use super::call::{Call, List, Number};
 use super::cosets::{self, any_dependent, wrong_lengths, Bases};
 use super::lent::other_answer_lengths;
-use super::operation::{raw_calls, safe_calls, Library, Operation, Setting};
+use super::operation::{raw_calls, safe_calls, Library, Op, Operation, Setting};
 use super::Comparison;
 use crate::answer::{refused, refused_at, Answer};
 use crate::coset::first_dependent;
@@ -15,7 +15,8 @@ use std::ops::RangeInclusive;
 
 /// How many inputs the comparisons take.
 pub struct Amounts {
-    pub out_of_range: &'static [OutOfRange],
+    /// The dimensions out of range.
+    pub out_of_range: &'static [u64],
     /// The dimensions of calls with other wrong numbers or with wrong lists.
     pub dimensions: &'static [u64],
     /// How often each setting whose dimension is too small.
@@ -30,64 +31,101 @@ pub struct Amounts {
     pub every_sort: (&'static [u64], usize),
 }
 
-/// A dimension out of range, and one whose lists a library could take for right: the same, or
-/// what is left where only the lowest bits of a dimension count.
-pub type OutOfRange = (u64, u64);
+/// Out of range for every operation that is given its dimension.
+const HUGE: [u64; 5] = [(1 << 16) + 5, (1 << 32) + 5, (1 << 63) + 5, u64::MAX - 1, u64::MAX];
 
-/// The sorts of dependent bases.
-pub const DEPENDENT: [(&str, Bases); 4] = [
+/// What calls that are refused are compared for.
+#[derive(Clone, Copy, PartialEq)]
+pub enum Sort {
+    /// A dimension out of range, and something else that is wrong.
+    Damaged,
+    KOut,
+    Range(Number),
+    TooSmall,
+    Length(List),
+    SeveralLists,
+    /// A dependent basis, by its sort.
+    Dependent(usize),
+    SeveralCauses,
+}
+
+const DEPENDENT: [(&str, Bases); 4] = [
     ("zero in the basis", cosets::with_zero_elements),
     ("a repeated basis element", cosets::with_repeated_elements),
     ("a sum of earlier basis elements", cosets::with_sums_of_elements),
     ("a basis dependent at two places", cosets::dependent_at_two_places),
 ];
 
+impl Sort {
+    pub fn all(operation: &Operation) -> Vec<Sort> {
+        let mut all = vec![Sort::Damaged, Sort::KOut];
+        all.extend(operation.ranged().into_iter().map(Sort::Range));
+        all.extend(operation.takes(Number::Step).then_some(Sort::TooSmall));
+        all.extend(operation.lists().into_iter().map(Sort::Length));
+        all.push(Sort::SeveralLists);
+        all.extend((0..DEPENDENT.len()).map(Sort::Dependent));
+        all.push(Sort::SeveralCauses);
+        all
+    }
+
+    /// The name of the comparison.
+    pub fn name(self, operation: &Operation) -> &'static str {
+        let what = match self {
+            Sort::Damaged => format!("{} and damaged", operation.k_out_of_range),
+            Sort::KOut => operation.k_out_of_range.to_string(),
+            Sort::Range(number) => format!("{} out of range", number.name()),
+            Sort::TooSmall => format!("k below {}", operation.least_k),
+            Sort::Length(list) => format!("list {} of a wrong length", list.number()),
+            Sort::SeveralLists => operation.several_lists.to_string(),
+            Sort::Dependent(sort) => DEPENDENT[sort].0.to_string(),
+            Sort::SeveralCauses => "several causes".to_string(),
+        };
+        operation.title(&what)
+    }
+
+    fn plans(self, random: &mut Random, operation: Op, amounts: &Amounts) -> Vec<Plan> {
+        let huge = if operation.takes(Number::K) { &HUGE[..] } else { &[] };
+        let out = [amounts.out_of_range, huge].concat();
+        match self {
+            Sort::Damaged => damaged(operation, &out),
+            Sort::KOut => k_out_of_range(operation, &out),
+            Sort::Range(number) => out_of_range(operation, number, amounts.dimensions),
+            Sort::TooSmall => too_small(random, operation, amounts.too_small),
+            Sort::Length(list) => list_wrong(operation, list, amounts.dimensions),
+            Sort::SeveralLists => several_lists(random, operation, amounts),
+            Sort::Dependent(sort) => {
+                dependent(random, operation, DEPENDENT[sort].1, amounts.largest_dependent)
+            }
+            Sort::SeveralCauses => several_causes(random, operation, amounts.several_causes),
+        }
+    }
+}
+
+pub fn with_other_answer(operation: &Operation) -> &'static str {
+    format!("{} with an answer list of another length", operation.name).leak()
+}
+
 /// Runs all comparisons that are made from the description alone.
-pub fn comparisons(
-    library: &dyn Library,
-    operation: &'static Operation,
-    amounts: &Amounts,
-) -> Vec<Comparison> {
-    let run = |what: &str, plans: &dyn Fn(&mut Random) -> Vec<Plan>| {
-        let name = operation.title(what);
+pub fn comparisons(library: &dyn Library, operation: Op, amounts: &Amounts) -> Vec<Comparison> {
+    let mut all: Vec<Comparison> = Vec::new();
+    for sort in Sort::all(operation) {
+        let name = sort.name(operation);
         let mut random = Random::named(name);
-        let plans = plans(&mut random).into_iter();
-        raw_calls(library, name, plans.map(|plan| plan.call(&mut random, operation)))
-    };
-    let k_out = operation.k_out_of_range;
-    let dimensions = amounts.out_of_range;
-    let damaged = run(&format!("{k_out} and damaged"), &|_| damaged(operation, dimensions));
-    // A library that takes large dimensions would not come to an end with calls in which all else
-    // is right. So these are made of the first dimension alone if it has been seen to take
-    // damaged ones.
-    let tried = if damaged.agrees() { dimensions } else { &dimensions[..1] };
-    let mut all = vec![damaged, run(k_out, &|_| k_out_of_range(operation, tried))];
-    for number in operation.ranged() {
-        let what = format!("{} out of range", number.name());
-        all.push(run(&what, &|_| out_of_range(operation, number, amounts.dimensions)));
+        let mut plans = sort.plans(&mut random, operation, amounts);
+        // A library that takes large dimensions would not come to an end with calls in which all
+        // else is right. So only the first is tried if it has been seen to take damaged ones.
+        if sort == Sort::KOut && !all[0].agrees() {
+            plans.truncate(1);
+        }
+        let calls = plans.into_iter().map(|plan| plan.call(&mut random, operation));
+        all.push(raw_calls(library, name, calls));
     }
-    if operation.takes(Number::Step) {
-        let what = format!("k below {}", operation.least_k);
-        all.push(run(&what, &|random| too_small(random, operation, amounts.too_small)));
-    }
-    for list in operation.lists() {
-        let what = format!("list {} of a wrong length", list.number());
-        all.push(run(&what, &|_| list_wrong(operation, list, amounts.dimensions)));
-    }
-    all.push(run(operation.several_lists, &|random| several_lists(random, operation, amounts)));
-    for (what, bases) in DEPENDENT {
-        let largest = amounts.largest_dependent;
-        all.push(run(what, &|random| dependent(random, operation, bases, largest)));
-    }
-    let times = amounts.several_causes;
-    all.push(run("several causes", &|random| several_causes(random, operation, times)));
     let (dimensions, turns) = amounts.every_sort;
-    let of_every_sort =
-        |name, turns| of_every_sort(&mut Random::named(name), operation, dimensions, turns);
-    let name = format!("{} with an answer list of another length", operation.name).leak();
-    all.push(raw_calls(library, name, with_other_answers(of_every_sort(name, 1))));
+    let calls = |name, turns| of_every_sort(&mut Random::named(name), operation, dimensions, turns);
+    let name = with_other_answer(operation);
+    all.push(raw_calls(library, name, with_other_answers(calls(name, 1))));
     let name = operation.title("safe calls");
-    all.push(safe_calls(library, name, of_every_sort(name, turns)));
+    all.push(safe_calls(library, name, calls(name, turns)));
     all
 }
 
@@ -127,7 +165,7 @@ impl Plan {
     }
 
     /// With one number too many in a list.
-    fn with_longer(self, operation: &'static Operation, list: List) -> Plan {
+    fn with_longer(self, operation: Op, list: List) -> Plan {
         let due = due_length(operation, self.lists_for, list);
         self.with_length(list, due + 1)
     }
@@ -136,7 +174,7 @@ impl Plan {
         operation.lists().into_iter().fold(self, |plan, list| plan.with_length(list, 0))
     }
 
-    fn call(self, random: &mut Random, operation: &'static Operation) -> Call {
+    fn call(self, random: &mut Random, operation: Op) -> Call {
         let mut call = operation.any(random, self.lists_for).with_setting(self.setting);
         for (list, length) in self.lengths {
             call = call.with_any(random, list, length);
@@ -154,7 +192,7 @@ impl Plan {
     }
 }
 
-fn due_length(operation: &'static Operation, setting: Setting, list: List) -> usize {
+fn due_length(operation: Op, setting: Setting, list: List) -> usize {
     let basis = if operation.takes(Number::K) { 0 } else { setting[0] as usize };
     let blank = Call::of(operation).with_setting(setting).with_length(List::Basis, basis);
     blank.due_length(list)
@@ -211,7 +249,7 @@ pub fn causes(call: &Call) -> Vec<Answer> {
 const LONGEST_BASIS: u64 = 300;
 
 /// One setting of a dimension with each step.
-fn one_with_each_step(operation: &Operation, k: u64) -> Vec<Setting> {
+fn one_with_each_step(operation: Op, k: u64) -> Vec<Setting> {
     let mut all = (operation.settings)(k);
     let turn = k as usize % all.len().max(1);
     all.rotate_left(turn);
@@ -220,12 +258,25 @@ fn one_with_each_step(operation: &Operation, k: u64) -> Vec<Setting> {
     all
 }
 
-/// With the lists of the dimension that each could be taken for. The basis is also as long as the
-/// dimension out of range, if that is not too long.
-fn k_out_of_range(operation: &'static Operation, dimensions: &[OutOfRange]) -> Vec<Plan> {
+/// Settings whose lists a library could take for right: those of the dimension itself, or of what
+/// is left where only the lowest bits of a dimension count.
+fn taken_for(operation: Op, k: u64) -> Vec<Setting> {
+    let nearest = if k <= LARGEST_OF_LISTS { k } else { k % 16 };
+    match &one_with_each_step(operation, nearest)[..] {
+        [] => one_with_each_step(operation, *operation.dimensions.start()),
+        settings => settings.to_vec(),
+    }
+}
+
+/// The largest dimension that lists are made for.
+pub const LARGEST_OF_LISTS: u64 = 21;
+
+/// With lists that could be taken for right. The basis is also as long as the dimension out of
+/// range, if that is not too long.
+fn k_out_of_range(operation: Op, dimensions: &[u64]) -> Vec<Plan> {
     let mut plans = Vec::new();
-    for &(k, taken_for) in dimensions {
-        for lists_for in one_with_each_step(operation, taken_for) {
+    for &k in dimensions {
+        for lists_for in taken_for(operation, k) {
             let [_, rate, step] = lists_for;
             let plan = Plan { lists_for, ..Plan::of([k, rate, step]) };
             if k <= LONGEST_BASIS {
@@ -240,7 +291,7 @@ fn k_out_of_range(operation: &'static Operation, dimensions: &[OutOfRange]) -> V
 }
 
 /// The same with damage of each sort.
-fn damaged(operation: &'static Operation, dimensions: &[OutOfRange]) -> Vec<Plan> {
+fn damaged(operation: Op, dimensions: &[u64]) -> Vec<Plan> {
     let mut plans = Vec::new();
     for plan in k_out_of_range(operation, dimensions) {
         let with_zero = Plan { basis: Basis::WithZero, ..plan.clone() };
@@ -297,7 +348,7 @@ fn too_small_settings(operation: &Operation) -> Vec<Setting> {
 
 /// With lists as the formulas give them, with lists of a right setting, without lists, with a
 /// zero in the basis, and with lists of any lengths near the right ones.
-fn too_small(random: &mut Random, operation: &'static Operation, times: usize) -> Vec<Plan> {
+fn too_small(random: &mut Random, operation: Op, times: usize) -> Vec<Plan> {
     let mut plans = Vec::new();
     for setting in too_small_settings(operation) {
         let plan = Plan::of(setting);
@@ -323,14 +374,14 @@ fn too_small(random: &mut Random, operation: &'static Operation, times: usize) -
 /// How much longer than right a list is that is much too long.
 const MUCH_LONGER: usize = 1_000;
 
-fn lengths_out_of_range(operation: &'static Operation, setting: Setting, list: List) -> Vec<usize> {
+fn lengths_out_of_range(operation: Op, setting: Setting, list: List) -> Vec<usize> {
     let due = due_length(operation, setting, list);
     let mut lengths = wrong_lengths(due, |length| (operation.fits)(list, length, due));
     lengths.push(due + MUCH_LONGER);
     lengths
 }
 
-fn list_wrong(operation: &'static Operation, list: List, dimensions: &[u64]) -> Vec<Plan> {
+fn list_wrong(operation: Op, list: List, dimensions: &[u64]) -> Vec<Plan> {
     let mut plans = Vec::new();
     for setting in operation.all_settings(dimensions) {
         let lengths = lengths_out_of_range(operation, setting, list).into_iter();
@@ -343,11 +394,7 @@ fn list_wrong(operation: &'static Operation, list: List, dimensions: &[u64]) -> 
 const LARGEST_WITH_SEVERAL: u64 = 12;
 
 /// All choices of two lists or more, each with all wrong lengths or with some of them.
-fn several_lists(
-    random: &mut Random,
-    operation: &'static Operation,
-    amounts: &Amounts,
-) -> Vec<Plan> {
+fn several_lists(random: &mut Random, operation: Op, amounts: &Amounts) -> Vec<Plan> {
     let mut plans = Vec::new();
     let mut settings = operation.all_settings(amounts.dimensions);
     settings.retain(|[k, ..]| *k <= LARGEST_WITH_SEVERAL);
@@ -382,12 +429,7 @@ fn choices<T: Copy>(all: &[T]) -> Vec<Vec<T>> {
 
 // Dependent bases.
 
-fn dependent(
-    random: &mut Random,
-    operation: &'static Operation,
-    bases: Bases,
-    largest: usize,
-) -> Vec<Plan> {
+fn dependent(random: &mut Random, operation: Op, bases: Bases, largest: usize) -> Vec<Plan> {
     let smallest = (*operation.dimensions.start() as usize).max(1);
     let mut plans = Vec::new();
     for basis in bases(random, smallest..=largest) {
@@ -424,7 +466,7 @@ fn all_causes(operation: &Operation) -> Vec<Cause> {
 }
 
 /// All choices of two causes or more, each some times.
-fn several_causes(random: &mut Random, operation: &'static Operation, times: usize) -> Vec<Plan> {
+fn several_causes(random: &mut Random, operation: Op, times: usize) -> Vec<Plan> {
     let mut plans = Vec::new();
     for chosen in choices(&all_causes(operation)) {
         plans.extend((0..times).map(|_| with_causes(random, operation, &chosen)));
@@ -432,7 +474,7 @@ fn several_causes(random: &mut Random, operation: &'static Operation, times: usi
     plans
 }
 
-fn with_causes(random: &mut Random, operation: &'static Operation, chosen: &[Cause]) -> Plan {
+fn with_causes(random: &mut Random, operation: Op, chosen: &[Cause]) -> Plan {
     let mut plan = Plan::of(setting_with(random, operation, chosen));
     let [k, ..] = plan.setting;
     for &cause in chosen {
@@ -480,12 +522,7 @@ fn setting_with(random: &mut Random, operation: &Operation, chosen: &[Cause]) ->
 // A few calls of every sort.
 
 /// Right calls, those that are special to the operation, and one for each cause of a refusal.
-fn one_of_each(
-    random: &mut Random,
-    operation: &'static Operation,
-    setting: Setting,
-    turn: usize,
-) -> Vec<Call> {
+fn one_of_each(random: &mut Random, operation: Op, setting: Setting, turn: usize) -> Vec<Call> {
     let [k, rate, step] = setting;
     let right = Plan::of(setting);
     let above = [operation.dimensions.end() + 1, rate, step];
@@ -513,7 +550,7 @@ fn one_of_each(
 
 pub fn of_every_sort(
     random: &mut Random,
-    operation: &'static Operation,
+    operation: Op,
     dimensions: &[u64],
     turns: usize,
 ) -> Vec<Call> {

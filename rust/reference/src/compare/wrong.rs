@@ -1,8 +1,8 @@
 //! Wrong libraries: tables of what is wrong and of the comparisons that must differ.
 
 use super::call::{Call, List, Number};
-use super::operation::{after, Library, Operation, Outputs, Reference};
-use super::refused::{causes, range, DEPENDENT};
+use super::operation::{after, Library, Op, Outputs, Reference};
+use super::refused::{causes, range, with_other_answer, Sort};
 use super::Comparison;
 use crate::answer::{done, raw, refused, refused_at, Answer, ANSWER_LENGTH};
 use crate::coset::{first_dependent, point};
@@ -121,7 +121,7 @@ pub fn hold_table<L>(right: &L, rows: &[Row<L>], comparisons: impl Fn(&L) -> Vec
 
 /// The reference with another behaviour, of all operations or of one.
 pub struct Wrong {
-    operation: Option<&'static Operation>,
+    operation: Option<Op>,
     safe: Rc<dyn Fn(&Call, &mut Outputs) -> Answer>,
     raw: Rc<dyn Fn(&Call, &mut Outputs, &mut [u64])>,
 }
@@ -144,14 +144,14 @@ impl Library for Wrong {
 
 impl Wrong {
     /// Only this operation is wrong.
-    pub fn of(self, operation: &'static Operation) -> Wrong {
+    pub fn of(self, operation: Op) -> Wrong {
         Wrong { operation: Some(operation), ..self }
     }
 }
 
 impl Row<Wrong> {
     /// Only this operation is wrong, unless the row has another one.
-    pub fn of(mut self, operation: &'static Operation) -> Row<Wrong> {
+    pub fn of(mut self, operation: Op) -> Row<Wrong> {
         self.library.operation.get_or_insert(operation);
         self
     }
@@ -357,81 +357,71 @@ pub struct Others {
     pub unsaid: &'static [&'static str],
 }
 
-/// The comparisons that a mistake of one sort shows in.
+/// The comparisons that are made from the description of an operation.
 struct Names {
-    damaged: String,
-    k_out: String,
-    ranges: Vec<String>,
-    too_small: Vec<String>,
-    lists: Vec<String>,
-    several_lists: String,
-    bases: Vec<String>,
-    several: String,
-    other_answer: String,
-    safe: String,
+    operation: Op,
+    lists: Vec<&'static str>,
+    bases: Vec<&'static str>,
+    /// Those of calls by the C convention that are refused and answered.
+    refused: Vec<&'static str>,
+    damaged: &'static str,
+    k_out: &'static str,
+    several_lists: &'static str,
+    several: &'static str,
+    other_answer: &'static str,
+    safe: &'static str,
 }
 
 impl Names {
-    fn of(operation: &Operation) -> Names {
-        let name = |what: &str| format!("{}, {what}", operation.name);
-        let out_of_range = |number: Number| name(&format!("{} out of range", number.name()));
-        let of_list = |list: List| name(&format!("list {} of a wrong length", list.number()));
-        let too_small = name(&format!("k below {}", operation.least_k));
+    fn of(operation: Op) -> Names {
+        let name = |sort: Sort| sort.name(operation);
+        let lists = operation.lists().into_iter();
         Names {
-            damaged: name(&format!("{} and damaged", operation.k_out_of_range)),
-            k_out: name(operation.k_out_of_range),
-            ranges: operation.ranged().into_iter().map(out_of_range).collect(),
-            too_small: operation.takes(Number::Step).then_some(too_small).into_iter().collect(),
-            lists: operation.lists().into_iter().map(of_list).collect(),
-            several_lists: name(operation.several_lists),
-            bases: DEPENDENT.map(|(what, _)| name(what)).to_vec(),
-            several: name("several causes"),
-            other_answer: format!("{} with an answer list of another length", operation.name),
-            safe: name("safe calls"),
+            operation,
+            lists: lists.map(|list| name(Sort::Length(list))).collect(),
+            bases: (0..4).map(|sort| name(Sort::Dependent(sort))).collect(),
+            refused: Sort::all(operation).into_iter().map(name).collect(),
+            damaged: name(Sort::Damaged),
+            k_out: name(Sort::KOut),
+            several_lists: name(Sort::SeveralLists),
+            several: name(Sort::SeveralCauses),
+            other_answer: with_other_answer(operation),
+            safe: operation.title("safe calls"),
         }
-    }
-
-    /// All comparisons of calls by the C convention that are refused and answered.
-    fn refused(&self) -> Vec<&str> {
-        let alone = [&self.damaged, &self.k_out, &self.several_lists, &self.several];
-        let groups = [&self.ranges, &self.too_small, &self.lists, &self.bases];
-        let all = alone.into_iter().chain(groups.into_iter().flatten());
-        all.map(String::as_str).collect()
     }
 }
 
 /// The mistakes that every operation could make.
-pub fn shared_rows(operation: &'static Operation, others: &Others) -> Vec<Row<Wrong>> {
+pub fn shared_rows(operation: Op, others: &Others) -> Vec<Row<Wrong>> {
     let names = &Names::of(operation);
     let all = [
-        wrong_writing(operation, others, names),
-        wrong_answers(operation, others, names),
-        wrong_lists(operation, names),
-        wrong_order(operation, names),
-        wrong_bases(others, names),
-        wrong_dimensions(operation, names),
-        wrong_ranges(operation, names),
+        wrong_writing(names, others),
+        wrong_answers(names, others),
+        wrong_lists(names),
+        wrong_order(names),
+        wrong_bases(names, others),
+        wrong_dimensions(names),
+        wrong_ranges(names),
     ];
     let unsaid = others.unsaid;
     all.into_iter().flatten().map(|row| Row { unsaid, ..row.of(operation) }).collect()
 }
 
-fn wrong_writing(operation: &Operation, others: &Others, names: &Names) -> Vec<Row<Wrong>> {
+fn wrong_writing(names: &Names, others: &Others) -> Vec<Row<Wrong>> {
+    let refused = [&names.refused[..], &[names.safe], others.dependent].concat();
     let nothing = Wrong { raw: Rc::new(|_, _, _| ()), ..alike(|_, _| refused_at(0, 0)) };
-    let clearing =
-        when_refused(|_, outputs| outputs.lent.iter_mut().for_each(|lent| lent.list().fill(0)));
-    let refused = [&names.refused()[..], &[&names.safe], others.dependent].concat();
     let mut rows = vec![row("nothing is done", nothing)
-        .differs(&refused)
-        .differs(others.right)
-        .differs(others.safely)
-        .agrees(&[&names.other_answer])];
-    if !operation.lent.is_empty() {
+        .differs(&[&refused[..], others.right, others.safely].concat())
+        .agrees(&[names.other_answer])];
+    if !names.operation.lent.is_empty() {
+        let clearing = when_refused(|_, outputs| {
+            outputs.lent.iter_mut().for_each(|lent| lent.list().fill(0));
+        });
         rows.push(row("a refusal clears the lists", clearing).differs(&refused));
     }
-    for (place, list) in operation.lent.iter().enumerate() {
+    for (place, list) in names.operation.lent.iter().enumerate() {
         let first_number = when_refused(move |_, outputs| {
-            outputs.lent[place].list().iter_mut().take(1).for_each(|first| *first ^= 1)
+            outputs.lent[place].list().iter_mut().take(1).for_each(|first| *first ^= 1);
         });
         // Of dimensions out of range only the first is left, which may leave the list empty.
         let mut shown = refused.clone();
@@ -442,7 +432,7 @@ fn wrong_writing(operation: &Operation, others: &Others, names: &Names) -> Vec<R
     rows
 }
 
-fn wrong_answers(operation: &Operation, others: &Others, names: &Names) -> Vec<Row<Wrong>> {
+fn wrong_answers(names: &Names, others: &Others) -> Vec<Row<Wrong>> {
     let not_looking =
         raw_alone(|call, outputs, answer| write_what_fits(right(call, outputs), answer));
     let longer = raw_alone(|call, outputs, answer| {
@@ -455,19 +445,19 @@ fn wrong_answers(operation: &Operation, others: &Others, names: &Names) -> Vec<R
         into_five(answer, || due);
     });
     let only_safe = safe_alone(answering(|_, answer| changed_at(4, answer)));
-    let safely = [others.safely, others.dependent, &[&names.safe]].concat();
-    let other_answer = &[&names.other_answer];
+    let safely = [others.safely, others.dependent, &[names.safe]].concat();
+    let other = &[names.other_answer];
     let mut rows = vec![
-        row("the length of the answer is not looked at", not_looking).differs(other_answer),
+        row("the length of the answer is not looked at", not_looking).differs(other),
         row("a longer answer is written to", longer)
-            .differs(other_answer)
-            .smallest(&names.other_answer, "answer of length 6,"),
+            .differs(other)
+            .smallest(names.other_answer, "answer of length 6,"),
         row("only a safe call is wrong", only_safe).differs(&safely),
     ];
-    if !operation.lent.is_empty() {
-        let what = "the lists are written without an answer";
-        rows.push(row(what, without_an_answer).differs(other_answer));
+    if !names.operation.lent.is_empty() {
+        rows.push(row("the lists are written without an answer", without_an_answer).differs(other));
     }
+    let raw = [&names.refused[..], others.right].concat();
     for place in 0..ANSWER_LENGTH {
         let leaving = raw_alone(move |call, outputs, answer| {
             let left = answer.get(place).copied();
@@ -477,54 +467,45 @@ fn wrong_answers(operation: &Operation, others: &Others, names: &Names) -> Vec<R
             }
         });
         let changing = answering(move |_, answer| changed_at(place, answer));
-        let raw = [&names.refused()[..], others.right].concat();
-        rows.push(
-            row(format!("number {place} of the answer is not written"), leaving).differs(&raw),
-        );
-        rows.push(
-            row(format!("number {place} of the answer is wrong"), changing)
-                .differs(&raw)
-                .differs(&safely)
-                .agrees(other_answer),
-        );
+        let number = format!("number {place} of the answer");
+        rows.push(row(format!("{number} is not written"), leaving).differs(&raw));
+        let all = [&raw[..], &safely].concat();
+        rows.push(row(format!("{number} is wrong"), changing).differs(&all).agrees(other));
     }
     rows
 }
 
-fn wrong_lists(operation: &Operation, names: &Names) -> Vec<Row<Wrong>> {
-    let lists = operation.lists();
+fn wrong_lists(names: &Names) -> Vec<Row<Wrong>> {
+    let lists = names.operation.lists();
     let (last, before) = (lists[lists.len() - 1], lists[lists.len() - 2]);
     let from_0 = refusing(13, |_, answer| refused_at(13, answer.place.unwrap_or(1) - 1));
     let mistaken = refusing(13, move |_, answer| match answer.place == Some(last.number()) {
         true => refused_at(13, before.number()),
         false => answer,
     });
-    let named = [&names.several_lists, &names.several, &names.safe];
+    let all = [&names.lists[..], &[names.several_lists, names.several, names.safe]].concat();
+    let last_alone = [names.lists[lists.len() - 1], names.several, names.safe];
     let mut rows = vec![
-        row("a list is counted from 0", from_0).differs(&names.lists).differs(&named),
-        row("the list is not named", refusing(13, |_, _| refused(13)))
-            .differs(&names.lists)
-            .differs(&named),
-        row("the last list is taken for the one before it", mistaken)
-            .differs(&names.lists[lists.len() - 1..])
-            .differs(&named[1..]),
+        row("a list is counted from 0", from_0).differs(&all),
+        row("the list is not named", refusing(13, |_, _| refused(13))).differs(&all),
+        row("the last list is taken for the one before it", mistaken).differs(&last_alone),
     ];
-    for (list, name) in lists.into_iter().zip(&names.lists) {
+    for (list, &name) in lists.into_iter().zip(&names.lists) {
         let cut = always_instead(move |mut call| {
             let due = call.due_length(list);
             call[list].truncate(due);
             call
         });
         // Where several lists are wrong the last is never the lowest.
-        let shown = if list == last { &named[1..] } else { &named };
+        let several = if list == last { names.several } else { names.several_lists };
         let what = format!("a longer {} is taken", list.name());
-        rows.push(row(what, cut).differs(&[name]).differs(shown));
+        rows.push(row(what, cut).differs(&[name, several, names.several, names.safe]));
     }
     rows
 }
 
 /// The causes in the order of the paper, without the places that are not lists.
-fn order(operation: &Operation) -> Vec<Answer> {
+fn order(operation: Op) -> Vec<Answer> {
     let mut order = vec![refused(4)];
     order.extend(operation.ranged().into_iter().map(|number| refused(range(number).1)));
     order.extend(operation.takes(Number::Step).then(|| refused(7)));
@@ -536,25 +517,24 @@ fn order(operation: &Operation) -> Vec<Answer> {
     order
 }
 
-fn wrong_order(operation: &Operation, names: &Names) -> Vec<Row<Wrong>> {
+fn wrong_order(names: &Names) -> Vec<Row<Wrong>> {
     let is = |one: &Answer, cause: &Answer| {
         one.number == cause.number && (one.number != 13 || one.place == cause.place)
     };
     let mut rows = Vec::new();
-    for pair in order(operation).windows(2) {
+    for pair in order(names.operation).windows(2) {
         let [first, second] = [pair[0], pair[1]];
         let swapped = first_of_all(move |call| match causes(call)[..] {
             [one, other, ..] if is(&one, &first) && is(&other, &second) => Some(other),
             _ => None,
         });
         let both_lists = first.number == 13 && second.number == 13;
-        let shown = [&names.several, &names.several_lists];
+        let shown = if both_lists { names.several_lists } else { names.several };
         let what = format!("cause {} comes before cause {}", second.number, first.number);
         rows.push(
             row(what, swapped)
-                .differs(if both_lists { &shown } else { &shown[..1] })
-                .agrees(&names.bases)
-                .agrees(&names.lists),
+                .differs(&[names.several, shown])
+                .agrees(&[&names.bases[..], &names.lists].concat()),
         );
     }
     let before = |later: u64, earlier: u64| {
@@ -565,17 +545,16 @@ fn wrong_order(operation: &Operation, names: &Names) -> Vec<Row<Wrong>> {
         })
     };
     for (what, wrong, shown) in [
-        ("the basis comes before the lists", before(8, 13), &[&names.several][..]),
-        ("the basis comes before the dimension", before(8, 4), &[&names.several, &names.damaged]),
-        ("the lists come before the dimension", before(13, 4), &[&names.several, &names.damaged]),
+        ("the basis comes before the lists", before(8, 13), names.several),
+        ("the basis comes before the dimension", before(8, 4), names.damaged),
+        ("the lists come before the dimension", before(13, 4), names.damaged),
     ] {
-        rows.push(row(what, wrong).differs(shown).agrees(&names.bases));
+        rows.push(row(what, wrong).differs(&[names.several, shown]).agrees(&names.bases));
     }
     rows
 }
 
-fn wrong_bases(others: &Others, names: &Names) -> Vec<Row<Wrong>> {
-    let bases = &names.bases;
+fn wrong_bases(names: &Names, others: &Others) -> Vec<Row<Wrong>> {
     let testing = |test: BasisTest| {
         refusing(8, move |call, _| {
             test(&call[List::Basis]).map_or(done(), |place| refused_at(8, place as u64))
@@ -587,27 +566,26 @@ fn wrong_bases(others: &Others, names: &Names) -> Vec<Row<Wrong>> {
         let cause = dependent(&lower_halves(&call[List::Basis]));
         cause.filter(|_| !is_refused(call))
     });
-    let safely = &[&[&names.safe[..]], others.dependent].concat();
+    let bases = &names.bases[..];
+    let [zero, repeated, sums, two_places] = [0, 1, 2, 3].map(|sort| bases[sort]);
+    let safely = [&[names.safe], others.dependent].concat();
     vec![
-        row("the place is counted from 1", from_1).differs(bases).differs(safely),
-        row("the last dependent place is given", testing(last_dependent)).differs(&bases[3..]),
+        row("the place is counted from 1", from_1).differs(&[bases, &safely].concat()),
+        row("the last dependent place is given", testing(last_dependent)).differs(&[two_places]),
         row("the last element is not tested", testing(but_the_last))
-            .differs(&bases[..3])
-            .differs(safely),
+            .differs(&[&bases[..3], &safely].concat()),
         row("the first element is not tested", testing(but_the_first))
-            .differs(&bases[..3])
+            .differs(&[zero, repeated, sums])
             .among_others(),
         row("only zero is found dependent", testing(only_zero))
-            .differs(&bases[1..3])
-            .agrees(&bases[..1]),
+            .differs(&[repeated, sums])
+            .agrees(&[zero]),
         row("only zero and repeated elements are found dependent", testing(only_zero_and_repeated))
-            .differs(&bases[2..3])
-            .differs(others.dependent)
-            .agrees(&bases[..2]),
+            .differs(&[&[sums], others.dependent].concat())
+            .agrees(&[zero, repeated]),
         row("only sums of two are found dependent", testing(only_sums_of_two))
-            .differs(&bases[2..3])
-            .agrees(&bases[..2])
-            .agrees(others.dependent),
+            .differs(&[sums])
+            .agrees(&[&[zero, repeated], others.dependent].concat()),
         row("only the lower half of an element is tested", lower_half)
             .differs(&others.right[..1])
             .agrees(bases)
@@ -615,32 +593,29 @@ fn wrong_bases(others: &Others, names: &Names) -> Vec<Row<Wrong>> {
     ]
 }
 
-fn wrong_dimensions(operation: &Operation, names: &Names) -> Vec<Row<Wrong>> {
+fn wrong_dimensions(names: &Names) -> Vec<Row<Wrong>> {
+    let Names { operation, damaged, k_out, several, safe, .. } = *names;
     let (lowest, highest) = (*operation.dimensions.start(), *operation.dimensions.end());
     let refusing_lowest = first_of_all(move |call| (call.k() == lowest).then(|| refused(4)));
+    let near = highest + 1..=highest + 2;
     let taking =
-        refusing(4, move |call, answer| if call.k() == highest + 1 { done() } else { answer });
+        refusing(4, move |call, answer| if near.contains(&call.k()) { done() } else { answer });
     let as_place = refusing(4, |call, _| refused_at(4, call.k()));
     let mut rows = vec![
         row("the lowest dimension is refused", refusing_lowest)
-            .differs(&names.lists)
-            .differs(&[&names.safe])
+            .differs(&[&names.lists[..], &[safe]].concat())
             .among_others(),
-        row("the dimension above the highest is taken", taking)
-            .differs(&[&names.damaged, &names.safe])
+        row("dimensions just above the highest are taken", taking)
+            .differs(&[damaged, safe])
             .agrees(&names.lists),
-        row("the dimension out of range is given as a place", as_place).differs(&[
-            &names.damaged,
-            &names.k_out,
-            &names.several,
-            &names.safe,
-        ]),
+        row("the dimension out of range is given as a place", as_place)
+            .differs(&[damaged, k_out, several, safe]),
     ];
     // Of a dimension that is the length of the basis the lower bits leave a basis in which damage
     // may not show.
     let (bits, shown) = match operation.takes(Number::K) {
-        true => (&[5, 6, 8, 32][..], &names.k_out),
-        false => (&[5, 6, 8][..], &names.damaged),
+        true => (&[5, 6, 8, 32][..], k_out),
+        false => (&[5, 6, 8][..], damaged),
     };
     for &bits in bits {
         let cut = refusing(4, move |call, answer| {
@@ -660,13 +635,14 @@ fn wrong_dimensions(operation: &Operation, names: &Names) -> Vec<Row<Wrong>> {
     rows
 }
 
-fn wrong_ranges(operation: &Operation, names: &Names) -> Vec<Row<Wrong>> {
+fn wrong_ranges(names: &Names) -> Vec<Row<Wrong>> {
     let mut rows = Vec::new();
-    for (number, name) in operation.ranged().into_iter().zip(&names.ranges) {
+    for number in names.operation.ranged() {
+        let name = Sort::Range(number).name(names.operation);
         let (range, cause) = range(number);
         for (value, shown) in [
-            (0, &[name, &names.several][..]),
-            (range.end() + 1, &[name, &names.several, &names.safe]),
+            (0, &[name, names.several][..]),
+            (range.end() + 1, &[name, names.several, names.safe]),
             (range.end() + 5, &[name]),
             (u64::MAX, &[name]),
         ] {
@@ -685,11 +661,12 @@ fn wrong_ranges(operation: &Operation, names: &Names) -> Vec<Row<Wrong>> {
             rows.push(row(what, cut).differs(&[name]));
         }
     }
-    for too_small in &names.too_small {
+    if names.operation.takes(Number::Step) {
+        let too_small = Sort::TooSmall.name(names.operation);
         for other in [refused(6), refused_at(13, 6)] {
             let what = format!("a dimension that is too small has number {}", other.number);
             let renamed = refusing(7, move |_, _| other);
-            rows.push(row(what, renamed).differs(&[too_small, &names.several, &names.safe]));
+            rows.push(row(what, renamed).differs(&[too_small, names.several, names.safe]));
         }
     }
     rows

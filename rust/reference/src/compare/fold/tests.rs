@@ -22,18 +22,7 @@ const FEW: Amounts = Amounts {
     sums: [0, 0, 4, 4, 4, 0, 0, 0, 0, 0, 0, 0, 0],
     challenges: 10,
     refused: refused::Amounts {
-        out_of_range: &[
-            (1, 1),
-            (0, 0),
-            (21, 3),
-            (32, 0),
-            (32 + 5, 5),
-            (64, 0),
-            (64 + 5, 5),
-            (256 + 5, 5),
-            ((1 << 32) + 5, 5),
-            (u64::MAX, 5),
-        ],
+        out_of_range: &[1, 0, 22, 32, 37, 64, 69, 261],
         dimensions: &[2, 3, 4],
         too_small: 20,
         several_lists: 4,
@@ -365,7 +354,7 @@ fn wrong_ranges() -> Vec<Row<Wrong>> {
             "fold, k out of range",
             "several causes",
         ]),
-        row("dimension 21 is taken", taking(21)).differs(&[DAMAGED, SAFE]).smallest(
+        row("dimension 21 is taken", taking(21)).differs(&[SAFE]).smallest(
             SAFE,
             "k 21; step 0; offset 0; challenge 0; basis: nothing; list 3: nothing;",
         ),

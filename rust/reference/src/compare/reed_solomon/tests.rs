@@ -11,7 +11,7 @@ const FEW: Amounts = Amounts {
     interpolations: [5, 15, 15, 15, 5, 0, 0, 1, 0, 0, 0, 0, 0],
     round_trips: [5, 15, 15, 5, 0, 0, 0, 0, 0, 0, 0, 0, 0],
     refused: refused::Amounts {
-        out_of_range: &[(13, 13), (32, 0), (32 + 12, 12), (64, 0), (256 + 12, 12)],
+        out_of_range: &[13, 32, 44, 64, 268],
         dimensions: &[0, 1, 2, 3, 4],
         too_small: 0,
         several_lists: 200,
