@@ -1,5 +1,5 @@
-//! What all comparisons share: running one, making the input of a difference
-//! smaller, and the report.
+//! What all comparisons share: running one, making the input of a difference smaller, and the
+//! report.
 //!
 //! A part of the library adds a file here with its own inputs and comparisons.
 
@@ -20,6 +20,7 @@ mod refused;
 mod wrong;
 
 use crate::answer::Answer;
+use lists::{show_elements, simpler_lists};
 use std::thread;
 
 /// Something that a report can show; numbers are shown in hexadecimal.
@@ -27,15 +28,13 @@ pub trait Show {
     fn show(&self) -> String;
 }
 
-/// An input of a comparison. The smaller it is the easier a difference is to
-/// understand.
+/// An input of a comparison. The smaller it is the easier a difference is to understand.
 pub trait Input: Clone + Show {
     type Size: Ord;
 
     fn size(&self) -> Self::Size;
 
-    /// Inputs to try in place of this one. Those that are not of a smaller size
-    /// are passed over.
+    /// Inputs to try in place of this one. Those that are not of a smaller size are passed over.
     fn simpler(&self) -> Vec<Self>;
 }
 
@@ -74,8 +73,8 @@ impl Comparison {
     }
 }
 
-/// Compares the two sides on all inputs. Both sides must be right for every
-/// input that `simpler` can reach, since a difference is made smaller.
+/// Compares the two sides on all inputs. Both sides must be right for every input that `simpler`
+/// can reach, since a difference is made smaller.
 pub fn compare<I: Input, A: PartialEq + Show>(
     name: &'static str,
     inputs: impl IntoIterator<Item = I>,
@@ -90,8 +89,7 @@ pub fn compare<I: Input, A: PartialEq + Show>(
     comparison(name, asked, sides, &first, &second)
 }
 
-/// The same for a side that waits for something else: the inputs are shared among a
-/// few threads.
+/// The same for a side that waits for something else: the inputs are shared among a few threads.
 pub fn compare_on_threads<I: Input + Sync, A: PartialEq + Show>(
     name: &'static str,
     inputs: &[I],
@@ -152,8 +150,8 @@ fn comparison<I: Input, A: Show + PartialEq>(
     Comparison { name, inputs: compared, difference }
 }
 
-/// Goes to a simpler input for as long as one differs as well, the smallest of them first. It ends
-/// because the size falls in each step.
+/// Goes to a simpler input for as long as one differs as well, the smallest of them first. It
+/// ends because the size falls in each step.
 fn shrink<I: Input>(input: I, differs: impl Fn(&I) -> bool) -> I {
     let mut smallest = input;
     loop {
@@ -273,7 +271,47 @@ impl<const N: usize> Input for [u64; N] {
 
 impl Show for Vec<u64> {
     fn show(&self) -> String {
-        show_numbers(self)
+        show_elements(self)
+    }
+}
+
+impl Input for Vec<u64> {
+    type Size = (usize, u32, Vec<u64>);
+
+    fn size(&self) -> Self::Size {
+        (self.len(), self.iter().map(|number| number.count_ones()).sum(), self.clone())
+    }
+
+    fn simpler(&self) -> Vec<Vec<u64>> {
+        simpler_lists(self, true)
+    }
+}
+
+impl Show for Vec<Vec<u64>> {
+    fn show(&self) -> String {
+        let shown: Vec<String> = self.iter().map(Show::show).collect();
+        shown.join("; ")
+    }
+}
+
+impl<A: Show, B: Show> Show for (A, B) {
+    fn show(&self) -> String {
+        format!("{}; with {}", self.0.show(), self.1.show())
+    }
+}
+
+impl<A: Input, B: Input> Input for (A, B) {
+    type Size = (A::Size, B::Size);
+
+    fn size(&self) -> Self::Size {
+        (self.0.size(), self.1.size())
+    }
+
+    fn simpler(&self) -> Vec<(A, B)> {
+        let (one, other) = self;
+        let ones = one.simpler().into_iter().map(|one| (one, other.clone()));
+        let others = other.simpler().into_iter().map(|other| (one.clone(), other));
+        ones.chain(others).collect()
     }
 }
 

@@ -1,5 +1,5 @@
-//! An implementation written from the paper alone, the comparisons of the library
-//! with it, and samples and example transcripts of what it gives.
+//! An implementation written from the paper alone, the comparisons of the library with it, and
+//! samples and example transcripts of what it gives.
 
 pub mod compare;
 pub mod examples;

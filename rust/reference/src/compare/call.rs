@@ -38,8 +38,8 @@ impl Number {
     }
 }
 
-/// A list that is given to an operation or lent to it for writing, in the order of their
-/// numbers. The queries have no number: no length of theirs is a wrong length.
+/// A list that is given to an operation or lent to it for writing, in the order of their numbers.
+/// The queries have no number: no length of theirs is a wrong length.
 #[derive(Clone, Copy, Debug, PartialEq, Eq, PartialOrd, Ord)]
 pub enum List {
     Basis,
@@ -251,8 +251,8 @@ impl Call {
         call
     }
 
-    /// Lists are as much too long or too short as they were. Small calls are mended as well,
-    /// for a difference that only calls show which nothing is wrong with.
+    /// Lists are as much too long or too short as they were. Small calls are mended as well, for
+    /// a difference that only calls show which nothing is wrong with.
     fn with_lower_parameters(&self) -> Vec<Call> {
         let mut all = self.with_lower_dimensions();
         for number in [Number::Rate, Number::Step] {
@@ -268,49 +268,38 @@ impl Call {
     /// With half of the basis, and with all of it but one element. A call above the range must
     /// have lost its lists first, since in range right ones would make much work.
     fn with_lower_dimensions(&self) -> Vec<Call> {
-        let k = self.k();
-        let largest = *self.operation.dimensions.end();
-        let in_range = k <= largest;
-        let empty = self.clone().without_lists().length_of_lists() == self.length_of_lists();
-        if in_range || (empty && !self.operation.takes(Number::K)) {
-            let all = left_out(k as usize).into_iter();
-            return all.flat_map(|places| self.without(places)).collect();
-        }
-        if !empty {
+        let (k, largest) = (self.k(), *self.operation.dimensions.end());
+        let empty = self.clone().without_lists();
+        if k > largest && empty.length_of_lists() < self.length_of_lists() {
             return Vec::new();
         }
-        let lower = [largest + 1, k / 2, k - 1].into_iter();
-        lower.map(|k| self.clone().with(Number::K, k)).collect()
+        if k > largest && self.operation.takes(Number::K) {
+            return [largest + 1, k / 2, k - 1].map(|k| empty.clone().with(Number::K, k)).to_vec();
+        }
+        left_out(k as usize).into_iter().flat_map(|places| self.without(places)).collect()
     }
 
-    /// The calls without these basis elements, for as far as there are any. Queries in range
-    /// stay so. A list that may be shorter than due also stays as it was for as far as it can.
-    fn without(&self, places: Range<usize>) -> Vec<Call> {
+    /// The calls without these basis elements, for as far as there are any. Queries in range stay
+    /// so. A list 3 that fits also stays as it was for as far as it can, since it may be shorter.
+    fn without(&self, places: Range<usize>) -> [Call; 2] {
         let k = self.k() - places.len() as u64;
-        let mut call = self.clone();
+        let mut call = self.clone().with_setting([k, self[Number::Rate], self[Number::Step]]);
         let kept = (0..self[List::Basis].len()).filter(|place| !places.contains(place));
         call[List::Basis] = kept.map(|place| self[List::Basis][place]).collect();
-        if self.operation.takes(Number::K) {
-            call[Number::K] = k;
-        }
-        let limit = |k: u64| 1u64.checked_shl(k as u32).unwrap_or(u64::MAX);
-        for query in &mut call[List::Queries] {
-            if *query < limit(self.k()) {
-                *query %= limit(k);
-            }
+        for query in call[List::Queries].iter_mut().filter(|query| **query >> self.k() == 0) {
+            *query &= (1 << k) - 1;
         }
         let fitted = self.fitted_to(call);
-        let mut all = vec![fitted.clone()];
-        if self.fits(List::Given) && self.operation.given.contains(&List::Given) {
-            let length = self[List::Given].len().min(fitted.due_length(List::Given));
-            let given = self[List::Given][..length].to_vec();
-            all.push(fitted.with_list(List::Given, given));
+        let mut kept = fitted.clone();
+        if self.fits(List::Given) {
+            kept[List::Given] = self[List::Given].clone();
+            kept[List::Given].truncate(fitted.due_length(List::Given));
         }
-        all
+        [fitted, kept]
     }
 
-    /// The other call with all lists but the basis fitting its numbers as they do those of
-    /// this one.
+    /// The other call with all lists but the basis fitting its numbers as they do those of this
+    /// one.
     fn fitted_to(&self, mut other: Call) -> Call {
         let lists = self.operation.lists();
         for list in lists.into_iter().filter(|&list| list != List::Basis) {

@@ -1,5 +1,5 @@
-//! Bases, offsets, words and challenges that calls are made of, and lengths that
-//! lists must not have.
+//! Bases, offsets, words and challenges that calls are made of, and lengths that lists must not
+//! have.
 
 use crate::coset::{first_dependent, point};
 use crate::random::Random;
@@ -7,8 +7,8 @@ use std::ops::RangeInclusive;
 
 // Each is of one of a few sorts, in turn.
 
-/// An independent basis of any numbers, of numbers that span all of k bits, or
-/// of numbers that only one bit keeps from being dependent.
+/// An independent basis of any numbers, of numbers that span all of k bits, or of numbers that
+/// only one bit keeps from being dependent.
 pub fn basis(random: &mut Random, k: usize, turn: usize) -> Vec<u64> {
     let mut basis = Vec::new();
     while basis.len() < k {
@@ -40,8 +40,8 @@ pub fn offset(random: &mut Random, basis: &[u64], turn: usize) -> u64 {
     }
 }
 
-/// A word of any values, with one value that is not zero, of zeros, or of all
-/// ones. What else a word may be is up to the operation.
+/// A word of any values, with one value that is not zero, of zeros, or of all ones. What else a
+/// word may be is up to the operation.
 pub fn word(random: &mut Random, length: usize, sort: usize) -> Vec<u64> {
     match sort {
         0 => random.list(length),
@@ -55,8 +55,8 @@ pub fn word(random: &mut Random, length: usize, sort: usize) -> Vec<u64> {
     }
 }
 
-/// Any challenge, zero, one, all ones, a point, a zero of q, or what one bit
-/// keeps from being a point.
+/// Any challenge, zero, one, all ones, a point, a zero of q, or what one bit keeps from being a
+/// point.
 pub fn challenge(random: &mut Random, step: usize, offset: u64, basis: &[u64], turn: usize) -> u64 {
     match turn % 7 {
         0 => random.number(),
@@ -71,8 +71,8 @@ pub fn challenge(random: &mut Random, step: usize, offset: u64, basis: &[u64], t
 
 // Wrong lengths.
 
-/// The lengths near the right one, the shortest ones, half and twice the right
-/// one, less those that fit.
+/// The lengths near the right one, the shortest ones, half and twice the right one, less those
+/// that fit.
 pub fn wrong_lengths(right: usize, fits: impl Fn(usize) -> bool) -> Vec<usize> {
     let near = right.saturating_sub(4)..=right + 4;
     let all = near.chain([0, 1, 2, right / 2, 2 * right]);
@@ -161,25 +161,6 @@ pub fn dependent_at_two_places(
     bases
 }
 
-// The same as calls, for comparisons that do not have them from their description.
-
-macro_rules! as_calls {
-    ($name:ident, $bases:ident) => {
-        pub fn $name<C>(
-            random: &mut Random,
-            dimensions: RangeInclusive<usize>,
-            call: impl Fn(&mut Random, Vec<u64>) -> C,
-        ) -> Vec<C> {
-            $bases(random, dimensions).into_iter().map(|basis| call(random, basis)).collect()
-        }
-    };
-}
-
-as_calls!(zero_elements, with_zero_elements);
-as_calls!(repeated_elements, with_repeated_elements);
-as_calls!(sums_of_elements, with_sums_of_elements);
-as_calls!(two_dependent_places, dependent_at_two_places);
-
 // Bases of any length.
 
 /// A basis that is independent for as far as it can be.
@@ -187,13 +168,4 @@ pub fn longest_basis(random: &mut Random, k: usize) -> Vec<u64> {
     let mut basis = any_basis(random, k.min(64));
     basis.extend(random.list(k - basis.len()));
     basis
-}
-
-pub fn with_zero(basis: &[u64]) -> Vec<u64> {
-    [&[0], &basis[1..]].concat()
-}
-
-/// The last element is the first one again.
-pub fn with_repetition(basis: &[u64]) -> Vec<u64> {
-    [&basis[..basis.len() - 1], &basis[..1]].concat()
 }

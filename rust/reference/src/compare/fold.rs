@@ -5,9 +5,7 @@ mod properties;
 use super::call::{Call, List, Number};
 use super::cosets::{self, basis, challenge, offset};
 use super::lent::FILLS;
-use super::operation::{
-    after_raw, after_safe, case, exactly, not_mended, raw_calls, Library, Operation, Outputs,
-};
+use super::operation::{after_raw, after_safe, case, raw_calls, Library, Operation, Outputs};
 use super::{compare, library, refused, Comparison, Show};
 use super::{PAPER_AND_LIBRARY, REFERENCE_AND_LIBRARY};
 use crate::answer::{refused_at, went_well, Answer};
@@ -30,13 +28,13 @@ pub static FOLD: Operation = Operation {
         (1..=highest).map(|step| [k, 0, step]).collect()
     },
     due_length,
-    fits: exactly,
+    fits: |_, length, due| length == due,
     refusal: |call| next_coset(call).err(),
     due: |call, outputs| {
         let [values, next_basis] = lent_lengths(call);
         write_due(fold::fold(given(call), values, next_basis), outputs)
     },
-    mended: not_mended,
+    mended: |_| None,
     safe: library::fold,
     raw: library::raw_fold,
     right: |random, [k, _, step], turn| right(random, k, step, turn),
@@ -90,9 +88,9 @@ fn write_due(due: Result<Folded, Answer>, outputs: &mut Outputs) -> Answer {
     }
 }
 
-// Right calls. The basis, the offset, the word and the challenge are each of one of a few sorts, in
-// turn. There are 3, 4, 5 and 7 sorts, and as these numbers have no common divisor all combinations
-// come up within 420 turns.
+// Right calls. The basis, the offset, the word and the challenge are each of one of a few sorts,
+// in turn. There are 3, 4, 5 and 7 sorts, and as these numbers have no common divisor all
+// combinations come up within 420 turns.
 
 fn right(random: &mut Random, k: u64, step: u64, turn: usize) -> Call {
     let basis = basis(random, k as usize, turn);
@@ -320,8 +318,8 @@ fn table_a(library: &dyn Library) -> Vec<Comparison> {
     ]
 }
 
-/// The smallest challenges and random ones, as many of each as the amount says, single bits, those
-/// that one bit keeps from being 2, and all ones.
+/// The smallest challenges and random ones, as many of each as the amount says, single bits,
+/// those that one bit keeps from being 2, and all ones.
 pub(super) fn challenges_of_case_j(random: &mut Random, amount: usize) -> Vec<u64> {
     let smallest = 0..amount as u64;
     let bits = (0..64).flat_map(|place| [1 << place, 2 ^ (1 << place)]);

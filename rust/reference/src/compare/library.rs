@@ -1,5 +1,5 @@
-//! The functions of the verified library as the comparisons call them. Nothing else here knows how
-//! it is called.
+//! The functions of the verified library as the comparisons call them. Nothing else here knows
+//! how it is called.
 
 use super::call::{Call, List, Number};
 use super::operation::Outputs;

@@ -59,20 +59,6 @@ pub struct Operation {
 /// Operations are descriptions that do not change.
 pub type Op = &'static Operation;
 
-/// Only the length that is due is right.
-pub fn exactly(_: List, length: usize, due: usize) -> bool {
-    length == due
-}
-
-/// There are no better lists.
-pub fn not_mended(_: &Call) -> Option<Call> {
-    None
-}
-
-pub fn nothing_special(_: &mut Random, _: Setting) -> Vec<Call> {
-    Vec::new()
-}
-
 impl PartialEq for Operation {
     fn eq(&self, other: &Operation) -> bool {
         self.name == other.name
@@ -125,15 +111,9 @@ impl Operation {
             false => setting[0] as usize,
         };
         let basis = longest_basis(random, k);
-        self.any_over(random, setting, basis)
-    }
-
-    pub fn any_over(&'static self, random: &mut Random, setting: Setting, basis: Vec<u64>) -> Call {
         let mut call = Call::of(self).with_setting(setting).with_list(List::Basis, basis);
         for number in [Number::Offset, Number::Challenge] {
-            if self.takes(number) {
-                call[number] = random.number();
-            }
+            call[number] = if self.takes(number) { random.number() } else { 0 };
         }
         for list in self.lists().into_iter().filter(|&list| list != List::Basis) {
             let due = call.due_length(list);
@@ -143,8 +123,7 @@ impl Operation {
             let in_range = 1 << call.k().min(*self.dimensions.end());
             call[List::Queries] = (0..3).map(|_| random.below(in_range) as u64).collect();
         }
-        call.fill = FILLS[random.below(2)];
-        call
+        call.with_fill(FILLS[random.below(2)])
     }
 }
 
@@ -287,13 +266,8 @@ pub fn raw_calls(
     name: &'static str,
     inputs: impl IntoIterator<Item = Call>,
 ) -> Comparison {
-    compare(
-        name,
-        inputs,
-        REFERENCE_AND_LIBRARY,
-        |call| after_raw(&Reference, call),
-        |call| after_raw(library, call),
-    )
+    let due = |call: &Call| after_raw(&Reference, call);
+    compare(name, inputs, REFERENCE_AND_LIBRARY, due, |call| after_raw(library, call))
 }
 
 /// Compares safe calls with the reference.
@@ -302,13 +276,8 @@ pub fn safe_calls(
     name: &'static str,
     inputs: impl IntoIterator<Item = Call>,
 ) -> Comparison {
-    compare(
-        name,
-        inputs,
-        REFERENCE_AND_LIBRARY,
-        |call| after_safe(&Reference, call),
-        |call| after_safe(library, call),
-    )
+    let due = |call: &Call| after_safe(&Reference, call);
+    compare(name, inputs, REFERENCE_AND_LIBRARY, due, |call| after_safe(library, call))
 }
 
 /// Compares the safe call of a case with what the paper has for it: an answer, and for each lent

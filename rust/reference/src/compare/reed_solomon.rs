@@ -3,83 +3,48 @@
 use super::call::{Call, List, Number};
 use super::cosets::{self, basis, offset};
 use super::lent::FILLS;
-use super::operation::{
-    after_safe, case, exactly, not_mended, nothing_special, raw_calls, Library, Operation, Outputs,
-};
-use super::{compare, library, refused, Comparison, Show, PAPER_AND_LIBRARY};
-use crate::answer::{done, refused_at, Answer};
+use super::operation::{after_safe, case, raw_calls, Library, Op, Operation, Outputs};
+use super::{compare, library, refused, Comparison, PAPER_AND_LIBRARY};
+use crate::answer::{done, raw, refused_at, Answer};
 use crate::coset::points;
 use crate::random::Random;
 use crate::reed_solomon::{self, may_encode, may_interpolate, LARGEST_K};
 use std::ops::RangeInclusive;
 
-// The two operations, which are called alike.
+/// What both operations have.
+const CODE: Operation = Operation {
+    name: "",
+    numbers: &[Number::Offset],
+    given: &[List::Basis, List::Given],
+    lent: &[List::Output],
+    dimensions: 0..=LARGEST_K as u64,
+    settings: |k| vec![[k, 0, 0]],
+    due_length,
+    fits: |_, length, due| length == due,
+    refusal: |call| may_interpolate(&call[List::Basis], length_3(call), length_6(call)).err(),
+    due: |call, outputs| write_due(reed_solomon::interpolate, call, outputs),
+    mended: |_| None,
+    safe: library::interpolate,
+    raw: library::raw_interpolate,
+    right: |random, [k, ..], turn| over_coset(&INTERPOLATE, random, k, turn),
+    special: |_, _| Vec::new(),
+    k_out_of_range: "k over 12",
+    least_k: "",
+    several_lists: "lists 3 and 6 of wrong lengths",
+};
+
+pub static INTERPOLATE: Operation = Operation { name: "interpolate", ..CODE };
 
 pub static ENCODE: Operation = Operation {
     name: "encode",
-    numbers: &[Number::Offset],
-    given: &[List::Basis, List::Given],
-    lent: &[List::Output],
-    dimensions: 0..=LARGEST_K as u64,
-    settings: |k| vec![[k, 0, 0]],
-    due_length,
     fits: |list, length, due| length == due || (list == List::Given && length < due),
-    refusal: |call| {
-        let [basis, given, output] = lists_of(call);
-        may_encode(basis, given.len(), output.len()).err()
-    },
-    due: |call, outputs| {
-        let [basis, given, output] = lists_of(call);
-        let due = reed_solomon::encode(call[Number::Offset], basis, given, output.len());
-        write_due(due, outputs)
-    },
-    mended: not_mended,
+    refusal: |call| may_encode(&call[List::Basis], length_3(call), length_6(call)).err(),
+    due: |call, outputs| write_due(reed_solomon::encode, call, outputs),
     safe: library::encode,
     raw: library::raw_encode,
-    right: |random, [k, ..], turn| {
-        let call = over_coset(&ENCODE, random, k, turn);
-        let coefficients = coefficients(random, 1 << k, turn);
-        call.with_list(List::Given, coefficients)
-    },
-    special: nothing_special,
-    k_out_of_range: "k over 12",
-    least_k: "",
-    several_lists: "lists 3 and 6 of wrong lengths",
+    right: |random, [k, ..], turn| over_coset(&ENCODE, random, k, turn),
+    ..CODE
 };
-
-pub static INTERPOLATE: Operation = Operation {
-    name: "interpolate",
-    numbers: &[Number::Offset],
-    given: &[List::Basis, List::Given],
-    lent: &[List::Output],
-    dimensions: 0..=LARGEST_K as u64,
-    settings: |k| vec![[k, 0, 0]],
-    due_length,
-    fits: exactly,
-    refusal: |call| {
-        let [basis, given, output] = lists_of(call);
-        may_interpolate(basis, given.len(), output.len()).err()
-    },
-    due: |call, outputs| {
-        let [basis, given, output] = lists_of(call);
-        let due = reed_solomon::interpolate(call[Number::Offset], basis, given, output.len());
-        write_due(due, outputs)
-    },
-    mended: not_mended,
-    safe: library::interpolate,
-    raw: library::raw_interpolate,
-    right: |random, [k, ..], turn| {
-        let call = over_coset(&INTERPOLATE, random, k, turn);
-        let word = word(random, &call, turn);
-        call.with_list(List::Given, word)
-    },
-    special: nothing_special,
-    k_out_of_range: "k over 12",
-    least_k: "",
-    several_lists: "lists 3 and 6 of wrong lengths",
-};
-
-const BOTH: [&Operation; 2] = [&ENCODE, &INTERPOLATE];
 
 fn due_length(call: &Call, list: List) -> usize {
     match list {
@@ -88,12 +53,19 @@ fn due_length(call: &Call, list: List) -> usize {
     }
 }
 
-fn lists_of(call: &Call) -> [&Vec<u64>; 3] {
-    [List::Basis, List::Given, List::Output].map(|list| &call[list])
+fn length_3(call: &Call) -> usize {
+    call[List::Given].len()
 }
 
-fn write_due(due: Result<Vec<u64>, Answer>, outputs: &mut Outputs) -> Answer {
-    match due {
+fn length_6(call: &Call) -> usize {
+    call[List::Output].len()
+}
+
+/// Takes offset, basis, list 3 and the length of list 6.
+type Code = fn(u64, &[u64], &[u64], usize) -> Result<Vec<u64>, Answer>;
+
+fn write_due(code: Code, call: &Call, outputs: &mut Outputs) -> Answer {
+    match code(call[Number::Offset], &call[List::Basis], &call[List::Given], length_6(call)) {
         Ok(list) => {
             outputs.first().copy_from_slice(&list);
             done()
@@ -102,38 +74,34 @@ fn write_due(due: Result<Vec<u64>, Answer>, outputs: &mut Outputs) -> Answer {
     }
 }
 
-// Right calls. The basis, the offset and list 3 are each of one of a few sorts, in turn. There are
-// 3, 4 and 5 sorts, and as these numbers have no common divisor all combinations come up within 60
-// turns.
-
-fn over_coset(operation: &'static Operation, random: &mut Random, k: u64, turn: usize) -> Call {
+/// A right call. The basis, the offset and list 3 are each of one of a few sorts, in turn. There
+/// are 3, 4 and 5 sorts, and as these numbers have no common divisor all combinations come up
+/// within 60 turns.
+fn over_coset(operation: Op, random: &mut Random, k: u64, turn: usize) -> Call {
     let basis = basis(random, k as usize, turn);
     let offset = offset(random, &basis, turn);
-    let mut call = Call::of(operation)
+    let given = match operation == &ENCODE {
+        true => coefficients(random, 1 << k, turn),
+        false => word(random, offset, &basis, turn),
+    };
+    Call::of(operation)
         .with(Number::Offset, offset)
         .with_list(List::Basis, basis)
-        .with_length(List::Output, 1 << k);
-    call.fill = FILLS[random.below(2)];
-    call
+        .with_list(List::Given, given)
+        .with_length(List::Output, 1 << k)
+        .with_fill(FILLS[random.below(2)])
 }
 
 /// As many coefficients as there may be, one less, some, one or none.
 fn coefficients(random: &mut Random, all: usize, turn: usize) -> Vec<u64> {
-    let count = match turn % 5 {
-        0 => all,
-        1 => all - 1,
-        2 => random.below(all + 1),
-        3 => 1,
-        _ => 0,
-    };
+    let count = [all, all - 1, random.below(all + 1), 1, 0][turn % 5];
     random.list(count)
 }
 
 /// A word of one of the common sorts, or of the points themselves.
-fn word(random: &mut Random, call: &Call, turn: usize) -> Vec<u64> {
-    let basis = &call[List::Basis];
+fn word(random: &mut Random, offset: u64, basis: &[u64], turn: usize) -> Vec<u64> {
     match turn % 5 {
-        4 => points(call[Number::Offset], basis),
+        4 => points(offset, basis),
         sort => cosets::word(random, 1 << basis.len(), sort),
     }
 }
@@ -143,7 +111,7 @@ type Turns = [usize; LARGEST_K + 1];
 
 fn right_calls(
     random: &mut Random,
-    operation: &Operation,
+    operation: Op,
     dimensions: RangeInclusive<u64>,
     amounts: &Turns,
 ) -> Vec<Call> {
@@ -185,7 +153,8 @@ pub const FULL: Amounts = Amounts {
 /// Runs all comparisons of this file.
 pub fn comparisons(library: &dyn Library, amounts: &Amounts) -> Vec<Comparison> {
     let mut all = Vec::new();
-    for (operation, turns) in BOTH.into_iter().zip([&amounts.encodings, &amounts.interpolations]) {
+    let operations = [(&ENCODE, &amounts.encodings), (&INTERPOLATE, &amounts.interpolations)];
+    for (operation, turns) in operations {
         for (what, dimensions) in [("k 0 to 6", 0..=6), ("k 7 to 12", 7..=12)] {
             let name = operation.title(what);
             let inputs = right_calls(&mut Random::named(name), operation, dimensions, turns);
@@ -199,20 +168,6 @@ pub fn comparisons(library: &dyn Library, amounts: &Amounts) -> Vec<Comparison> 
 }
 
 // There and back, with the library in both directions.
-
-/// The answers of the two calls, and the list that came back.
-#[derive(PartialEq)]
-struct Trip {
-    answers: [Answer; 2],
-    list: Vec<u64>,
-}
-
-impl Show for Trip {
-    fn show(&self) -> String {
-        let [there, back] = self.answers.map(|answer| answer.show());
-        format!("there: {there}; back: {back}; list: {}", self.list.show())
-    }
-}
 
 fn round_trips(library: &dyn Library, amounts: &Turns) -> [Comparison; 2] {
     let trips = [
@@ -230,18 +185,16 @@ fn round_trips(library: &dyn Library, amounts: &Turns) -> [Comparison; 2] {
     })
 }
 
-/// The list itself, with zeros for coefficients that were left off. A call that is refused, as
-/// smaller ones may be, gives nothing back.
-fn trip_due(call: &Call) -> Option<Trip> {
-    if call.refusal().is_some() {
-        return None;
-    }
+/// Both answers, and the list itself, with zeros for coefficients that were left off. A call that
+/// is refused, as smaller ones may be, gives nothing back.
+fn trip_due(call: &Call) -> Option<Vec<Vec<u64>>> {
     let mut list = call[List::Given].clone();
-    list.resize(call[List::Output].len(), 0);
-    Some(Trip { answers: [done(); 2], list })
+    list.resize(length_6(call), 0);
+    let answer = raw(&done()).to_vec();
+    call.refusal().is_none().then(|| vec![answer.clone(), answer, list])
 }
 
-fn trip_of_library(library: &dyn Library, call: &Call, back: &'static Operation) -> Option<Trip> {
+fn trip_of_library(library: &dyn Library, call: &Call, back: Op) -> Option<Vec<Vec<u64>>> {
     if call.refusal().is_some() {
         return None;
     }
@@ -249,14 +202,14 @@ fn trip_of_library(library: &dyn Library, call: &Call, back: &'static Operation)
     let between = there.outputs.first().to_vec();
     let returning = Call { operation: back, ..call.clone() }.with_list(List::Given, between);
     let mut returned = after_safe(library, &returning);
-    let answers = [there.answer, returned.answer];
-    Some(Trip { answers, list: returned.outputs.first().to_vec() })
+    let answers = [there.answer, returned.answer].map(|answer| raw(&answer).to_vec());
+    Some([&answers[..], &returned.outputs.contents()].concat())
 }
 
 // Table A.
 
 /// A call in a case of the paper, where the coset is one of offset zero.
-fn in_case(operation: &'static Operation, basis: &[u64], given: &[u64]) -> Call {
+fn in_case(operation: Op, basis: &[u64], given: &[u64]) -> Call {
     Call::of(operation)
         .with_list(List::Basis, basis.to_vec())
         .with_list(List::Given, given.to_vec())

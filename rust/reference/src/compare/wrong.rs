@@ -11,7 +11,8 @@ use std::rc::Rc;
 
 // A table.
 
-/// A wrong library, and what it shows in. A name stands for all comparisons whose names end in it.
+/// A wrong library, and what it shows in. A name stands for all comparisons whose names end in
+/// it.
 pub struct Row<L> {
     what: String,
     library: L,
@@ -98,8 +99,8 @@ pub fn smallest(comparisons: &[Comparison], name: &str) -> String {
     difference.map_or("nothing".to_string(), |difference| difference.smallest.clone())
 }
 
-/// Holds that the right library agrees with the reference, that each row is as it says, that every
-/// comparison differs for some row, and that no two comparisons have one name.
+/// Holds that the right library agrees with the reference, that each row is as it says, that
+/// every comparison differs for some row, and that no two comparisons have one name.
 pub fn hold_table<L>(right: &L, rows: &[Row<L>], comparisons: impl Fn(&L) -> Vec<Comparison>) {
     let all = comparisons(right);
     assert_eq!(differing(&all), [""; 0]);
@@ -352,8 +353,8 @@ pub struct Others {
     pub safely: &'static [&'static str],
     /// Those of safe calls with a dependent basis.
     pub dependent: &'static [&'static str],
-    /// Those of calls that are refused for other causes among others: what they show of a mistake is
-    /// left open.
+    /// Those of calls that are refused for other causes among others: what they show of a mistake
+    /// is left open.
     pub unsaid: &'static [&'static str],
 }
 
