@@ -245,7 +245,7 @@ impl Input for u64 {
 
 impl<const N: usize> Show for [u64; N] {
     fn show(&self) -> String {
-        show_numbers(self)
+        self.map(|number| number.show()).join(", ")
     }
 }
 
@@ -315,11 +315,6 @@ impl<A: Input, B: Input> Input for (A, B) {
     }
 }
 
-fn show_numbers(numbers: &[u64]) -> String {
-    let shown: Vec<String> = numbers.iter().map(Show::show).collect();
-    shown.join(", ")
-}
-
 impl<A: Show> Show for Option<A> {
     fn show(&self) -> String {
         self.as_ref().map_or_else(|| "none".to_string(), A::show)
@@ -348,62 +343,37 @@ mod tests {
     }
 
     #[test]
-    fn equal_sides_agree() {
-        let comparison = compare_numbers(vec![1, 2, 3], |a| *a);
-        assert!(comparison.agrees());
-        let report = report(&[comparison], "a table\n");
-        assert!(report.agrees);
-        assert_eq!(report.text, "test: 3 inputs\na table\nreference: 1 comparisons agree\n");
+    fn equal_sides_agree_if_there_are_inputs() {
+        let right = report(&[compare_numbers(vec![1, 2, 3], |a| *a)], "a table\n");
+        assert_eq!(right.text, "test: 3 inputs\na table\nreference: 1 comparisons agree\n");
+        let nothing = compare_numbers(Vec::new(), |a| *a);
+        assert!(right.agrees && !report(&[nothing], "").agrees && !report(&[], "").agrees);
     }
 
     #[test]
-    fn a_difference_is_reported_in_hexadecimal() {
-        let comparison = compare_numbers(vec![0, 0xf7, 0x1f], |a| a & !0x10);
-        assert!(!comparison.agrees());
-        let report = report(&[comparison], "");
+    fn a_difference_among_many_is_reported_in_hexadecimal() {
+        let right = compare_numbers(vec![1], |a| *a);
+        let wrong = compare_numbers(vec![0, 0xf7, 0x1f], |a| a & !0x10);
+        let report = report(&[right.clone(), wrong, right], "");
         assert!(!report.agrees);
         assert_eq!(
             report.text,
-            "test: 3 inputs, 2 of them DIFFER\n  smallest input: 10\n  \
-             reference: 10\n  library: 0\n\
-             reference: 1 of 1 comparisons do not agree\n"
+            "test: 1 inputs\ntest: 3 inputs, 2 of them DIFFER\n  smallest input: 10\n  \
+             reference: 10\n  library: 0\ntest: 1 inputs\n\
+             reference: 1 of 3 comparisons do not agree\n"
         );
     }
 
     #[test]
-    fn one_difference_among_many_is_enough() {
-        let right = compare_numbers(vec![1], |a| *a);
-        let wrong = compare_numbers(vec![1], |_| 0);
-        let report = report(&[right.clone(), wrong, right], "");
-        assert!(!report.agrees);
-    }
-
-    #[test]
-    fn the_smallest_of_the_inputs_is_taken() {
+    fn the_smallest_input_is_shown() {
         // Without anything simpler the inputs themselves are all there is.
         let inputs = [0xff, 0x300, 0x60, 0x7].map(Fixed);
-        let comparison = compare("test", inputs, REFERENCE_AND_LIBRARY, |Fixed(a)| *a, |_| 1u64);
-        assert_eq!(comparison.difference.unwrap().smallest, "60");
-    }
-
-    #[test]
-    fn a_pair_is_made_smaller_in_both_places() {
-        let comparison = compare(
-            "test",
-            [[u64::MAX, u64::MAX]],
-            REFERENCE_AND_LIBRARY,
-            |_| 0u64,
-            |&[a, b]| a & 6 & (b >> 3),
-        );
-        assert_eq!(comparison.difference.unwrap().smallest, "2, 10");
-    }
-
-    #[test]
-    fn a_comparison_of_nothing_does_not_agree() {
-        let comparison = compare_numbers(Vec::new(), |a| *a);
-        assert!(!comparison.agrees());
-        assert!(!report(&[comparison], "").agrees);
-        assert!(!report(&[], "").agrees);
+        let fixed = compare("test", inputs, REFERENCE_AND_LIBRARY, |Fixed(a)| *a, |_| 1u64);
+        assert_eq!(fixed.difference.unwrap().smallest, "60");
+        let of_pair = |&[a, b]: &[u64; 2]| a & 6 & (b >> 3);
+        let inputs = [[u64::MAX, u64::MAX]];
+        let pair = compare("test", inputs, REFERENCE_AND_LIBRARY, |_| 0u64, of_pair);
+        assert_eq!(pair.difference.unwrap().smallest, "2, 10");
     }
 
     /// As many as one thread takes or fewer, and more.
@@ -417,14 +387,7 @@ mod tests {
             let shared = compare_on_threads("test", &inputs, sides, |a| *a, second);
             let text = |comparison| report(&[comparison], "").text;
             assert_eq!(text(shared), text(one_by_one));
+            assert!(inputs.iter().map(second).eq(on_threads(&inputs, second)));
         }
-    }
-
-    #[test]
-    fn the_answers_of_threads_are_in_order() {
-        let inputs: Vec<u64> = (0..50).collect();
-        let due = inputs.iter().map(|input| input % 3 == 0);
-        let answers = on_threads(&inputs, |input| input % 3 == 0);
-        assert!(due.eq(answers));
     }
 }

@@ -341,3 +341,61 @@ fn lower_than(number: u64) -> BTreeSet<u64> {
     let all = (0..=4).chain(near);
     all.filter(|lower| *lower < number).collect()
 }
+
+#[cfg(test)]
+mod tests {
+    use super::*;
+    use crate::compare::fold::FOLD;
+    use crate::compare::reed_solomon::ENCODE;
+    use crate::random::Random;
+
+    fn any(operation: &'static Operation, setting: [u64; 3]) -> Call {
+        operation.any(&mut Random::named("calls"), setting).with_fill(0x100)
+    }
+
+    #[test]
+    fn a_call_is_shown_in_full() {
+        let call = any(&FOLD, [2, 0, 1]).with(Number::Offset, 0x1b).with(Number::Challenge, 0xc);
+        let call = call.with_list(List::Basis, vec![1, 2]).with_list(List::Given, vec![7, 4, 1, 2]);
+        assert_eq!(
+            call.show(),
+            "k 2; step 1; offset 1b; challenge c; basis: 1, 2; list 3: 7, 4, 1, 2; \
+             list 6 of length 2; list 7 of length 1; answer of length 5, filled from 100"
+        );
+    }
+
+    #[test]
+    fn lists_fit_other_numbers_as_before() {
+        let call = any(&FOLD, [5, 0, 2]).with_length(List::Output, 9);
+        let lengths = |call: &Call| FOLD.lists().iter().map(|&list| call[list].len()).collect();
+        let [fewer, _] = call.without(1..3);
+        let lower = call.fitted_to(call.clone().with(Number::Step, 1));
+        let lengths: [Vec<usize>; 2] = [lengths(&fewer), lengths(&lower)];
+        assert_eq!(lengths, [[3, 8, 3, 1], [5, 32, 17, 4]]);
+    }
+
+    /// Else a trial would not be worth its cost.
+    #[test]
+    fn a_large_call_has_few_that_are_simpler() {
+        assert!(any(&FOLD, [12, 0, 3]).simpler().len() < 40);
+        assert!(any(&ENCODE, [12, 0, 0]).simpler().len() < 40);
+    }
+
+    #[test]
+    fn a_call_above_the_range_keeps_its_dimension_until_its_lists_are_empty() {
+        for above in [any(&FOLD, [21, 0, 1]), any(&ENCODE, [13, 0, 0])] {
+            let is_lower = |call: &Call| call.k() < above.k();
+            assert!(!above.simpler().iter().any(is_lower));
+            assert!(above.clone().without_lists().simpler().iter().any(is_lower));
+        }
+    }
+
+    #[test]
+    fn the_smallest_call_has_none_that_is_simpler() {
+        for operation in [&FOLD, &ENCODE] {
+            let smallest = Call::of(operation);
+            let size = smallest.size();
+            assert!(smallest.simpler().iter().all(|call| call.size() >= size));
+        }
+    }
+}

@@ -305,3 +305,27 @@ pub fn case(
         |Fixed(call)| after_safe(library, call),
     )
 }
+
+#[cfg(test)]
+mod tests {
+    use super::*;
+    use crate::answer::NONE;
+    use crate::compare::fold::FOLD;
+
+    /// A safe function cannot write beside its list, so this stands where the library is called.
+    #[test]
+    fn a_number_beside_a_list_shows() {
+        let call = FOLD.any(&mut Random::named("beside"), [3, 0, 1]);
+        let due = after_raw(&Reference, &call);
+        for list in 0..2 {
+            for (place, number) in [(-1, NONE), (0, 0)] {
+                let mut after = after_raw(&Reference, &call);
+                assert!(after == due);
+                let lent = &mut after.outputs.lent[list];
+                let edge = if place < 0 { lent.list.start - 1 } else { lent.list.end };
+                lent.numbers[edge] = number;
+                assert!(after != due);
+            }
+        }
+    }
+}

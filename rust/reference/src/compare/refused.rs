@@ -87,7 +87,10 @@ impl Sort {
         let huge = if operation.takes(Number::K) { &HUGE[..] } else { &[] };
         let out = [amounts.out_of_range, huge].concat();
         match self {
-            Sort::Damaged => damaged(operation, &out),
+            Sort::Damaged => {
+                let plans = k_out_of_range(operation, &out).into_iter();
+                plans.flat_map(|plan| with_faults(operation, &plan)).collect()
+            }
             Sort::KOut => k_out_of_range(operation, &out),
             Sort::Range(number) => out_of_range(operation, number, amounts.dimensions),
             Sort::TooSmall => too_small(random, operation, amounts.too_small),
@@ -277,36 +280,42 @@ fn k_out_of_range(operation: Op, dimensions: &[u64]) -> Vec<Plan> {
     let mut plans = Vec::new();
     for &k in dimensions {
         for lists_for in taken_for(operation, k) {
-            let [_, rate, step] = lists_for;
-            let plan = Plan { lists_for, ..Plan::of([k, rate, step]) };
-            if k <= LONGEST_BASIS {
+            let plan = with_k(operation, k, lists_for);
+            if operation.takes(Number::K) && k <= LONGEST_BASIS {
                 plans.push(plan.clone().with_length(List::Basis, k as usize));
             }
-            if operation.takes(Number::K) {
-                plans.push(plan);
-            }
+            plans.push(plan);
         }
     }
     plans
 }
 
-/// The same with damage of each sort.
-fn damaged(operation: Op, dimensions: &[u64]) -> Vec<Plan> {
-    let mut plans = Vec::new();
-    for plan in k_out_of_range(operation, dimensions) {
-        let with_zero = Plan { basis: Basis::WithZero, ..plan.clone() };
-        plans.push(Plan { basis: Basis::WithRepetition, ..plan.clone() });
-        plans.push(with_zero.clone().without_lists(operation));
-        plans.push(with_zero);
-        plans.push(plan.clone().without_lists(operation));
-        let lists = operation.lists().into_iter();
-        plans.extend(lists.map(|list| plan.clone().with_longer(operation, list)));
-        for number in operation.ranged() {
-            for value in [0, range(number).0.end() + 1] {
-                let mut plan = plan.clone();
-                plan.setting[number as usize] = value;
-                plans.push(plan);
-            }
+/// Right but for the dimension.
+fn with_k(operation: Op, k: u64, lists_for: Setting) -> Plan {
+    let [_, rate, step] = lists_for;
+    let plan = Plan { lists_for, ..Plan::of([k, rate, step]) };
+    match operation.takes(Number::K) {
+        true => plan,
+        false => plan.with_length(List::Basis, k as usize),
+    }
+}
+
+/// The plan with something else that is wrong, of each sort.
+fn with_faults(operation: Op, plan: &Plan) -> Vec<Plan> {
+    let with_zero = Plan { basis: Basis::WithZero, ..plan.clone() };
+    let mut plans = vec![
+        Plan { basis: Basis::WithRepetition, ..plan.clone() },
+        with_zero.clone().without_lists(operation),
+        with_zero,
+        plan.clone().without_lists(operation),
+    ];
+    let lists = operation.lists().into_iter();
+    plans.extend(lists.map(|list| plan.clone().with_longer(operation, list)));
+    for number in operation.ranged() {
+        for value in [0, range(number).0.end() + 1] {
+            let mut plan = plan.clone();
+            plan.setting[number as usize] = value;
+            plans.push(plan);
         }
     }
     plans
@@ -521,27 +530,14 @@ fn setting_with(random: &mut Random, operation: &Operation, chosen: &[Cause]) ->
 
 // A few calls of every sort.
 
-/// Right calls, those that are special to the operation, and one for each cause of a refusal.
-fn one_of_each(random: &mut Random, operation: Op, setting: Setting, turn: usize) -> Vec<Call> {
-    let [k, rate, step] = setting;
+/// Right calls, those that are special to the operation, and some for each cause of a refusal.
+fn some_of_each(random: &mut Random, operation: Op, setting: Setting, turn: usize) -> Vec<Call> {
     let right = Plan::of(setting);
-    let above = [operation.dimensions.end() + 1, rate, step];
-    let mut out = Plan { lists_for: setting, ..Plan::of(above) };
-    if !operation.takes(Number::K) {
-        out = out.with_length(List::Basis, above[0] as usize);
-    }
-    let with_one = [k.max(1), rate, step];
-    let basis = Basis::Given(any_dependent(random, with_one[0] as usize));
-    let mut plans = vec![right.clone(), out, Plan { basis, ..Plan::of(with_one) }];
-    for number in operation.ranged() {
-        let mut plan = right.clone();
-        plan.setting[number as usize] = range(number).0.end() + 1;
-        plans.push(plan);
-    }
+    let mut plans = with_faults(operation, &right);
+    plans.push(with_k(operation, operation.dimensions.end() + 1, setting));
     let too_small = too_small_settings(operation).into_iter().take(1);
     plans.extend(too_small.map(|setting| Plan { setting, ..right.clone() }));
-    let lists = operation.lists().into_iter();
-    plans.extend(lists.map(|list| right.clone().with_longer(operation, list)));
+    plans.push(right);
     let mut calls = (operation.special)(random, setting);
     calls.push((operation.right)(random, setting, turn));
     calls.extend(plans.into_iter().map(|plan| plan.call(random, operation)));
@@ -556,7 +552,7 @@ pub fn of_every_sort(
 ) -> Vec<Call> {
     let mut calls = Vec::new();
     for setting in operation.all_settings(dimensions) {
-        calls.extend((0..turns).flat_map(|turn| one_of_each(random, operation, setting, turn)));
+        calls.extend((0..turns).flat_map(|turn| some_of_each(random, operation, setting, turn)));
     }
     calls
 }
@@ -567,4 +563,77 @@ pub fn with_other_answers(calls: Vec<Call>) -> impl Iterator<Item = Call> {
     let with_each =
         move |call: Call| other_answer_lengths().map(move |answer| with(call.clone(), answer));
     calls.into_iter().flat_map(with_each)
+}
+
+#[cfg(test)]
+mod tests {
+    use super::*;
+    use crate::answer::done;
+    use crate::compare::fold::FOLD;
+    use crate::compare::reed_solomon::{ENCODE, INTERPOLATE};
+    use crate::compare::wrong::{refusing, right_library, Wrong};
+    use std::collections::HashSet;
+
+    const FEW: Amounts = Amounts {
+        out_of_range: &[1 << 8, 37],
+        dimensions: &[2, 3, 4],
+        too_small: 5,
+        several_lists: 3,
+        largest_dependent: 5,
+        several_causes: 3,
+        every_sort: (&[2, 3], 1),
+    };
+
+    fn calls(operation: Op, sort: Sort) -> Vec<Call> {
+        let random = &mut Random::named("refused");
+        let plans = sort.plans(random, operation, &FEW).into_iter();
+        plans.map(|plan| plan.call(random, operation)).collect()
+    }
+
+    /// The causes are found apart from the reference.
+    #[test]
+    fn calls_are_refused_for_what_their_comparison_names() {
+        for operation in [&ENCODE, &INTERPOLATE, &FOLD] {
+            for sort in Sort::all(operation) {
+                for call in calls(operation, sort) {
+                    let causes = causes(&call);
+                    assert_eq!(causes.first().copied(), call.refusal());
+                    let Answer { number, place, .. } = causes[0];
+                    assert!(match sort {
+                        Sort::Damaged | Sort::KOut => number == 4,
+                        Sort::Range(out) => number == range(out).1,
+                        Sort::TooSmall => number == 7,
+                        Sort::Length(list) => (number, place) == (13, Some(list.number())),
+                        Sort::SeveralLists => number == 13 && causes[1].number == 13,
+                        Sort::Dependent(_) => number == 8,
+                        Sort::SeveralCauses => causes.len() > 1,
+                    });
+                }
+            }
+        }
+    }
+
+    /// Else a library that takes large dimensions would never come to an end.
+    #[test]
+    fn large_dimensions_are_not_tried_once_they_are_taken() {
+        let tried = |library: &Wrong| comparisons(library, &ENCODE, &FEW)[1].inputs;
+        assert_eq!(tried(&right_library()), FEW.out_of_range.len());
+        assert_eq!(tried(&refusing(4, |_, _| done())), 1);
+    }
+
+    /// A sum of earlier elements has two of them at least.
+    #[test]
+    fn dependent_bases_are_so_at_all_places() {
+        for (sort, lowest) in [(0, 0), (1, 1), (2, 2), (3, 0)] {
+            let mut met = HashSet::new();
+            for call in calls(&ENCODE, Sort::Dependent(sort)) {
+                met.insert((call[List::Basis].len(), first_dependent(&call[List::Basis])));
+            }
+            let all = cosets::all_places(1..=5).filter(|&(k, place)| match sort {
+                3 => place + 1 < k,
+                _ => place >= lowest,
+            });
+            assert!(all.map(|(k, place)| (k, Some(place))).all(|place| met.contains(&place)));
+        }
+    }
 }

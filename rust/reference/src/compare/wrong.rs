@@ -268,11 +268,6 @@ pub fn write_what_fits(due: Answer, answer: &mut [u64]) {
 }
 
 /// Changes one of the five numbers of an answer.
-pub fn changed<const PLACE: usize>(answer: Answer) -> Answer {
-    changed_at(PLACE, answer)
-}
-
-/// Changes one of the five numbers of an answer.
 pub fn changed_at(place: usize, mut answer: Answer) -> Answer {
     match place {
         0 => answer.number ^= 1,
@@ -641,12 +636,10 @@ fn wrong_ranges(names: &Names) -> Vec<Row<Wrong>> {
     for number in names.operation.ranged() {
         let name = Sort::Range(number).name(names.operation);
         let (range, cause) = range(number);
-        for (value, shown) in [
-            (0, &[name, names.several][..]),
-            (range.end() + 1, &[name, names.several, names.safe]),
-            (range.end() + 5, &[name]),
-            (u64::MAX, &[name]),
-        ] {
+        let near = &[name, names.several, names.safe][..];
+        let far = &[name][..];
+        let end = range.end();
+        for (value, shown) in [(0, near), (end + 1, near), (end + 5, far), (u64::MAX, far)] {
             let taking = refusing(cause, move |call, answer| match call[number] == value {
                 true => done(),
                 false => answer,
