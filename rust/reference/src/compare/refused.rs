@@ -450,26 +450,16 @@ fn dependent(random: &mut Random, operation: Op, bases: Bases, largest: usize) -
 
 // More than one cause.
 
-/// A cause that a call can be given.
-#[derive(Clone, Copy, PartialEq)]
-enum Cause {
-    /// The dimension, the rate, the step or all of them, by the number of the refusal.
-    Setting(u64),
-    List(List),
-    DependentBasis,
-    QueryCount,
-    QueryOutOfRange,
-}
-
-/// In the paper's order.
-fn all_causes(operation: &Operation) -> Vec<Cause> {
-    let mut all = vec![Cause::Setting(4)];
-    all.extend(operation.ranged().into_iter().map(|number| Cause::Setting(range(number).1)));
-    all.extend(operation.takes(Number::Step).then_some(Cause::Setting(7)));
-    all.extend(operation.lists().into_iter().map(Cause::List));
-    all.push(Cause::DependentBasis);
+/// All causes that a call can be refused for before any work, in the paper's order, without the
+/// places that are not lists.
+pub fn all_causes(operation: Op) -> Vec<Answer> {
+    let mut all = vec![refused(4)];
+    all.extend(operation.ranged().into_iter().map(|number| refused(range(number).1)));
+    all.extend(operation.takes(Number::Step).then(|| refused(7)));
+    all.extend(operation.lists().into_iter().map(|list| refused_at(13, list.number())));
+    all.push(refused(8));
     if operation.given.contains(&List::Queries) {
-        all.extend([Cause::QueryCount, Cause::QueryOutOfRange]);
+        all.extend([refused(9), refused(10)]);
     }
     all
 }
@@ -483,35 +473,34 @@ fn several_causes(random: &mut Random, operation: Op, times: usize) -> Vec<Plan>
     plans
 }
 
-fn with_causes(random: &mut Random, operation: Op, chosen: &[Cause]) -> Plan {
-    let mut plan = Plan::of(setting_with(random, operation, chosen));
-    let [k, ..] = plan.setting;
-    for &cause in chosen {
-        match cause {
-            Cause::Setting(_) => (),
-            Cause::List(list) => plan = plan.with_longer(operation, list),
-            Cause::DependentBasis => {
-                let longer = chosen.contains(&Cause::List(List::Basis));
-                let basis = any_dependent(random, k as usize + usize::from(longer));
-                plan.basis = Basis::Given(basis);
-            }
-            Cause::QueryCount => {
-                let too_many = chosen.contains(&Cause::QueryOutOfRange) || random.below(2) == 0;
-                let count = if too_many { QUERY_COUNTS.end() + 1 } else { 0 };
-                plan.queries = Some(vec![0; count]);
-            }
-            Cause::QueryOutOfRange => {
-                let queries = plan.queries.get_or_insert(vec![0; 3]);
-                queries.push(u64::MAX - random.below(1 << k) as u64);
-            }
+fn with_causes(random: &mut Random, operation: Op, chosen: &[Answer]) -> Plan {
+    let is_chosen = |number: u64| chosen.iter().any(|cause| cause.number == number);
+    let mut plan = Plan::of(setting_with(random, operation, is_chosen));
+    let mut k = plan.setting[0] as usize;
+    for list in operation.lists() {
+        if chosen.contains(&refused_at(13, list.number())) {
+            k += usize::from(list == List::Basis);
+            plan = plan.with_longer(operation, list);
         }
+    }
+    if is_chosen(8) {
+        plan.basis = Basis::Given(any_dependent(random, k));
+    }
+    if is_chosen(9) {
+        let too_many = is_chosen(10) || random.below(2) == 0;
+        let count = if too_many { QUERY_COUNTS.end() + 1 } else { 0 };
+        plan.queries = Some(vec![0; count]);
+    }
+    if is_chosen(10) {
+        let out_of_range = u64::MAX - random.below(1 << k) as u64;
+        plan.queries.get_or_insert(vec![0; 3]).push(out_of_range);
     }
     plan
 }
 
 /// Any setting that has the chosen causes. One whose dimension is out of range may be too small
 /// as well: large ones would make large lists. There is a basis that can be dependent for each.
-fn setting_with(random: &mut Random, operation: &Operation, chosen: &[Cause]) -> Setting {
+fn setting_with(random: &mut Random, operation: Op, is_chosen: impl Fn(u64) -> bool) -> Setting {
     let dimensions = if operation.takes(Number::K) { 8 } else { operation.dimensions.end() + 1 };
     loop {
         let mut setting = [1 + random.below(dimensions as usize) as u64, 0, 0];
@@ -519,10 +508,8 @@ fn setting_with(random: &mut Random, operation: &Operation, chosen: &[Cause]) ->
             setting[number as usize] = random.below(*range(number).0.end() as usize + 4) as u64;
         }
         let causes = causes_of_setting(operation, setting);
-        let as_chosen =
-            |&number: &u64| causes.contains(&number) == chosen.contains(&Cause::Setting(number));
-        let may_be_too_small = chosen.contains(&Cause::Setting(4));
-        if [4, 5, 6].iter().all(as_chosen) && (may_be_too_small || as_chosen(&7)) {
+        let as_chosen = |&number: &u64| causes.contains(&number) == is_chosen(number);
+        if [4, 5, 6].iter().all(as_chosen) && (is_chosen(4) || as_chosen(&7)) {
             return setting;
         }
     }

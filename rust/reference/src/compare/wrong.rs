@@ -2,7 +2,7 @@
 
 use super::call::{Call, List, Number};
 use super::operation::{after, Library, Op, Outputs, Reference};
-use super::refused::{causes, range, with_other_answer, Sort};
+use super::refused::{all_causes, causes, range, with_other_answer, Sort};
 use super::Comparison;
 use crate::answer::{done, raw, refused, refused_at, Answer, ANSWER_LENGTH};
 use crate::coset::{first_dependent, point};
@@ -500,25 +500,12 @@ fn wrong_lists(names: &Names) -> Vec<Row<Wrong>> {
     rows
 }
 
-/// The causes in the order of the paper, without the places that are not lists.
-fn order(operation: Op) -> Vec<Answer> {
-    let mut order = vec![refused(4)];
-    order.extend(operation.ranged().into_iter().map(|number| refused(range(number).1)));
-    order.extend(operation.takes(Number::Step).then(|| refused(7)));
-    order.extend(operation.lists().iter().map(|list| refused_at(13, list.number())));
-    order.push(refused(8));
-    if operation.given.contains(&List::Queries) {
-        order.extend([refused(9), refused(10)]);
-    }
-    order
-}
-
 fn wrong_order(names: &Names) -> Vec<Row<Wrong>> {
     let is = |one: &Answer, cause: &Answer| {
         one.number == cause.number && (one.number != 13 || one.place == cause.place)
     };
     let mut rows = Vec::new();
-    for pair in order(names.operation).windows(2) {
+    for pair in all_causes(names.operation).windows(2) {
         let [first, second] = [pair[0], pair[1]];
         let swapped = first_of_all(move |call| match causes(call)[..] {
             [one, other, ..] if is(&one, &first) && is(&other, &second) => Some(other),
