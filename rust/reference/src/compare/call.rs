@@ -10,6 +10,9 @@ use crate::compare::lent::FILLS;
 use std::collections::BTreeSet;
 use std::ops::{Index, IndexMut, Range};
 
+pub use List::*;
+pub use Number::*;
+
 /// A number that is given to an operation.
 #[derive(Clone, Copy, Debug, PartialEq, Eq)]
 pub enum Number {
@@ -32,7 +35,7 @@ impl Number {
     fn show(self, number: u64) -> String {
         let name = self.name();
         match self {
-            Number::Offset | Number::Challenge => format!("{name} {number:x}"),
+            Offset | Challenge => format!("{name} {number:x}"),
             _ => format!("{name} {number}"),
         }
     }
@@ -146,10 +149,10 @@ impl Call {
 
     /// The dimension. Operations that are not given it take the length of the basis for it.
     pub fn k(&self) -> u64 {
-        if self.operation.takes(Number::K) {
-            self[Number::K]
+        if self.operation.takes(K) {
+            self[K]
         } else {
-            self[List::Basis].len() as u64
+            self[Basis].len() as u64
         }
     }
 
@@ -169,7 +172,7 @@ impl Call {
 
     /// The call without any list, but for a basis that the dimension is taken from.
     pub fn without_lists(mut self) -> Call {
-        let carries_k = |list| list == List::Basis && !self.operation.takes(Number::K);
+        let carries_k = |list| list == Basis && !self.operation.takes(K);
         for list in self.operation.all_lists() {
             if !carries_k(list) {
                 self.lists[list as usize].clear();
@@ -208,8 +211,8 @@ impl Input for Call {
 
     /// Low parameters are small, then short lists, and among them those with few bits.
     fn size(&self) -> Self::Size {
-        let parameters = [self.k(), self[Number::Rate], self[Number::Step]];
-        let others = &self.numbers[Number::Offset as usize..];
+        let parameters = [self.k(), self[Rate], self[Step]];
+        let others = &self.numbers[Offset as usize..];
         let numbers = others.iter().chain(self.lists.iter().flatten());
         (
             parameters,
@@ -228,7 +231,7 @@ impl Input for Call {
         for list in self.operation.all_lists() {
             all.extend(self.with_simpler_list(list));
         }
-        let others = [Number::Offset, Number::Challenge, Number::Layer].into_iter();
+        let others = [Offset, Challenge, Layer].into_iter();
         for number in others.filter(|&number| self.operation.takes(number)) {
             let simpler = simpler_numbers(self[number], self.is_small()).into_iter();
             all.extend(simpler.map(|value| self.clone().with(number, value)));
@@ -245,7 +248,7 @@ impl Call {
     /// A run of zeros is honest, whatever the challenges are.
     fn with_zeros(&self) -> Call {
         let mut call = self.clone();
-        for list in [List::Given, List::Store, List::Last] {
+        for list in [Given, Store, Last] {
             call[list].fill(0);
         }
         call
@@ -255,7 +258,7 @@ impl Call {
     /// a difference that only calls show which nothing is wrong with.
     fn with_lower_parameters(&self) -> Vec<Call> {
         let mut all = self.with_lower_dimensions();
-        for number in [Number::Rate, Number::Step] {
+        for number in [Rate, Step] {
             let lower = lower_than(self[number]).into_iter();
             all.extend(lower.map(|value| self.fitted_to(self.clone().with(number, value))));
         }
@@ -273,8 +276,8 @@ impl Call {
         if k > largest && empty.length_of_lists() < self.length_of_lists() {
             return Vec::new();
         }
-        if k > largest && self.operation.takes(Number::K) {
-            return [largest + 1, k / 2, k - 1].map(|k| empty.clone().with(Number::K, k)).to_vec();
+        if k > largest && self.operation.takes(K) {
+            return [largest + 1, k / 2, k - 1].map(|k| empty.clone().with(K, k)).to_vec();
         }
         left_out(k as usize).into_iter().flat_map(|places| self.without(places)).collect()
     }
@@ -283,17 +286,17 @@ impl Call {
     /// so. A list 3 that fits also stays as it was for as far as it can, since it may be shorter.
     fn without(&self, places: Range<usize>) -> [Call; 2] {
         let k = self.k() - places.len() as u64;
-        let mut call = self.clone().with_setting([k, self[Number::Rate], self[Number::Step]]);
-        let kept = (0..self[List::Basis].len()).filter(|place| !places.contains(place));
-        call[List::Basis] = kept.map(|place| self[List::Basis][place]).collect();
-        for query in call[List::Queries].iter_mut().filter(|query| **query >> self.k() == 0) {
+        let mut call = self.clone().with_setting([k, self[Rate], self[Step]]);
+        let kept = (0..self[Basis].len()).filter(|place| !places.contains(place));
+        call[Basis] = kept.map(|place| self[Basis][place]).collect();
+        for query in call[Queries].iter_mut().filter(|query| **query >> self.k() == 0) {
             *query &= (1 << k) - 1;
         }
         let fitted = self.fitted_to(call);
         let mut kept = fitted.clone();
-        if self.fits(List::Given) {
-            kept[List::Given] = self[List::Given].clone();
-            kept[List::Given].truncate(fitted.due_length(List::Given));
+        if self.fits(Given) {
+            kept[Given] = self[Given].clone();
+            kept[Given].truncate(fitted.due_length(Given));
         }
         [fitted, kept]
     }
@@ -302,7 +305,7 @@ impl Call {
     /// one.
     fn fitted_to(&self, mut other: Call) -> Call {
         let lists = self.operation.lists();
-        for list in lists.into_iter().filter(|&list| list != List::Basis) {
+        for list in lists.into_iter().filter(|&list| list != Basis) {
             let due = other.due_length(list);
             let length = fitted(self[list].len(), self.due_length(list), due);
             other[list].resize(length, 0);
@@ -319,15 +322,15 @@ impl Call {
         let halved = [0, numbers.len() / 2, numbers.len().saturating_sub(1)];
         let mut simpler = match list {
             _ if self.operation.lent.contains(&list) => halved.map(shorter).to_vec(),
-            List::Basis => simpler_bases(numbers, small),
+            Basis => simpler_bases(numbers, small),
             _ => simpler_lists(numbers, small),
         };
-        if list == List::Basis && self.operation.takes(Number::K) {
+        if list == Basis && self.operation.takes(K) {
             simpler.extend(halved.map(shorter));
         }
         let mut calls: Vec<Call> =
             simpler.into_iter().map(|numbers| self.clone().with_list(list, numbers)).collect();
-        if small && list == List::Given {
+        if small && list == Given {
             let mended: Vec<Call> = calls.iter().filter_map(self.operation.mended).collect();
             calls.extend(mended);
         }
@@ -355,8 +358,8 @@ mod tests {
 
     #[test]
     fn a_call_is_shown_in_full() {
-        let call = any(&FOLD, [2, 0, 1]).with(Number::Offset, 0x1b).with(Number::Challenge, 0xc);
-        let call = call.with_list(List::Basis, vec![1, 2]).with_list(List::Given, vec![7, 4, 1, 2]);
+        let call = any(&FOLD, [2, 0, 1]).with(Offset, 0x1b).with(Challenge, 0xc);
+        let call = call.with_list(Basis, vec![1, 2]).with_list(Given, vec![7, 4, 1, 2]);
         assert_eq!(
             call.show(),
             "k 2; step 1; offset 1b; challenge c; basis: 1, 2; list 3: 7, 4, 1, 2; \
@@ -366,10 +369,10 @@ mod tests {
 
     #[test]
     fn lists_fit_other_numbers_as_before() {
-        let call = any(&FOLD, [5, 0, 2]).with_length(List::Output, 9);
+        let call = any(&FOLD, [5, 0, 2]).with_length(Output, 9);
         let lengths = |call: &Call| FOLD.lists().iter().map(|&list| call[list].len()).collect();
         let [fewer, _] = call.without(1..3);
-        let lower = call.fitted_to(call.clone().with(Number::Step, 1));
+        let lower = call.fitted_to(call.clone().with(Step, 1));
         let lengths: [Vec<usize>; 2] = [lengths(&fewer), lengths(&lower)];
         assert_eq!(lengths, [[3, 8, 3, 1], [5, 32, 17, 4]]);
     }

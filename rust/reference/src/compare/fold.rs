@@ -2,7 +2,7 @@
 
 mod properties;
 
-use super::call::{Call, List, Number};
+use super::call::*;
 use super::cosets::{self, basis, challenge, offset};
 use super::lent::FILLS;
 use super::operation::{after_raw, after_safe, case, raw_calls, Library, Operation, Outputs};
@@ -19,9 +19,9 @@ use std::ops::RangeInclusive;
 
 pub static FOLD: Operation = Operation {
     name: "fold",
-    numbers: &[Number::K, Number::Step, Number::Offset, Number::Challenge],
-    given: &[List::Basis, List::Given],
-    lent: &[List::Output, List::NextBasis],
+    numbers: &[K, Step, Offset, Challenge],
+    given: &[Basis, Given],
+    lent: &[Output, NextBasis],
     dimensions: *DIMENSIONS.start() as u64..=*DIMENSIONS.end() as u64,
     settings: |k| {
         let highest = if k < *DIMENSIONS.start() as u64 { *STEPS.end() as u64 } else { k.min(3) };
@@ -46,11 +46,11 @@ pub static FOLD: Operation = Operation {
 
 fn due_length(call: &Call, list: List) -> usize {
     let k = call.k().min(refused::LARGEST_OF_LISTS);
-    let left = k.saturating_sub(call[Number::Step]);
+    let left = k.saturating_sub(call[Step]);
     match list {
-        List::Basis => k as usize,
-        List::Given => 1 << k,
-        List::Output => 1 << left,
+        Basis => k as usize,
+        Given => 1 << k,
+        Output => 1 << left,
         _ => left as usize,
     }
 }
@@ -58,17 +58,17 @@ fn due_length(call: &Call, list: List) -> usize {
 /// What the reference takes.
 fn given(call: &Call) -> Fold<'_> {
     Fold {
-        k: call[Number::K] as usize,
-        step: call[Number::Step] as usize,
-        offset: call[Number::Offset],
-        basis: &call[List::Basis],
-        word: &call[List::Given],
-        challenge: call[Number::Challenge],
+        k: call[K] as usize,
+        step: call[Step] as usize,
+        offset: call[Offset],
+        basis: &call[Basis],
+        word: &call[Given],
+        challenge: call[Challenge],
     }
 }
 
 fn lent_lengths(call: &Call) -> [usize; 2] {
-    [List::Output, List::NextBasis].map(|list| call[list].len())
+    [Output, NextBasis].map(|list| call[list].len())
 }
 
 fn next_coset(call: &Call) -> Result<fold::Coset, Answer> {
@@ -104,13 +104,13 @@ fn right(random: &mut Random, k: u64, step: u64, turn: usize) -> Call {
 /// A call with lent lists of the right lengths.
 fn call_of([k, step]: [u64; 2], offset: u64, basis: Vec<u64>, word: Vec<u64>, x: u64) -> Call {
     let call = Call::of(&FOLD).with_setting([k, 0, step]);
-    let [values, next_basis] = [List::Output, List::NextBasis].map(|list| call.due_length(list));
-    call.with(Number::Offset, offset)
-        .with(Number::Challenge, x)
-        .with_list(List::Basis, basis)
-        .with_list(List::Given, word)
-        .with_length(List::Output, values)
-        .with_length(List::NextBasis, next_basis)
+    let [values, next_basis] = [Output, NextBasis].map(|list| call.due_length(list));
+    call.with(Offset, offset)
+        .with(Challenge, x)
+        .with_list(Basis, basis)
+        .with_list(Given, word)
+        .with_length(Output, values)
+        .with_length(NextBasis, next_basis)
 }
 
 /// A word of one of the common sorts, or of a polynomial that folds to at most four coefficients.
@@ -128,9 +128,9 @@ fn word(random: &mut Random, step: u64, offset: u64, basis: &[u64], turn: usize)
 /// stands for no value.
 fn to_all_ones(random: &mut Random, k: u64) -> Call {
     let mut call = right(random, k, 1, 0);
-    let offset = call[Number::Offset];
+    let offset = call[Offset];
     let inverse = field::inverse(offset).expect("an offset that is not zero");
-    call[List::Basis][0] = field::sum(offset, field::product(u64::MAX, inverse));
+    call[Basis][0] = field::sum(offset, field::product(u64::MAX, inverse));
     call
 }
 
@@ -257,7 +257,7 @@ struct Sampled;
 impl Library for Sampled {
     fn safe(&self, call: &Call, outputs: &mut Outputs) -> Answer {
         let left = outputs.first().to_vec();
-        let entry_or_left = |(place, left)| match is_sampled(place, call[List::Output].len()) {
+        let entry_or_left = |(place, left)| match is_sampled(place, call[Output].len()) {
             true => fold::entry(given(call), place),
             false => left,
         };
@@ -278,7 +278,7 @@ fn sampled_folds(library: &dyn Library, dimensions: &[u64]) -> Comparison {
         |call| after_raw(&Sampled, call),
         |call| {
             let mut after = after_raw(library, call);
-            after.outputs.lent[0].keep(|place| is_sampled(place, call[List::Output].len()));
+            after.outputs.lent[0].keep(|place| is_sampled(place, call[Output].len()));
             after
         },
     )

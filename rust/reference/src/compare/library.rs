@@ -1,7 +1,7 @@
 //! The functions of the verified library as the comparisons call them. Nothing else here knows
 //! how it is called.
 
-use super::call::{Call, List, Number};
+use super::call::*;
 use super::operation::Outputs;
 use crate::answer::{accepted, done, went_well, Answer, DEGREE_TOO_HIGH};
 use razgwilh::{raw, Fold, Refusal, Run};
@@ -21,23 +21,23 @@ fn answer_of(result: Result<(), Refusal>) -> Answer {
 // Encoding and interpolation.
 
 pub fn encode(call: &Call, outputs: &mut Outputs) -> Answer {
-    let (basis, given) = (&call[List::Basis], &call[List::Given]);
-    answer_of(razgwilh::encode(call[Number::Offset], basis, given, outputs.first()))
+    let (basis, given) = (&call[Basis], &call[Given]);
+    answer_of(razgwilh::encode(call[Offset], basis, given, outputs.first()))
 }
 
 pub fn raw_encode(call: &Call, outputs: &mut Outputs, answer: &mut [u64]) {
-    let (basis, given) = (&call[List::Basis], &call[List::Given]);
-    raw::encode(call[Number::Offset], basis, given, outputs.first(), answer)
+    let (basis, given) = (&call[Basis], &call[Given]);
+    raw::encode(call[Offset], basis, given, outputs.first(), answer)
 }
 
 pub fn interpolate(call: &Call, outputs: &mut Outputs) -> Answer {
-    let (basis, given) = (&call[List::Basis], &call[List::Given]);
-    answer_of(razgwilh::interpolate(call[Number::Offset], basis, given, outputs.first()))
+    let (basis, given) = (&call[Basis], &call[Given]);
+    answer_of(razgwilh::interpolate(call[Offset], basis, given, outputs.first()))
 }
 
 pub fn raw_interpolate(call: &Call, outputs: &mut Outputs, answer: &mut [u64]) {
-    let (basis, given) = (&call[List::Basis], &call[List::Given]);
-    raw::interpolate(call[Number::Offset], basis, given, outputs.first(), answer)
+    let (basis, given) = (&call[Basis], &call[Given]);
+    raw::interpolate(call[Offset], basis, given, outputs.first(), answer)
 }
 
 // The fold.
@@ -47,10 +47,10 @@ fn fold_of(call: &Call) -> Fold<'_> {
     Fold {
         k,
         step,
-        offset: call[Number::Offset],
-        basis: &call[List::Basis],
-        word: &call[List::Given],
-        challenge: call[Number::Challenge],
+        offset: call[Offset],
+        basis: &call[Basis],
+        word: &call[Given],
+        challenge: call[Challenge],
     }
 }
 
@@ -72,15 +72,15 @@ fn run_of(call: &Call) -> Run<'_> {
         k,
         rate,
         step,
-        offset: call[Number::Offset],
-        basis: &call[List::Basis],
-        challenges: &call[List::Challenges],
-        word: &call[List::Given],
+        offset: call[Offset],
+        basis: &call[Basis],
+        challenges: &call[Challenges],
+        word: &call[Given],
     }
 }
 
 fn parameters_of(call: &Call) -> [usize; 3] {
-    [Number::K, Number::Rate, Number::Step].map(|number| call[number] as usize)
+    [K, Rate, Step].map(|number| call[number] as usize)
 }
 
 pub fn prove(call: &Call, outputs: &mut Outputs) -> Answer {
@@ -94,21 +94,21 @@ pub fn raw_prove(call: &Call, outputs: &mut Outputs, answer: &mut [u64]) {
 }
 
 pub fn judge(call: &Call, _: &mut Outputs) -> Answer {
-    let [queries, store, last] = [List::Queries, List::Store, List::Last].map(|list| &call[list]);
+    let [queries, store, last] = [Queries, Store, Last].map(|list| &call[list]);
     let verdict = razgwilh::judge(run_of(call), queries, store, last);
     verdict.map_or_else(refusal, |verdict| accepted(verdict.reads))
 }
 
 pub fn raw_judge(call: &Call, _: &mut Outputs, answer: &mut [u64]) {
-    let [queries, store, last] = [List::Queries, List::Store, List::Last].map(|list| &call[list]);
+    let [queries, store, last] = [Queries, Store, Last].map(|list| &call[list]);
     raw::judge(run_of(call), queries, store, last, answer)
 }
 
 /// The part as the answer of a raw call has it: where it begins in the store, and its length.
 pub fn layer(call: &Call, _: &mut Outputs) -> Answer {
     let [k, rate, step] = parameters_of(call);
-    let store = &call[List::Store];
-    let part = razgwilh::layer(k, rate, step, store, call[Number::Layer] as usize);
+    let store = &call[Store];
+    let part = razgwilh::layer(k, rate, step, store, call[Layer] as usize);
     let start = match part.is_empty() {
         true => 0,
         false => (part.as_ptr() as usize - store.as_ptr() as usize) / size_of::<u64>(),
@@ -118,7 +118,7 @@ pub fn layer(call: &Call, _: &mut Outputs) -> Answer {
 
 pub fn raw_layer(call: &Call, _: &mut Outputs, answer: &mut [u64]) {
     let [k, rate, step] = parameters_of(call);
-    raw::layer(k, rate, step, &call[List::Store], call[Number::Layer] as usize, answer)
+    raw::layer(k, rate, step, &call[Store], call[Layer] as usize, answer)
 }
 
 pub fn rounds(call: &Call, _: &mut Outputs) -> Answer {

@@ -1,7 +1,7 @@
 //! An operation over lists, described once: what it is given, which lengths are right, and what
 //! is due. All comparisons of its calls are made from this.
 
-use super::call::{Call, List, Number};
+use super::call::*;
 use super::cosets::longest_basis;
 use super::lent::{Lent, APART, FILLS};
 use super::{compare, Comparison, Fixed, Show, PAPER_AND_LIBRARY, REFERENCE_AND_LIBRARY};
@@ -80,14 +80,14 @@ impl Operation {
     /// The lists whose length may be wrong.
     pub fn lists(&self) -> Vec<List> {
         let mut lists = self.all_lists();
-        let carries_k = |list| list == List::Basis && !self.takes(Number::K);
-        lists.retain(|&list| list != List::Queries && !carries_k(list));
+        let carries_k = |list| list == Basis && !self.takes(K);
+        lists.retain(|&list| list != Queries && !carries_k(list));
         lists
     }
 
     /// The numbers that have a range of their own, whatever the dimension is.
     pub fn ranged(&self) -> Vec<Number> {
-        let numbers = [Number::Rate, Number::Step].into_iter();
+        let numbers = [Rate, Step].into_iter();
         numbers.filter(|&number| self.takes(number)).collect()
     }
 
@@ -106,22 +106,22 @@ impl Operation {
     /// With a basis that is independent if it can be, and lists of the lengths that the setting
     /// asks for.
     pub fn any(&'static self, random: &mut Random, setting: Setting) -> Call {
-        let k = match self.takes(Number::K) {
-            true => Call::of(self).with_setting(setting).due_length(List::Basis),
+        let k = match self.takes(K) {
+            true => Call::of(self).with_setting(setting).due_length(Basis),
             false => setting[0] as usize,
         };
         let basis = longest_basis(random, k);
-        let mut call = Call::of(self).with_setting(setting).with_list(List::Basis, basis);
-        for number in [Number::Offset, Number::Challenge] {
+        let mut call = Call::of(self).with_setting(setting).with_list(Basis, basis);
+        for number in [Offset, Challenge] {
             call[number] = if self.takes(number) { random.number() } else { 0 };
         }
-        for list in self.lists().into_iter().filter(|&list| list != List::Basis) {
+        for list in self.lists().into_iter().filter(|&list| list != Basis) {
             let due = call.due_length(list);
             call = call.with_any(random, list, due);
         }
-        if self.given.contains(&List::Queries) {
+        if self.given.contains(&Queries) {
             let in_range = 1 << call.k().min(*self.dimensions.end());
-            call[List::Queries] = (0..3).map(|_| random.below(in_range) as u64).collect();
+            call[Queries] = (0..3).map(|_| random.below(in_range) as u64).collect();
         }
         call.with_fill(FILLS[random.below(2)])
     }
@@ -130,7 +130,7 @@ impl Operation {
 impl Call {
     /// The lists are not made to fit.
     pub fn with_setting(mut self, [k, rate, step]: Setting) -> Call {
-        for (number, value) in [(Number::K, k), (Number::Rate, rate), (Number::Step, step)] {
+        for (number, value) in [(K, k), (Rate, rate), (Step, step)] {
             if self.operation.takes(number) {
                 self[number] = value;
             }
@@ -139,13 +139,13 @@ impl Call {
     }
 
     pub fn setting(&self) -> Setting {
-        [self.k(), self[Number::Rate], self[Number::Step]]
+        [self.k(), self[Rate], self[Step]]
     }
 
     /// With a list of another length: of any numbers, of independent ones, or lent.
     pub fn with_any(self, random: &mut Random, list: List, length: usize) -> Call {
         let numbers = match list {
-            List::Basis => longest_basis(random, length),
+            Basis => longest_basis(random, length),
             _ if self.operation.lent.contains(&list) => vec![0; length],
             _ => random.list(length),
         };

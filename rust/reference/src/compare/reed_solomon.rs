@@ -1,6 +1,6 @@
 //! The comparisons of encoding and interpolation.
 
-use super::call::{Call, List, Number};
+use super::call::*;
 use super::cosets::{self, basis, offset};
 use super::lent::FILLS;
 use super::operation::{after_safe, case, raw_calls, Library, Op, Operation, Outputs};
@@ -14,14 +14,14 @@ use std::ops::RangeInclusive;
 /// What both operations have.
 const CODE: Operation = Operation {
     name: "",
-    numbers: &[Number::Offset],
-    given: &[List::Basis, List::Given],
-    lent: &[List::Output],
+    numbers: &[Offset],
+    given: &[Basis, Given],
+    lent: &[Output],
     dimensions: 0..=LARGEST_K as u64,
     settings: |k| vec![[k, 0, 0]],
     due_length,
     fits: |_, length, due| length == due,
-    refusal: |call| may_interpolate(&call[List::Basis], length_3(call), length_6(call)).err(),
+    refusal: |call| may_interpolate(&call[Basis], length_3(call), length_6(call)).err(),
     due: |call, outputs| write_due(reed_solomon::interpolate, call, outputs),
     mended: |_| None,
     safe: library::interpolate,
@@ -37,8 +37,8 @@ pub static INTERPOLATE: Operation = Operation { name: "interpolate", ..CODE };
 
 pub static ENCODE: Operation = Operation {
     name: "encode",
-    fits: |list, length, due| length == due || (list == List::Given && length < due),
-    refusal: |call| may_encode(&call[List::Basis], length_3(call), length_6(call)).err(),
+    fits: |list, length, due| length == due || (list == Given && length < due),
+    refusal: |call| may_encode(&call[Basis], length_3(call), length_6(call)).err(),
     due: |call, outputs| write_due(reed_solomon::encode, call, outputs),
     safe: library::encode,
     raw: library::raw_encode,
@@ -48,24 +48,24 @@ pub static ENCODE: Operation = Operation {
 
 fn due_length(call: &Call, list: List) -> usize {
     match list {
-        List::Basis => call.k() as usize,
+        Basis => call.k() as usize,
         _ => 1 << call.k().min(refused::LARGEST_OF_LISTS),
     }
 }
 
 fn length_3(call: &Call) -> usize {
-    call[List::Given].len()
+    call[Given].len()
 }
 
 fn length_6(call: &Call) -> usize {
-    call[List::Output].len()
+    call[Output].len()
 }
 
 /// Takes offset, basis, list 3 and the length of list 6.
 type Code = fn(u64, &[u64], &[u64], usize) -> Result<Vec<u64>, Answer>;
 
 fn write_due(code: Code, call: &Call, outputs: &mut Outputs) -> Answer {
-    match code(call[Number::Offset], &call[List::Basis], &call[List::Given], length_6(call)) {
+    match code(call[Offset], &call[Basis], &call[Given], length_6(call)) {
         Ok(list) => {
             outputs.first().copy_from_slice(&list);
             done()
@@ -85,10 +85,10 @@ fn over_coset(operation: Op, random: &mut Random, k: u64, turn: usize) -> Call {
         false => word(random, offset, &basis, turn),
     };
     Call::of(operation)
-        .with(Number::Offset, offset)
-        .with_list(List::Basis, basis)
-        .with_list(List::Given, given)
-        .with_length(List::Output, 1 << k)
+        .with(Offset, offset)
+        .with_list(Basis, basis)
+        .with_list(Given, given)
+        .with_length(Output, 1 << k)
         .with_fill(FILLS[random.below(2)])
 }
 
@@ -188,7 +188,7 @@ fn round_trips(library: &dyn Library, amounts: &Turns) -> [Comparison; 2] {
 /// Both answers, and the list itself, with zeros for coefficients that were left off. A call that
 /// is refused, as smaller ones may be, gives nothing back.
 fn trip_due(call: &Call) -> Option<Vec<Vec<u64>>> {
-    let mut list = call[List::Given].clone();
+    let mut list = call[Given].clone();
     list.resize(length_6(call), 0);
     let answer = raw(&done()).to_vec();
     call.refusal().is_none().then(|| vec![answer.clone(), answer, list])
@@ -200,7 +200,7 @@ fn trip_of_library(library: &dyn Library, call: &Call, back: Op) -> Option<Vec<V
     }
     let mut there = after_safe(library, call);
     let between = there.outputs.first().to_vec();
-    let returning = Call { operation: back, ..call.clone() }.with_list(List::Given, between);
+    let returning = Call { operation: back, ..call.clone() }.with_list(Given, between);
     let mut returned = after_safe(library, &returning);
     let answers = [there.answer, returned.answer].map(|answer| raw(&answer).to_vec());
     Some([&answers[..], &returned.outputs.contents()].concat())
@@ -211,9 +211,9 @@ fn trip_of_library(library: &dyn Library, call: &Call, back: Op) -> Option<Vec<V
 /// A call in a case of the paper, where the coset is one of offset zero.
 fn in_case(operation: Op, basis: &[u64], given: &[u64]) -> Call {
     Call::of(operation)
-        .with_list(List::Basis, basis.to_vec())
-        .with_list(List::Given, given.to_vec())
-        .with_length(List::Output, 1 << basis.len())
+        .with_list(Basis, basis.to_vec())
+        .with_list(Given, given.to_vec())
+        .with_length(Output, 1 << basis.len())
 }
 
 /// In case M the paper gives the basis alone; the lists are any that fit.

@@ -2,7 +2,7 @@
 //! of wrong lengths, dependent bases, and several of these causes; and the comparisons with them,
 //! with answer lists of other lengths and of safe calls.
 
-use super::call::{Call, List, Number};
+use super::call::*;
 use super::cosets::{self, any_dependent, wrong_lengths, Bases};
 use super::lent::other_answer_lengths;
 use super::operation::{raw_calls, safe_calls, Library, Op, Operation, Setting};
@@ -60,7 +60,7 @@ impl Sort {
     pub fn all(operation: &Operation) -> Vec<Sort> {
         let mut all = vec![Sort::Damaged, Sort::KOut];
         all.extend(operation.ranged().into_iter().map(Sort::Range));
-        all.extend(operation.takes(Number::Step).then_some(Sort::TooSmall));
+        all.extend(operation.takes(Step).then_some(Sort::TooSmall));
         all.extend(operation.lists().into_iter().map(Sort::Length));
         all.push(Sort::SeveralLists);
         all.extend((0..DEPENDENT.len()).map(Sort::Dependent));
@@ -84,7 +84,7 @@ impl Sort {
     }
 
     fn plans(self, random: &mut Random, operation: Op, amounts: &Amounts) -> Vec<Plan> {
-        let huge = if operation.takes(Number::K) { &HUGE[..] } else { &[] };
+        let huge = if operation.takes(K) { &HUGE[..] } else { &[] };
         let out = [amounts.out_of_range, huge].concat();
         match self {
             Sort::Damaged => {
@@ -142,13 +142,13 @@ struct Plan {
     lists_for: Setting,
     /// The lists that have another length.
     lengths: Vec<(List, usize)>,
-    basis: Basis,
+    basis: Elements,
     /// Other queries than some in range.
     queries: Option<Vec<u64>>,
 }
 
 #[derive(Clone)]
-enum Basis {
+enum Elements {
     Independent,
     WithZero,
     WithRepetition,
@@ -158,7 +158,7 @@ enum Basis {
 impl Plan {
     /// Nothing is wrong with it.
     fn of(setting: Setting) -> Plan {
-        let (lengths, basis) = (Vec::new(), Basis::Independent);
+        let (lengths, basis) = (Vec::new(), Elements::Independent);
         Plan { setting, lists_for: setting, lengths, basis, queries: None }
     }
 
@@ -182,22 +182,22 @@ impl Plan {
         for (list, length) in self.lengths {
             call = call.with_any(random, list, length);
         }
-        match (self.basis, &mut call[List::Basis][..]) {
-            (Basis::WithZero, [first, ..]) => *first = 0,
-            (Basis::WithRepetition, [first, .., last]) => *last = *first,
-            (Basis::Given(basis), _) => call[List::Basis] = basis,
+        match (self.basis, &mut call[Basis][..]) {
+            (Elements::WithZero, [first, ..]) => *first = 0,
+            (Elements::WithRepetition, [first, .., last]) => *last = *first,
+            (Elements::Given(basis), _) => call[Basis] = basis,
             _ => (),
         }
         if let Some(queries) = self.queries {
-            call[List::Queries] = queries;
+            call[Queries] = queries;
         }
         call
     }
 }
 
 fn due_length(operation: Op, setting: Setting, list: List) -> usize {
-    let basis = if operation.takes(Number::K) { 0 } else { setting[0] as usize };
-    let blank = Call::of(operation).with_setting(setting).with_length(List::Basis, basis);
+    let basis = if operation.takes(K) { 0 } else { setting[0] as usize };
+    let blank = Call::of(operation).with_setting(setting).with_length(Basis, basis);
     blank.due_length(list)
 }
 
@@ -209,7 +209,7 @@ const STEPS: RangeInclusive<u64> = 1..=3;
 /// The range of a rate or a step, and the number that one out of it is refused with.
 pub fn range(number: Number) -> (RangeInclusive<u64>, u64) {
     match number {
-        Number::Rate => (RATES, 5),
+        Rate => (RATES, 5),
         _ => (STEPS, 6),
     }
 }
@@ -223,7 +223,7 @@ fn causes_of_setting(operation: &Operation, setting: Setting) -> Vec<u64> {
         let (range, cause) = range(number);
         causes.extend((!range.contains(&setting[number as usize])).then_some(cause));
     }
-    causes.extend((operation.takes(Number::Step) && k < rate.saturating_add(step)).then_some(7));
+    causes.extend((operation.takes(Step) && k < rate.saturating_add(step)).then_some(7));
     causes
 }
 
@@ -235,10 +235,10 @@ pub fn causes(call: &Call) -> Vec<Answer> {
     let mut all: Vec<Answer> = causes.into_iter().map(refused).collect();
     let wrong = operation.lists().into_iter().filter(|&list| !call.fits(list));
     all.extend(wrong.map(|list| refused_at(13, list.number())));
-    let place = first_dependent(&call[List::Basis]);
+    let place = first_dependent(&call[Basis]);
     all.extend(place.map(|place| refused_at(8, place as u64)));
-    if operation.given.contains(&List::Queries) {
-        let queries = &call[List::Queries];
+    if operation.given.contains(&Queries) {
+        let queries = &call[Queries];
         all.extend((!QUERY_COUNTS.contains(&queries.len())).then(|| refused(9)));
         let place = queries.iter().position(|query| call.k() < 64 && query >> call.k() > 0);
         all.extend(place.map(|place| refused_at(10, place as u64)));
@@ -281,8 +281,8 @@ fn k_out_of_range(operation: Op, dimensions: &[u64]) -> Vec<Plan> {
     for &k in dimensions {
         for lists_for in taken_for(operation, k) {
             let plan = with_k(operation, k, lists_for);
-            if operation.takes(Number::K) && k <= LONGEST_BASIS {
-                plans.push(plan.clone().with_length(List::Basis, k as usize));
+            if operation.takes(K) && k <= LONGEST_BASIS {
+                plans.push(plan.clone().with_length(Basis, k as usize));
             }
             plans.push(plan);
         }
@@ -294,17 +294,17 @@ fn k_out_of_range(operation: Op, dimensions: &[u64]) -> Vec<Plan> {
 fn with_k(operation: Op, k: u64, lists_for: Setting) -> Plan {
     let [_, rate, step] = lists_for;
     let plan = Plan { lists_for, ..Plan::of([k, rate, step]) };
-    match operation.takes(Number::K) {
+    match operation.takes(K) {
         true => plan,
-        false => plan.with_length(List::Basis, k as usize),
+        false => plan.with_length(Basis, k as usize),
     }
 }
 
 /// The plan with something else that is wrong, of each sort.
 fn with_faults(operation: Op, plan: &Plan) -> Vec<Plan> {
-    let with_zero = Plan { basis: Basis::WithZero, ..plan.clone() };
+    let with_zero = Plan { basis: Elements::WithZero, ..plan.clone() };
     let mut plans = vec![
-        Plan { basis: Basis::WithRepetition, ..plan.clone() },
+        Plan { basis: Elements::WithRepetition, ..plan.clone() },
         with_zero.clone().without_lists(operation),
         with_zero,
         plan.clone().without_lists(operation),
@@ -344,7 +344,7 @@ fn out_of_range(operation: &Operation, number: Number, dimensions: &[u64]) -> Ve
 
 /// All settings in range whose dimension is too small for the rate and the step.
 fn too_small_settings(operation: &Operation) -> Vec<Setting> {
-    let rates = if operation.takes(Number::Rate) { RATES } else { 0..=0 };
+    let rates = if operation.takes(Rate) { RATES } else { 0..=0 };
     let mut all = Vec::new();
     for k in 2..=8 {
         for rate in rates.clone() {
@@ -367,7 +367,7 @@ fn too_small(random: &mut Random, operation: Op, times: usize) -> Vec<Plan> {
                 0 => plan.clone(),
                 1 => Plan { lists_for: right, ..plan.clone() },
                 2 => plan.clone().without_lists(operation),
-                3 => Plan { basis: Basis::WithZero, ..plan.clone() },
+                3 => Plan { basis: Elements::WithZero, ..plan.clone() },
                 _ => operation.lists().into_iter().fold(plan.clone(), |plan, list| {
                     let length = due_length(operation, setting, list) + random.below(4);
                     plan.with_length(list, length.saturating_sub(2))
@@ -442,7 +442,7 @@ fn dependent(random: &mut Random, operation: Op, bases: Bases, largest: usize) -
     let smallest = (*operation.dimensions.start() as usize).max(1);
     let mut plans = Vec::new();
     for basis in bases(random, smallest..=largest) {
-        let with = |setting| Plan { basis: Basis::Given(basis.clone()), ..Plan::of(setting) };
+        let with = |setting| Plan { basis: Elements::Given(basis.clone()), ..Plan::of(setting) };
         plans.extend(one_with_each_step(operation, basis.len() as u64).into_iter().map(with));
     }
     plans
@@ -455,10 +455,10 @@ fn dependent(random: &mut Random, operation: Op, bases: Bases, largest: usize) -
 pub fn all_causes(operation: Op) -> Vec<Answer> {
     let mut all = vec![refused(4)];
     all.extend(operation.ranged().into_iter().map(|number| refused(range(number).1)));
-    all.extend(operation.takes(Number::Step).then(|| refused(7)));
+    all.extend(operation.takes(Step).then(|| refused(7)));
     all.extend(operation.lists().into_iter().map(|list| refused_at(13, list.number())));
     all.push(refused(8));
-    if operation.given.contains(&List::Queries) {
+    if operation.given.contains(&Queries) {
         all.extend([refused(9), refused(10)]);
     }
     all
@@ -479,12 +479,12 @@ fn with_causes(random: &mut Random, operation: Op, chosen: &[Answer]) -> Plan {
     let mut k = plan.setting[0] as usize;
     for list in operation.lists() {
         if chosen.contains(&refused_at(13, list.number())) {
-            k += usize::from(list == List::Basis);
+            k += usize::from(list == Basis);
             plan = plan.with_longer(operation, list);
         }
     }
     if is_chosen(8) {
-        plan.basis = Basis::Given(any_dependent(random, k));
+        plan.basis = Elements::Given(any_dependent(random, k));
     }
     if is_chosen(9) {
         let too_many = is_chosen(10) || random.below(2) == 0;
@@ -501,7 +501,7 @@ fn with_causes(random: &mut Random, operation: Op, chosen: &[Answer]) -> Plan {
 /// Any setting that has the chosen causes. One whose dimension is out of range may be too small
 /// as well: large ones would make large lists. There is a basis that can be dependent for each.
 fn setting_with(random: &mut Random, operation: Op, is_chosen: impl Fn(u64) -> bool) -> Setting {
-    let dimensions = if operation.takes(Number::K) { 8 } else { operation.dimensions.end() + 1 };
+    let dimensions = if operation.takes(K) { 8 } else { operation.dimensions.end() + 1 };
     loop {
         let mut setting = [1 + random.below(dimensions as usize) as u64, 0, 0];
         for number in operation.ranged() {
@@ -614,7 +614,7 @@ mod tests {
         for (sort, lowest) in [(0, 0), (1, 1), (2, 2), (3, 0)] {
             let mut met = HashSet::new();
             for call in calls(&ENCODE, Sort::Dependent(sort)) {
-                met.insert((call[List::Basis].len(), first_dependent(&call[List::Basis])));
+                met.insert((call[Basis].len(), first_dependent(&call[Basis])));
             }
             let all = cosets::all_places(1..=5).filter(|&(k, place)| match sort {
                 3 => place + 1 < k,

@@ -1,6 +1,6 @@
 //! Wrong libraries: tables of what is wrong and of the comparisons that must differ.
 
-use super::call::{Call, List, Number};
+use super::call::*;
 use super::operation::{after, Library, Op, Outputs, Reference};
 use super::refused::{all_causes, causes, range, with_other_answer, Sort};
 use super::Comparison;
@@ -540,13 +540,13 @@ fn wrong_order(names: &Names) -> Vec<Row<Wrong>> {
 fn wrong_bases(names: &Names, others: &Others) -> Vec<Row<Wrong>> {
     let testing = |test: BasisTest| {
         refusing(8, move |call, _| {
-            test(&call[List::Basis]).map_or(done(), |place| refused_at(8, place as u64))
+            test(&call[Basis]).map_or(done(), |place| refused_at(8, place as u64))
         })
     };
     let from_1 = refusing(8, |_, answer| refused_at(8, answer.place.unwrap_or(0) + 1));
     // Bases that a single bit keeps from being dependent show it.
     let lower_half = first_of_all(|call| {
-        let cause = dependent(&lower_halves(&call[List::Basis]));
+        let cause = dependent(&lower_halves(&call[Basis]));
         cause.filter(|_| !is_refused(call))
     });
     let bases = &names.bases[..];
@@ -596,16 +596,16 @@ fn wrong_dimensions(names: &Names) -> Vec<Row<Wrong>> {
     ];
     // Of a dimension that is the length of the basis the lower bits leave a basis in which damage
     // may not show.
-    let (bits, shown) = match operation.takes(Number::K) {
+    let (bits, shown) = match operation.takes(K) {
         true => (&[5, 6, 8, 32][..], k_out),
         false => (&[5, 6, 8][..], damaged),
     };
     for &bits in bits {
         let cut = refusing(4, move |call, answer| {
             let k = call.k() % (1 << bits);
-            let mut cut = call.clone().with(Number::K, k);
-            if !call.operation.takes(Number::K) {
-                cut[List::Basis].truncate(k as usize);
+            let mut cut = call.clone().with(K, k);
+            if !call.operation.takes(K) {
+                cut[Basis].truncate(k as usize);
             }
             if is_refused(&cut) {
                 answer
@@ -642,7 +642,7 @@ fn wrong_ranges(names: &Names) -> Vec<Row<Wrong>> {
             rows.push(row(what, cut).differs(&[name]));
         }
     }
-    if names.operation.takes(Number::Step) {
+    if names.operation.takes(Step) {
         let too_small = Sort::TooSmall.name(names.operation);
         for other in [refused(6), refused_at(13, 6)] {
             let what = format!("a dimension that is too small has number {}", other.number);

@@ -2,7 +2,7 @@
 
 use super::{all_right_calls, right_calls, Amounts, Turns};
 use crate::answer::{raw, Answer, NONE};
-use crate::compare::call::{Call, List, Number};
+use crate::compare::call::*;
 use crate::compare::cosets;
 use crate::compare::operation::{after_safe, After, Library};
 use crate::compare::reed_solomon::{ENCODE, INTERPOLATE};
@@ -39,9 +39,9 @@ fn at_points(library: &dyn Library, amounts: &Turns) -> Comparison {
         name,
         calls_at_points(&mut Random::named(name), amounts),
         PAPER_AND_LIBRARY,
-        |call| index_of_challenge(call).map(|index| call[List::Given][index]),
+        |call| index_of_challenge(call).map(|index| call[Given][index]),
         |call| {
-            let index = index_of_challenge(call)? >> call[Number::Step];
+            let index = index_of_challenge(call)? >> call[Step];
             Some(after_safe(library, call).outputs.first()[index])
         },
     )
@@ -54,8 +54,8 @@ fn calls_at_points(random: &mut Random, amounts: &Turns) -> Vec<Call> {
         let all = 1 << call.k();
         for turn in 0..all.min(POINTS) {
             let index = if all > POINTS { random.number() } else { turn };
-            let x = point(call[Number::Offset], &call[List::Basis], index);
-            calls.push(call.clone().with(Number::Challenge, x));
+            let x = point(call[Offset], &call[Basis], index);
+            calls.push(call.clone().with(Challenge, x));
         }
     }
     calls
@@ -66,8 +66,8 @@ fn index_of_challenge(call: &Call) -> Option<usize> {
     if call.refusal().is_some() {
         return None;
     }
-    let points = points(call[Number::Offset], &call[List::Basis]);
-    points.iter().position(|&x| x == call[Number::Challenge])
+    let points = points(call[Offset], &call[Basis]);
+    points.iter().position(|&x| x == call[Challenge])
 }
 
 // Degrees.
@@ -80,7 +80,7 @@ fn low_degrees(library: &dyn Library, amounts: &Turns) -> Comparison {
         name,
         of_low_degrees(&mut Random::named(name), amounts),
         PAPER_AND_LIBRARY,
-        |call| Some(vec![0; 3 + call[List::Output].len() - folded_coefficients(call)?]),
+        |call| Some(vec![0; 3 + call[Output].len() - folded_coefficients(call)?]),
         |call| degree_of_library(library, call),
     )
 }
@@ -90,10 +90,10 @@ fn low_degrees(library: &dyn Library, amounts: &Turns) -> Comparison {
 fn of_low_degrees(random: &mut Random, amounts: &Turns) -> Vec<Call> {
     let mut calls = Vec::new();
     for call in all_right_calls(random, amounts) {
-        let all = call[List::Output].len();
+        let all = call[Output].len();
         for count in [0, 1, all / 2, all - 1, random.below(all)] {
-            let coefficients = random.list(count << call[Number::Step]);
-            calls.push(call.clone().with_list(List::Given, coefficients));
+            let coefficients = random.list(count << call[Step]);
+            calls.push(call.clone().with_list(Given, coefficients));
         }
     }
     calls
@@ -101,28 +101,28 @@ fn of_low_degrees(random: &mut Random, amounts: &Turns) -> Vec<Call> {
 
 /// Encoding over the coset of a fold.
 fn encoding(call: &Call) -> Call {
-    let points = call.due_length(List::Given);
-    Call { operation: &ENCODE, ..call.clone() }.with_length(List::Output, points)
+    let points = call.due_length(Given);
+    Call { operation: &ENCODE, ..call.clone() }.with_length(Output, points)
 }
 
 /// How many coefficients the fold has. Nothing if the word cannot be encoded and folded, as in
 /// smaller calls.
 fn folded_coefficients(call: &Call) -> Option<usize> {
-    let full = call.clone().with_due_length(List::Given);
+    let full = call.clone().with_due_length(Given);
     let may = encoding(call).refusal().is_none() && full.refusal().is_none();
-    may.then(|| call[List::Given].len().div_ceil(1 << call[Number::Step]))
+    may.then(|| call[Given].len().div_ceil(1 << call[Step]))
 }
 
 fn degree_of_library(library: &dyn Library, call: &Call) -> Option<Vec<u64>> {
     let folded = folded_coefficients(call)?;
     let mut encoded = after_safe(library, &encoding(call));
     let word = encoded.outputs.first().to_vec();
-    let mut fold = after_safe(library, &call.clone().with_list(List::Given, word));
+    let mut fold = after_safe(library, &call.clone().with_list(Given, word));
     let [values, next_basis] = fold.outputs.lists();
     let interpolation = Call { operation: &INTERPOLATE, ..call.clone() }
-        .with(Number::Offset, fold.answer.value.unwrap_or(0))
-        .with_list(List::Basis, next_basis.to_vec())
-        .with_list(List::Given, values.to_vec());
+        .with(Offset, fold.answer.value.unwrap_or(0))
+        .with_list(Basis, next_basis.to_vec())
+        .with_list(Given, values.to_vec());
     let mut interpolated = after_safe(library, &interpolation);
     let answers = [encoded.answer, fold.answer, interpolated.answer];
     let numbers = answers.map(|answer| answer.number);
@@ -154,25 +154,25 @@ fn in_two(library: &dyn Library, amounts: &Turns) -> [Comparison; 3] {
 
 fn can_be_in_two(call: &Call, first: u64) -> bool {
     let in_range = |k: u64| DIMENSIONS.contains(&(k as usize));
-    call.refusal().is_none() && call[Number::Step] > first && in_range(call.k() - first)
+    call.refusal().is_none() && call[Step] > first && in_range(call.k() - first)
 }
 
 /// The lists are filled with other numbers than those of the fold at once, so that what is not
 /// written differs.
 fn folded_in_two(library: &dyn Library, call: &Call, first: u64) -> Vec<Vec<u64>> {
-    let spanning = &call[List::Basis][..first as usize];
-    let image = fold::image(spanning, call[Number::Challenge]);
-    let half_way = call.clone().with(Number::Step, first).with_fill(!call.fill);
-    let half_way = half_way.with_due_length(List::Output).with_due_length(List::NextBasis);
+    let spanning = &call[Basis][..first as usize];
+    let image = fold::image(spanning, call[Challenge]);
+    let half_way = call.clone().with(Step, first).with_fill(!call.fill);
+    let half_way = half_way.with_due_length(Output).with_due_length(NextBasis);
     let mut after = after_safe(library, &half_way);
     let [word, basis] = after.outputs.lists();
     let rest = call
         .clone()
-        .with_setting([call.k() - first, 0, call[Number::Step] - first])
-        .with(Number::Offset, after.answer.value.unwrap_or(NONE))
-        .with(Number::Challenge, image)
-        .with_list(List::Basis, basis.to_vec())
-        .with_list(List::Given, word.to_vec())
+        .with_setting([call.k() - first, 0, call[Step] - first])
+        .with(Offset, after.answer.value.unwrap_or(NONE))
+        .with(Challenge, image)
+        .with_list(Basis, basis.to_vec())
+        .with_list(Given, word.to_vec())
         .with_fill(!call.fill);
     contents(library, &rest)
 }
@@ -193,8 +193,8 @@ fn sums_of_words(library: &dyn Library, amounts: &Turns) -> Comparison {
         two_words(&mut Random::named(name), amounts),
         LEFT_AND_RIGHT,
         |(call, other)| {
-            let sum = sum(&call[List::Given], other);
-            after_safe(library, &call.clone().with_list(List::Given, sum))
+            let sum = sum(&call[Given], other);
+            after_safe(library, &call.clone().with_list(Given, sum))
         },
         |(call, other)| sum_of_folds(library, call, other),
     )
@@ -205,7 +205,7 @@ fn two_words(random: &mut Random, amounts: &Turns) -> Vec<(Call, Vec<u64>)> {
     let mut inputs = Vec::new();
     for call in all_right_calls(random, amounts) {
         let sort = random.below(4);
-        let other = cosets::word(random, call[List::Given].len(), sort);
+        let other = cosets::word(random, call[Given].len(), sort);
         inputs.push((call, other));
     }
     inputs
@@ -215,8 +215,8 @@ fn two_words(random: &mut Random, amounts: &Turns) -> Vec<(Call, Vec<u64>)> {
 fn sum_of_folds(library: &dyn Library, call: &Call, other: &[u64]) -> After<Answer> {
     let mut one = after_safe(library, call);
     if call.refusal().is_none() {
-        let other = sum(&vec![0; call[List::Given].len()], other);
-        let mut added = after_safe(library, &call.clone().with_list(List::Given, other));
+        let other = sum(&vec![0; call[Given].len()], other);
+        let mut added = after_safe(library, &call.clone().with_list(Given, other));
         let sum = sum(one.outputs.first(), added.outputs.first());
         one.outputs.first().copy_from_slice(&sum);
     }

@@ -99,19 +99,19 @@ fn with_next_offset(offset: fn(&Call) -> u64) -> Wrong {
 
 /// Lagrange's interpolant through the points and entries of these indices, at the challenge.
 fn at_challenge(call: &Call, points: &[usize], entries: &[usize]) -> u64 {
-    let point_at = |&index: &usize| point(call[Number::Offset], &call[List::Basis], index as u64);
+    let point_at = |&index: &usize| point(call[Offset], &call[Basis], index as u64);
     let points: Vec<u64> = points.iter().map(point_at).collect();
-    let word: Vec<u64> = entries.iter().map(|&index| call[List::Given][index]).collect();
-    value(&interpolant(&points, &word), call[Number::Challenge])
+    let word: Vec<u64> = entries.iter().map(|&index| call[Given][index]).collect();
+    value(&interpolant(&points, &word), call[Challenge])
 }
 
 fn coset_of(call: &Call, j: usize) -> Vec<usize> {
-    (j << call[Number::Step]..(j + 1) << call[Number::Step]).collect()
+    (j << call[Step]..(j + 1) << call[Step]).collect()
 }
 
 fn half_the_length_away(call: &Call, j: usize) -> u64 {
-    let apart = call[List::Output].len();
-    let indices: Vec<usize> = (0..1 << call[Number::Step]).map(|i| j + i * apart).collect();
+    let apart = call[Output].len();
+    let indices: Vec<usize> = (0..1 << call[Step]).map(|i| j + i * apart).collect();
     at_challenge(call, &indices, &indices)
 }
 
@@ -122,9 +122,8 @@ fn from_behind(call: &Call, j: usize) -> u64 {
 }
 
 fn zero_at_points(call: &Call, j: usize) -> u64 {
-    let point_at = |index| point(call[Number::Offset], &call[List::Basis], index as u64);
-    let holds =
-        coset_of(call, j).into_iter().any(|index| point_at(index) == call[Number::Challenge]);
+    let point_at = |index| point(call[Offset], &call[Basis], index as u64);
+    let holds = coset_of(call, j).into_iter().any(|index| point_at(index) == call[Challenge]);
     if holds {
         0
     } else {
@@ -135,7 +134,7 @@ fn zero_at_points(call: &Call, j: usize) -> u64 {
 fn wrong_folds() -> Vec<Row<Wrong>> {
     let points_from_0 = instead(|call| {
         let powers = (0..call.k()).map(|place| 1 << place).collect();
-        call.with(Number::Offset, 0).with_list(List::Basis, powers)
+        call.with(Offset, 0).with_list(Basis, powers)
     });
     vec![
         row("entries are paired as in multiplicative FRI", with_entries(half_the_length_away))
@@ -150,7 +149,7 @@ fn wrong_folds() -> Vec<Row<Wrong>> {
             .differs(&[RIGHT, &[AT_POINTS, SAFE, CASE_D, SECOND_OF_K]].concat())
             .agrees(&[SUMS, CASE_F, CASE_J, FIRST_OF_K]),
         // A shift of all points leaves degrees, sums and folds in two as they are.
-        row("the offset is ignored", instead(|call| call.with(Number::Offset, 0)))
+        row("the offset is ignored", instead(|call| call.with(Offset, 0)))
             .differs(&[RIGHT, &[AT_POINTS, SAFE, CASE_D]].concat())
             .smallest(
                 STEP_1,
@@ -166,14 +165,14 @@ fn wrong_folds() -> Vec<Row<Wrong>> {
         row("the step is ignored", and_then(with_step_1))
             .differs(&[&[STEP_2, STEP_3, LARGE_2, LARGE_3], IN_TWO].concat())
             .agrees(&[STEP_1, LARGE_1, ALL_ONES]),
-        row("the challenge is ignored", instead(|call| call.with(Number::Challenge, 0)))
+        row("the challenge is ignored", instead(|call| call.with(Challenge, 0)))
             .differs(&[RIGHT, &[AT_POINTS, SAFE, CASE_F, CASE_J]].concat())
             .agrees(&[SUMS, CASE_D])
             .smallest(STEP_1, "challenge 1; basis: 1, 2; list 3: 0 (3 times), 1;"),
         row(
             "the top bit of the challenge is lost",
             instead(|mut call| {
-                call[Number::Challenge] &= u64::MAX >> 1;
+                call[Challenge] &= u64::MAX >> 1;
                 call
             }),
         )
@@ -189,8 +188,8 @@ fn wrong_folds() -> Vec<Row<Wrong>> {
         row(
             "only the lower half of the word is folded",
             instead(|call| {
-                let halves = lower_halves(&call[List::Given]);
-                call.with_list(List::Given, halves)
+                let halves = lower_halves(&call[Given]);
+                call.with_list(Given, halves)
             }),
         )
         .differs(&[RIGHT, &[AT_POINTS]].concat())
@@ -211,15 +210,15 @@ fn with_step_1(call: &Call, outputs: &mut Outputs) {
 }
 
 fn with_another_exceptional(call: Call) -> Call {
-    match call[Number::Challenge] == 1 << 40 {
-        true => call.with(Number::Challenge, 2),
+    match call[Challenge] == 1 << 40 {
+        true => call.with(Challenge, 2),
         false => call,
     }
 }
 
 /// The product over the basis elements alone; with step 1 nothing else is in the span.
 fn wrong_image(call: &Call, x: u64) -> u64 {
-    let spanning = call[List::Basis][..call[Number::Step] as usize].iter().chain([&0]);
+    let spanning = call[Basis][..call[Step] as usize].iter().chain([&0]);
     spanning.fold(1, |product, b| field::product(product, x ^ b))
 }
 
@@ -230,15 +229,15 @@ fn wrong_cosets() -> Vec<Row<Wrong>> {
             return answer;
         };
         let [_, next_basis] = outputs.lists();
-        let rest = &call[List::Basis][call[Number::Step] as usize..];
+        let rest = &call[Basis][call[Step] as usize..];
         for (next, &b) in next_basis.iter_mut().zip(rest) {
             *next = wrong_image(call, b);
         }
-        went_well(wrong_image(call, call[Number::Offset]))
+        went_well(wrong_image(call, call[Offset]))
     });
     let keeping_the_basis = and_then(|call, outputs| {
         let [_, next_basis] = outputs.lists();
-        next_basis.copy_from_slice(&call[List::Basis][call[Number::Step] as usize..])
+        next_basis.copy_from_slice(&call[Basis][call[Step] as usize..])
     });
     let none_for_all_ones = answering(|_, answer| {
         let value = answer.value.filter(|&value| value != NONE);
@@ -253,7 +252,7 @@ fn wrong_cosets() -> Vec<Row<Wrong>> {
     vec![
         row("the next offset forgets the offset", with_next_offset(|_| 0))
             .differs(&[RIGHT, IN_TWO, &[SAFE, CASE_D]].concat()),
-        row("the next offset is the offset", with_next_offset(|call| call[Number::Offset]))
+        row("the next offset is the offset", with_next_offset(|call| call[Offset]))
             .differs(&[RIGHT, IN_TWO, &[SAFE, CASE_D]].concat()),
         row("the next basis is the rest of the old one", keeping_the_basis)
             .differs(&[RIGHT, CASES, &[LOW_DEGREES]].concat())
@@ -268,7 +267,7 @@ fn wrong_cosets() -> Vec<Row<Wrong>> {
         row(
             "encoding is over a shifted coset",
             instead(|mut call| {
-                call[Number::Offset] ^= 1;
+                call[Offset] ^= 1;
                 call
             })
             .of(&ENCODE),
@@ -340,7 +339,7 @@ fn wrong_writing() -> Vec<Row<Wrong>> {
 fn wrong_ranges() -> Vec<Row<Wrong>> {
     let testing_the_first = |otherwise: Answer| {
         refusing(8, move |call, _| {
-            dependent(&call[List::Basis][..call[Number::Step] as usize]).unwrap_or(otherwise)
+            dependent(&call[Basis][..call[Step] as usize]).unwrap_or(otherwise)
         })
     };
     let taking = |k| refusing(4, move |call, answer| if call.k() == k { done() } else { answer });
@@ -358,16 +357,13 @@ fn wrong_ranges() -> Vec<Row<Wrong>> {
             SAFE,
             "k 21; step 0; offset 0; challenge 0; basis: nothing; list 3: nothing;",
         ),
-        row(
-            "step 3 is refused",
-            first_of_all(|call| (call[Number::Step] == 3).then(|| refused(6))),
-        )
-        .differs(&[STEP_3, BELOW])
-        .agrees(&[STEP_1, STEP_2]),
+        row("step 3 is refused", first_of_all(|call| (call[Step] == 3).then(|| refused(6))))
+            .differs(&[STEP_3, BELOW])
+            .agrees(&[STEP_1, STEP_2]),
         row(
             "a dimension equal to the step is refused",
             first_of_all(|call| {
-                let equal = call.k() == call[Number::Step] && (2..=3).contains(&call.k());
+                let equal = call.k() == call[Step] && (2..=3).contains(&call.k());
                 equal.then(|| refused(7))
             }),
         )

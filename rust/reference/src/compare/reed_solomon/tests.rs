@@ -62,11 +62,11 @@ fn encoding_instead(change: impl Fn(&mut Call) + Send + Sync + 'static) -> Wrong
 fn rows() -> Vec<Row<Wrong>> {
     let points_from_0 = |call: Call| {
         let powers = (0..call.k()).map(|place| 1 << place).collect();
-        call.with(Number::Offset, 0).with_list(List::Basis, powers)
+        call.with(Offset, 0).with_list(Basis, powers)
     };
     vec![
         // The coset of case E has no offset.
-        row("the offset is ignored", instead(|call| call.with(Number::Offset, 0)))
+        row("the offset is ignored", instead(|call| call.with(Offset, 0)))
             .differs(&[SMALL, LARGE, SAFE])
             .smallest(SMALL, "offset 1; basis: 1; list 3: 0, 1; list 6 of length 2;"),
         row("the points are 0, 1, 2 and so on", instead(points_from_0))
@@ -74,7 +74,7 @@ fn rows() -> Vec<Row<Wrong>> {
         row(
             "the points go by the bits from above",
             instead(|mut call| {
-                call[List::Basis].reverse();
+                call[Basis].reverse();
                 call
             }),
         )
@@ -83,7 +83,7 @@ fn rows() -> Vec<Row<Wrong>> {
         row(
             "the top bit of the offset is lost",
             instead(|mut call| {
-                call[Number::Offset] &= u64::MAX >> 1;
+                call[Offset] &= u64::MAX >> 1;
                 call
             }),
         )
@@ -93,7 +93,7 @@ fn rows() -> Vec<Row<Wrong>> {
         row(
             "the last coefficient is not encoded",
             encoding_instead(|call| {
-                call[List::Given].pop();
+                call[Given].pop();
             }),
         )
         .differs(&[ENCODE_SMALL, ENCODE_LARGE, TRIP, OTHER_TRIP, ENCODE_SAFE, E_ENCODE])
@@ -101,8 +101,8 @@ fn rows() -> Vec<Row<Wrong>> {
         row(
             "coefficients left off are one",
             encoding_instead(|call| {
-                let points = call[List::Output].len();
-                call[List::Given].resize(points, 1)
+                let points = call[Output].len();
+                call[Given].resize(points, 1)
             }),
         )
         .differs(&[ENCODE_SMALL, TRIP, ENCODE_SAFE, E_ENCODE])
@@ -116,8 +116,7 @@ fn rows() -> Vec<Row<Wrong>> {
         ]),
         row(
             "the constant is wrong if the first value has its top bit",
-            and_then(|call, outputs| outputs.first()[0] ^= call[List::Given][0] >> 63)
-                .of(&INTERPOLATE),
+            and_then(|call, outputs| outputs.first()[0] ^= call[Given][0] >> 63).of(&INTERPOLATE),
         )
         .differs(&[INTERPOLATE_SMALL, TRIP, OTHER_TRIP])
         .among_others()
@@ -153,8 +152,8 @@ fn rows() -> Vec<Row<Wrong>> {
         row(
             "only right calls of large dimensions are taken",
             refusing(4, |call, answer| {
-                let independent = first_dependent(&call[List::Basis]).is_none();
-                let lengths = [List::Given, List::Output].map(|list| call[list].len());
+                let independent = first_dependent(&call[Basis]).is_none();
+                let lengths = [Given, Output].map(|list| call[list].len());
                 let fitting = lengths[0] > 0 && lengths[0] == lengths[1];
                 match independent && fitting && call.k() > 13 {
                     true => done(),
@@ -172,8 +171,8 @@ fn with_the_constant_last(call: &Call, outputs: &mut Outputs) -> Answer {
     }
     let mut other = call.clone();
     if call.operation == &ENCODE {
-        other[List::Given].resize(call[List::Output].len(), 0);
-        other[List::Given].reverse();
+        other[Given].resize(call[Output].len(), 0);
+        other[Given].reverse();
     }
     let answer = right(&other, outputs);
     if call.operation == &INTERPOLATE {
@@ -197,7 +196,7 @@ fn not_writing(from: fn(&[u64]) -> usize) -> Wrong {
 /// Refuses to encode for how many coefficients there are beside points.
 fn refusing_lengths(wrong: fn(usize, usize) -> bool) -> Wrong {
     first_of_all(move |call| {
-        let lengths = wrong(call[List::Given].len(), call[List::Output].len());
+        let lengths = wrong(call[Given].len(), call[Output].len());
         (lengths && !is_refused(call)).then(|| refused_at(13, 3))
     })
     .of(&ENCODE)
