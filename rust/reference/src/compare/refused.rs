@@ -8,7 +8,6 @@ use super::lent::other_answer_lengths;
 use super::operation::{raw_calls, safe_calls, Library, Op, Operation, Setting};
 use super::Comparison;
 use crate::answer::{refused, refused_at, Answer};
-use crate::coset::first_dependent;
 use crate::protocol::QUERY_COUNTS;
 use crate::random::Random;
 use std::ops::RangeInclusive;
@@ -201,7 +200,7 @@ fn due_length(operation: Op, setting: Setting, list: List) -> usize {
     blank.due_length(list)
 }
 
-// All causes that a call has.
+// Ranges.
 
 const RATES: RangeInclusive<u64> = 1..=6;
 const STEPS: RangeInclusive<u64> = 1..=3;
@@ -215,7 +214,7 @@ pub fn range(number: Number) -> (RangeInclusive<u64>, u64) {
 }
 
 /// The numbers of the causes that a setting is refused for, in the paper's order.
-fn causes_of_setting(operation: &Operation, setting: Setting) -> Vec<u64> {
+pub fn causes_of_setting(operation: &Operation, setting: Setting) -> Vec<u64> {
     let [k, rate, step] = setting;
     let mut causes = Vec::new();
     causes.extend((!operation.dimensions.contains(&k)).then_some(4));
@@ -225,25 +224,6 @@ fn causes_of_setting(operation: &Operation, setting: Setting) -> Vec<u64> {
     }
     causes.extend((operation.takes(Step) && k < rate.saturating_add(step)).then_some(7));
     causes
-}
-
-/// The refusals of all causes that a call has before any work, in the paper's order. Where no
-/// length is right lists should have the nearest there is.
-pub fn causes(call: &Call) -> Vec<Answer> {
-    let operation = call.operation;
-    let causes = causes_of_setting(operation, call.setting());
-    let mut all: Vec<Answer> = causes.into_iter().map(refused).collect();
-    let wrong = operation.lists().into_iter().filter(|&list| !call.fits(list));
-    all.extend(wrong.map(|list| refused_at(13, list.number())));
-    let place = first_dependent(&call[Basis]);
-    all.extend(place.map(|place| refused_at(8, place as u64)));
-    if operation.given.contains(&Queries) {
-        let queries = &call[Queries];
-        all.extend((!QUERY_COUNTS.contains(&queries.len())).then(|| refused(9)));
-        let place = queries.iter().position(|query| call.k() < 64 && query >> call.k() > 0);
-        all.extend(place.map(|place| refused_at(10, place as u64)));
-    }
-    all
 }
 
 // Dimensions out of range.
@@ -264,7 +244,11 @@ fn one_with_each_step(operation: Op, k: u64) -> Vec<Setting> {
 /// Settings whose lists a library could take for right: those of the dimension itself, or of what
 /// is left where only the lowest bits of a dimension count.
 fn taken_for(operation: Op, k: u64) -> Vec<Setting> {
-    let nearest = if k <= LARGEST_OF_LISTS { k } else { k % 16 };
+    let nearest = match k {
+        0..=LARGEST_OF_LISTS => k,
+        22..=0xffff => k % 16,
+        _ => k % 8,
+    };
     match &one_with_each_step(operation, nearest)[..] {
         [] => one_with_each_step(operation, *operation.dimensions.start()),
         settings => settings.to_vec(),
@@ -558,7 +542,8 @@ mod tests {
     use crate::answer::done;
     use crate::compare::fold::FOLD;
     use crate::compare::reed_solomon::{ENCODE, INTERPOLATE};
-    use crate::compare::wrong::{refusing, right_library, Wrong};
+    use crate::compare::wrong::{causes, refusing, right_library, Wrong};
+    use crate::coset::first_dependent;
     use std::collections::HashSet;
 
     const FEW: Amounts = Amounts {

@@ -2,10 +2,11 @@
 
 use super::call::*;
 use super::operation::{after, Library, Op, Outputs, Reference};
-use super::refused::{all_causes, causes, range, with_other_answer, Sort};
+use super::refused::{all_causes, causes_of_setting, range, with_other_answer, Sort};
 use super::Comparison;
 use crate::answer::{done, raw, refused, refused_at, Answer, ANSWER_LENGTH};
 use crate::coset::{first_dependent, point};
+use crate::protocol::QUERY_COUNTS;
 use std::collections::HashSet;
 use std::rc::Rc;
 
@@ -498,6 +499,24 @@ fn wrong_lists(names: &Names) -> Vec<Row<Wrong>> {
         rows.push(row(what, cut).differs(&[name, several, names.several, names.safe]));
     }
     rows
+}
+
+/// The refusals of all causes that a call has before any work, in the paper's order. Where no
+/// length is right lists should have the nearest there is.
+pub fn causes(call: &Call) -> Vec<Answer> {
+    let operation = call.operation;
+    let causes = causes_of_setting(operation, call.setting());
+    let mut all: Vec<Answer> = causes.into_iter().map(refused).collect();
+    let wrong = operation.lists().into_iter().filter(|&list| !call.fits(list));
+    all.extend(wrong.map(|list| refused_at(13, list.number())));
+    all.extend(dependent(&call[Basis]));
+    if operation.given.contains(&Queries) {
+        let queries = &call[Queries];
+        all.extend((!QUERY_COUNTS.contains(&queries.len())).then(|| refused(9)));
+        let place = queries.iter().position(|query| call.k() < 64 && query >> call.k() > 0);
+        all.extend(place.map(|place| refused_at(10, place as u64)));
+    }
+    all
 }
 
 fn wrong_order(names: &Names) -> Vec<Row<Wrong>> {
