@@ -208,6 +208,14 @@ pub fn instead(other: impl Fn(Call) -> Call + 'static) -> Wrong {
     always_instead(move |call| if is_refused(&call) { call } else { other(call) })
 }
 
+/// The same for the call with something changed.
+pub fn changing(change: impl Fn(&mut Call) + 'static) -> Wrong {
+    instead(move |mut call| {
+        change(&mut call);
+        call
+    })
+}
+
 /// Does what is right for another call, whether or not this one is to be refused.
 pub fn always_instead(other: impl Fn(Call) -> Call + 'static) -> Wrong {
     alike(move |call, outputs| as_if(other(call.clone()), outputs))
@@ -231,6 +239,22 @@ pub fn when_refused(change: impl Fn(&Call, &mut Outputs) + 'static) -> Wrong {
             change(call, outputs);
         }
         right(call, outputs)
+    })
+}
+
+/// Leaves the numbers of a lent list as they were that are not to be kept: a place, the number there
+/// and the length decide.
+pub fn not_writing(list: usize, kept: fn(usize, u64, usize) -> bool) -> Wrong {
+    alike(move |call, outputs| {
+        let before = outputs.contents();
+        let answer = right(call, outputs);
+        let numbers = outputs.lent[list].list();
+        for (place, before) in before[list].iter().enumerate() {
+            if !kept(place, numbers[place], numbers.len()) {
+                numbers[place] = *before;
+            }
+        }
+        answer
     })
 }
 

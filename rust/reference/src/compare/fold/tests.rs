@@ -3,9 +3,9 @@ use crate::answer::{done, refused, refused_in_round, NONE};
 use crate::compare::operation::Reference;
 use crate::compare::reed_solomon::{ENCODE, INTERPOLATE};
 use crate::compare::wrong::{
-    alike, and_then, answering, dependent, differing, first_of_all, hold_table, instead,
-    lower_halves, raw_alone, refusing, right_library, row, shared_rows, when_refused, Others, Row,
-    Wrong,
+    alike, and_then, answering, changing, dependent, differing, first_of_all, hold_table,
+    lower_halves, not_writing, raw_alone, refusing, right_library, row, shared_rows, when_refused,
+    Others, Row, Wrong,
 };
 use crate::coset::point;
 use crate::polynomial::interpolant;
@@ -52,6 +52,8 @@ const SUMS: &str = "the fold of u + v is that of u + that of v";
 const BELOW: &str = "k below the step";
 const SAFE: &str = "fold, safe calls";
 const DAMAGED: &str = "k out of range and damaged";
+const K_OUT: &str = "fold, k out of range";
+const SEVERAL: &str = "several causes";
 const CASE_D: &str = "case D of table A";
 const CASE_F: &str = "case F of table A, the fold";
 const CASE_J: &str = "case J of table A, the fold";
@@ -132,29 +134,28 @@ fn zero_at_points(call: &Call, j: usize) -> u64 {
 }
 
 fn wrong_folds() -> Vec<Row<Wrong>> {
-    let points_from_0 = instead(|call| {
-        let powers = (0..call.k()).map(|place| 1 << place).collect();
-        call.with(Offset, 0).with_list(Basis, powers)
+    let points_from_0 = changing(|call| {
+        call[Offset] = 0;
+        call[Basis] = (0..call.k()).map(|place| 1 << place).collect();
+    });
+    let another_exceptional = changing(|call| {
+        if call[Challenge] == 1 << 40 {
+            call[Challenge] = 2;
+        }
     });
     vec![
         row("entries are paired as in multiplicative FRI", with_entries(half_the_length_away))
             .differs(&[RIGHT, IN_TWO, &[AT_POINTS, LOW_DEGREES, FIRST_OF_K]].concat())
             .agrees(&[SUMS])
-            .smallest(
-                STEP_1,
-                "k 2; step 1; offset 0; challenge 0; basis: 1, 2; list 3: 0 (2 times), 1, 0;",
-            ),
+            .smallest(STEP_1, "challenge 0; basis: 1, 2; list 3: 0 (2 times), 1, 0;"),
         // The cosets of cases F, J and of the first fold of K have just these points.
         row("the points are 0, 1, 2 and so on", points_from_0)
             .differs(&[RIGHT, &[AT_POINTS, SAFE, CASE_D, SECOND_OF_K]].concat())
             .agrees(&[SUMS, CASE_F, CASE_J, FIRST_OF_K]),
         // A shift of all points leaves degrees, sums and folds in two as they are.
-        row("the offset is ignored", instead(|call| call.with(Offset, 0)))
+        row("the offset is ignored", changing(|call| call[Offset] = 0))
             .differs(&[RIGHT, &[AT_POINTS, SAFE, CASE_D]].concat())
-            .smallest(
-                STEP_1,
-                "k 2; step 1; offset 1; challenge 0; basis: 2, 1; list 3: 0 (4 times);",
-            ),
+            .smallest(STEP_1, "k 2; step 1; offset 1; challenge 0; basis: 2, 1; list 3: 0 (4"),
         row("a coset is taken from behind", with_entries(from_behind))
             .differs(&[RIGHT, &[AT_POINTS, SAFE, CASE_F, CASE_J]].concat())
             .agrees(&[SUMS, CASE_D]),
@@ -165,32 +166,22 @@ fn wrong_folds() -> Vec<Row<Wrong>> {
         row("the step is ignored", and_then(with_step_1))
             .differs(&[&[STEP_2, STEP_3, LARGE_2, LARGE_3], IN_TWO].concat())
             .agrees(&[STEP_1, LARGE_1, ALL_ONES]),
-        row("the challenge is ignored", instead(|call| call.with(Challenge, 0)))
+        row("the challenge is ignored", changing(|call| call[Challenge] = 0))
             .differs(&[RIGHT, &[AT_POINTS, SAFE, CASE_F, CASE_J]].concat())
             .agrees(&[SUMS, CASE_D])
             .smallest(STEP_1, "challenge 1; basis: 1, 2; list 3: 0 (3 times), 1;"),
-        row(
-            "the top bit of the challenge is lost",
-            instead(|mut call| {
-                call[Challenge] &= u64::MAX >> 1;
-                call
-            }),
-        )
-        .differs(&[STEP_1])
-        .among_others()
-        .smallest(STEP_1, "challenge 8000000000000000; "),
-        row("another challenge is exceptional", instead(with_another_exceptional))
-            .differs(&[CASE_J_ALL]),
+        row("the top bit of the challenge is lost", changing(|call| call[Challenge] &= !(1 << 63)))
+            .differs(&[STEP_1])
+            .among_others()
+            .smallest(STEP_1, "challenge 8000000000000000; "),
+        row("another challenge is exceptional", another_exceptional).differs(&[CASE_J_ALL]),
         row("a number is added to the first entry", and_then(|_, outputs| outputs.first()[0] ^= 1))
             .differs(&[RIGHT, &[AT_POINTS, SUMS, SAFE]].concat())
             .among_others()
             .smallest(SUMS, "; with nothing"),
         row(
             "only the lower half of the word is folded",
-            instead(|call| {
-                let halves = lower_halves(&call[Given]);
-                call.with_list(Given, halves)
-            }),
+            changing(|call| call[Given] = lower_halves(&call[Given])),
         )
         .differs(&[RIGHT, &[AT_POINTS]].concat())
         .agrees(&[CASES, &[SUMS]].concat())
@@ -207,13 +198,6 @@ fn with_step_1(call: &Call, outputs: &mut Outputs) {
     let [values, next_basis] = outputs.lists();
     values.copy_from_slice(&folded.values[..values.len()]);
     next_basis.copy_from_slice(&folded.next.basis[..next_basis.len()]);
-}
-
-fn with_another_exceptional(call: Call) -> Call {
-    match call[Challenge] == 1 << 40 {
-        true => call.with(Challenge, 2),
-        false => call,
-    }
 }
 
 /// The product over the basis elements alone; with step 1 nothing else is in the span.
@@ -264,14 +248,7 @@ fn wrong_cosets() -> Vec<Row<Wrong>> {
         row("a next offset of all ones is taken for none", none_for_all_ones).differs(&[SAFE]),
         row("a next offset of all ones is written as zero", zero_for_all_ones).differs(&[ALL_ONES]),
         // The degree is that of a shifted polynomial, so that nothing shows.
-        row(
-            "encoding is over a shifted coset",
-            instead(|mut call| {
-                call[Offset] ^= 1;
-                call
-            })
-            .of(&ENCODE),
-        ),
+        row("encoding is over a shifted coset", changing(|call| call[Offset] ^= 1).of(&ENCODE)),
         row(
             "a degree shows a wrong code",
             and_then(|_, outputs| outputs.first()[0] ^= 1).of(&ENCODE),
@@ -282,28 +259,24 @@ fn wrong_cosets() -> Vec<Row<Wrong>> {
     ]
 }
 
-/// Leaves the numbers of a list as they were that are not to be kept.
-fn not_writing(list: usize, kept: fn(usize, u64, usize) -> bool) -> Wrong {
-    alike(move |call, outputs| {
-        let before = outputs.contents();
-        let answer = Reference.safe(call, outputs);
-        let numbers = outputs.lent[list].list();
-        for (place, before) in before[list].iter().enumerate() {
-            if !kept(place, numbers[place], numbers.len()) {
-                numbers[place] = *before;
-            }
-        }
-        answer
-    })
-}
-
 fn wrong_writing() -> Vec<Row<Wrong>> {
+    let dependent = |call: &Call| call.refusal().is_some_and(|refusal| refusal.number == 8);
+    let too_late = when_refused(move |call, outputs| {
+        if dependent(call) {
+            outputs.first().fill(0)
+        }
+    });
+    let from_another = when_refused(move |call, outputs| {
+        let [values, next_basis] = outputs.lists();
+        if let (true, Some(first)) = (dependent(call), next_basis.first_mut()) {
+            *first = values[0];
+        }
+    });
     let smallest = "k 2; step 1; offset 0; challenge 0; basis: 1, 2; list 3: 0 (4 times);";
+    let properties = &[AT_POINTS, LOW_DEGREES, SUMS, SAFE, CASE_J_ALL];
     vec![
         row("the last value is not written", not_writing(0, |place, _, length| place + 1 < length))
-            .differs(
-                &[RIGHT, IN_TWO, CASES, &[AT_POINTS, LOW_DEGREES, SUMS, SAFE, CASE_J_ALL]].concat(),
-            )
+            .differs(&[RIGHT, IN_TWO, CASES, properties].concat())
             .smallest(STEP_2, smallest),
         // A dimension equal to the step leaves no basis to write.
         row("the next basis is not written", not_writing(1, |_, _, _| false))
@@ -313,26 +286,9 @@ fn wrong_writing() -> Vec<Row<Wrong>> {
         row("zeros are not written", not_writing(0, |_, number, _| number != 0))
             .differs(&[SMALL, &[AT_POINTS, CASE_J]].concat())
             .agrees(&[CASE_F]),
-        row(
-            "the basis is tested too late",
-            when_refused(|call, outputs| {
-                if call.refusal().is_some_and(|refusal| refusal.number == 8) {
-                    outputs.first().fill(0)
-                }
-            }),
-        )
-        .differs(DEPENDENT),
+        row("the basis is tested too late", too_late).differs(DEPENDENT),
         // The lists are filled from numbers far apart.
-        row(
-            "a list is filled from another",
-            when_refused(|call, outputs| {
-                let [values, next_basis] = outputs.lists();
-                if call.refusal().is_some_and(|refusal| refusal.number == 8) {
-                    next_basis.iter_mut().take(1).for_each(|first| *first = values[0]);
-                }
-            }),
-        )
-        .differs(DEPENDENT),
+        row("a list is filled from another", from_another).differs(DEPENDENT),
     ]
 }
 

@@ -1,7 +1,7 @@
 use super::*;
 use crate::compare::wrong::{
-    alike, and_then, first_of_all, hold_table, instead, is_refused, refusing, right, right_library,
-    row, shared_rows, Others, Row, Wrong,
+    alike, and_then, changing, first_of_all, hold_table, is_refused, not_writing, refusing, right,
+    right_library, row, shared_rows, Others, Row, Wrong,
 };
 use crate::coset::first_dependent;
 
@@ -49,119 +49,74 @@ const OF_INTERPOLATE: Others = Others {
     unsaid: &[],
 };
 
-/// With the call changed if it is one of encoding.
-fn encoding_instead(change: impl Fn(&mut Call) + Send + Sync + 'static) -> Wrong {
-    instead(move |mut call| {
-        change(&mut call);
-        call
-    })
-    .of(&ENCODE)
-}
-
 /// Round trips stay silent where both directions are wrong alike.
 fn rows() -> Vec<Row<Wrong>> {
-    let points_from_0 = |call: Call| {
-        let powers = (0..call.k()).map(|place| 1 << place).collect();
-        call.with(Offset, 0).with_list(Basis, powers)
-    };
+    let points_from_0 = changing(|call| {
+        call[Offset] = 0;
+        call[Basis] = (0..call.k()).map(|place| 1 << place).collect();
+    });
+    let without_the_last = changing(|call| {
+        call[Given].pop();
+    });
+    let left_off_are_one = changing(|call| {
+        let points = call[Output].len();
+        call[Given].resize(points, 1)
+    });
+    let one_bit = and_then(|call, outputs| outputs.first()[0] ^= call[Given][0] >> 63);
+    let taking_right_calls = refusing(4, |call, answer| {
+        let independent = first_dependent(&call[Basis]).is_none();
+        let [given, output] = [Given, Output].map(|list| call[list].len());
+        let taken = independent && given > 0 && given == output && call.k() > 13;
+        if taken {
+            done()
+        } else {
+            answer
+        }
+    });
+    let all = &[SMALL, LARGE, SAFE, E_ENCODE, E_INTERPOLATE];
     vec![
         // The coset of case E has no offset.
-        row("the offset is ignored", instead(|call| call.with(Offset, 0)))
+        row("the offset is ignored", changing(|call| call[Offset] = 0))
             .differs(&[SMALL, LARGE, SAFE])
             .smallest(SMALL, "offset 1; basis: 1; list 3: 0, 1; list 6 of length 2;"),
-        row("the points are 0, 1, 2 and so on", instead(points_from_0))
-            .differs(&[SMALL, LARGE, SAFE]),
-        row(
-            "the points go by the bits from above",
-            instead(|mut call| {
-                call[Basis].reverse();
-                call
-            }),
-        )
-        .differs(&[SMALL, LARGE, SAFE, E_ENCODE, E_INTERPOLATE])
-        .smallest(SMALL, "offset 0; basis: 1, 2; list 3: 0, 1; list 6 of length 4;"),
-        row(
-            "the top bit of the offset is lost",
-            instead(|mut call| {
-                call[Offset] &= u64::MAX >> 1;
-                call
-            }),
-        )
-        .differs(&[SMALL])
-        .among_others()
-        .smallest(SMALL, "offset 8000000000000000; basis: 1; list 3: 0, 1; list 6 of length 2;"),
-        row(
-            "the last coefficient is not encoded",
-            encoding_instead(|call| {
-                call[Given].pop();
-            }),
-        )
-        .differs(&[ENCODE_SMALL, ENCODE_LARGE, TRIP, OTHER_TRIP, ENCODE_SAFE, E_ENCODE])
-        .smallest(ENCODE_SMALL, "offset 0; basis: nothing; list 3: 1; list 6 of length 1;"),
-        row(
-            "coefficients left off are one",
-            encoding_instead(|call| {
-                let points = call[Output].len();
-                call[Given].resize(points, 1)
-            }),
-        )
-        .differs(&[ENCODE_SMALL, TRIP, ENCODE_SAFE, E_ENCODE])
-        .smallest(ENCODE_SMALL, "offset 0; basis: nothing; list 3: nothing; list 6 of length 1;"),
-        row("the constant comes last", alike(with_the_constant_last)).differs(&[
-            SMALL,
-            LARGE,
-            SAFE,
-            E_ENCODE,
-            E_INTERPOLATE,
-        ]),
-        row(
-            "the constant is wrong if the first value has its top bit",
-            and_then(|call, outputs| outputs.first()[0] ^= call[Given][0] >> 63).of(&INTERPOLATE),
-        )
-        .differs(&[INTERPOLATE_SMALL, TRIP, OTHER_TRIP])
-        .among_others()
-        .smallest(
-            INTERPOLATE_SMALL,
-            "offset 0; basis: nothing; list 3: 8000000000000000; list 6 of length 1;",
-        ),
-        row("the last number is not written", not_writing(|output| output.len().saturating_sub(1)))
-            .differs(&[SMALL, LARGE, TRIP, OTHER_TRIP, SAFE, E_ENCODE, E_INTERPOLATE])
-            .smallest(
-                INTERPOLATE_SMALL,
-                "offset 0; basis: nothing; list 3: 0; list 6 of length 1;",
-            ),
-        row(
-            "zeros at the end are not written",
-            not_writing(|output| {
-                output.iter().rposition(|&number| number != 0).map_or(0, |n| n + 1)
-            }),
-        )
-        .differs(&[INTERPOLATE_SMALL, TRIP, E_INTERPOLATE])
-        .agrees(&[E_ENCODE]),
+        row("the points are 0, 1, 2 and so on", points_from_0).differs(&[SMALL, LARGE, SAFE]),
+        row("the points go by the bits from above", changing(|call| call[Basis].reverse()))
+            .differs(all)
+            .smallest(SMALL, "offset 0; basis: 1, 2; list 3: 0, 1; list 6 of length 4;"),
+        row("the top bit of the offset is lost", changing(|call| call[Offset] &= u64::MAX >> 1))
+            .differs(&[SMALL])
+            .among_others()
+            .smallest(SMALL, "offset 8000000000000000; basis: 1; list 3: 0, 1;"),
+        row("the last coefficient is not encoded", without_the_last.of(&ENCODE))
+            .differs(&[ENCODE_SMALL, ENCODE_LARGE, TRIP, OTHER_TRIP, ENCODE_SAFE, E_ENCODE])
+            .smallest(ENCODE_SMALL, "offset 0; basis: nothing; list 3: 1; list 6 of length 1;"),
+        row("coefficients left off are one", left_off_are_one.of(&ENCODE))
+            .differs(&[ENCODE_SMALL, TRIP, ENCODE_SAFE, E_ENCODE])
+            .smallest(ENCODE_SMALL, "offset 0; basis: nothing; list 3: nothing;"),
+        row("the constant comes last", alike(with_the_constant_last)).differs(all),
+        row("the top bit of the first value makes the constant wrong", one_bit.of(&INTERPOLATE))
+            .differs(&[INTERPOLATE_SMALL, TRIP, OTHER_TRIP])
+            .among_others()
+            .smallest(INTERPOLATE_SMALL, "basis: nothing; list 3: 8000000000000000;"),
+        row("the last number is not written", not_writing(0, |place, _, all| place + 1 < all))
+            .differs(&[&all[..], &[TRIP, OTHER_TRIP]].concat())
+            .smallest(INTERPOLATE_SMALL, "offset 0; basis: nothing; list 3: 0;"),
+        row("zeros are not written", not_writing(0, |_, number, _| number != 0))
+            .differs(&[INTERPOLATE_SMALL, TRIP, E_INTERPOLATE])
+            .agrees(&[E_ENCODE]),
         row(
             "fewer coefficients than points are refused",
-            refusing_lengths(|given, points| given < points),
+            refusing_lengths(|given, all| given < all),
         )
         .differs(&[ENCODE_SMALL, TRIP, ENCODE_SAFE, E_ENCODE]),
         row(
             "as many coefficients as points are refused",
-            refusing_lengths(|given, points| given == points),
+            refusing_lengths(|given, all| given == all),
         )
         .differs(&[ENCODE_SMALL, ENCODE_LARGE, TRIP, OTHER_TRIP, ENCODE_SAFE])
         .smallest(ENCODE_SMALL, "offset 0; basis: nothing; list 3: 0; list 6 of length 1;"),
-        row(
-            "only right calls of large dimensions are taken",
-            refusing(4, |call, answer| {
-                let independent = first_dependent(&call[Basis]).is_none();
-                let lengths = [Given, Output].map(|list| call[list].len());
-                let fitting = lengths[0] > 0 && lengths[0] == lengths[1];
-                match independent && fitting && call.k() > 13 {
-                    true => done(),
-                    false => answer,
-                }
-            }),
-        )
-        .differs(&["k over 12"]),
+        row("only right calls of large dimensions are taken", taking_right_calls)
+            .differs(&["k over 12"]),
     ]
 }
 
@@ -179,18 +134,6 @@ fn with_the_constant_last(call: &Call, outputs: &mut Outputs) -> Answer {
         outputs.first().reverse();
     }
     answer
-}
-
-/// Leaves the numbers of a list from a place on as they were.
-fn not_writing(from: fn(&[u64]) -> usize) -> Wrong {
-    alike(move |call, outputs| {
-        let before = outputs.first().to_vec();
-        let answer = right(call, outputs);
-        let output = outputs.first();
-        let from = from(output);
-        output[from..].copy_from_slice(&before[from..]);
-        answer
-    })
 }
 
 /// Refuses to encode for how many coefficients there are beside points.
