@@ -304,11 +304,7 @@ fn wrong_ranges() -> Vec<Row<Wrong>> {
         row("the next basis is tested instead", testing_the_first(refused_in_round(16, 0)))
             .differs(DEPENDENT),
         row("dimension 0 is taken", taking(0)).differs(&[DAMAGED]),
-        row("dimension 1 is taken", taking(1)).differs(&[
-            DAMAGED,
-            "fold, k out of range",
-            "several causes",
-        ]),
+        row("dimension 1 is taken", taking(1)).differs(&[DAMAGED, K_OUT, SEVERAL]),
         row("dimension 21 is taken", taking(21)).differs(&[SAFE]).smallest(
             SAFE,
             "k 21; step 0; offset 0; challenge 0; basis: nothing; list 3: nothing;",
