@@ -176,10 +176,11 @@ pub fn with_other_answers(calls: Vec<Call>) -> impl Iterator<Item = Call> {
 #[cfg(test)]
 mod tests {
     use super::*;
-    use crate::answer::{done, Answer};
+    use crate::answer::{done, refused, Answer};
     use crate::compare::fold::FOLD;
+    use crate::compare::operation::{after_raw, Reference};
     use crate::compare::reed_solomon::{ENCODE, INTERPOLATE};
-    use crate::compare::wrong::{causes, refusing, right_library, Wrong};
+    use crate::compare::wrong::{causes, first_of_all, refusing, right_library, Wrong};
     use crate::coset::first_dependent;
     use std::collections::HashSet;
 
@@ -228,6 +229,19 @@ mod tests {
         let tried = |library: &Wrong| comparisons(library, &ENCODE, &FEW)[1].inputs;
         assert_eq!(tried(&right_library()), FEW.out_of_range.len());
         assert_eq!(tried(&refusing(4, |_, _| done())), 1);
+    }
+
+    /// A call that is refused shows it as well, without the work of a right one.
+    #[test]
+    fn the_highest_dimension_is_in_range() {
+        for operation in [&ENCODE, &INTERPOLATE, &FOLD] {
+            let highest = *operation.dimensions.end();
+            let plan = Plan::of((operation.settings)(highest)[0]).without_lists(operation);
+            let call = plan.call(&mut Random::named("highest"), operation);
+            let wrong = first_of_all(move |call| (call.k() == highest).then(|| refused(4)));
+            assert!(after_raw(&right_library(), &call) == after_raw(&Reference, &call));
+            assert!(after_raw(&wrong, &call) != after_raw(&Reference, &call));
+        }
     }
 
     /// A sum of earlier elements has two of them at least.

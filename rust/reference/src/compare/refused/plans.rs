@@ -49,7 +49,7 @@ impl Plan {
         self.with_length(list, due + 1)
     }
 
-    fn without_lists(self, operation: &Operation) -> Plan {
+    pub fn without_lists(self, operation: &Operation) -> Plan {
         operation.lists().into_iter().fold(self, |plan, list| plan.with_length(list, 0))
     }
 
