@@ -178,7 +178,7 @@ mod tests {
     use super::*;
     use crate::answer::{done, refused, Answer};
     use crate::compare::fold::FOLD;
-    use crate::compare::operation::{after_raw, Reference};
+    use crate::compare::operation::{after_raw, after_safe, Reference};
     use crate::compare::reed_solomon::{ENCODE, INTERPOLATE};
     use crate::compare::wrong::{causes, first_of_all, refusing, right_library, Wrong};
     use crate::coset::first_dependent;
@@ -207,8 +207,9 @@ mod tests {
             for sort in Sort::all(operation) {
                 for call in calls(operation, sort) {
                     let causes = causes(&call);
-                    assert_eq!(causes.first().copied(), call.refusal());
-                    let Answer { number, place, .. } = causes[0];
+                    let due = after_safe(&Reference, &call).answer;
+                    assert_eq!(causes.first(), Some(&due));
+                    let Answer { number, place, .. } = due;
                     assert!(match sort {
                         Sort::Damaged | Sort::KOut => number == 4,
                         Sort::Range(out) => number == range(out).1,
