@@ -244,8 +244,8 @@ pub fn when_refused(change: impl Fn(&Call, &mut Outputs) + 'static) -> Wrong {
     })
 }
 
-/// Leaves the numbers of a lent list as they were that are not to be kept: a place, the number there
-/// and the length decide.
+/// Leaves the numbers of a lent list as they were that are not to be kept: a place, the number
+/// there and the length decide.
 pub fn not_writing(list: usize, kept: fn(usize, u64, usize) -> bool) -> Wrong {
     alike(move |call, outputs| {
         let before = outputs.contents();

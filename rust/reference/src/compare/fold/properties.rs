@@ -72,8 +72,8 @@ fn index_of_challenge(call: &Call) -> Option<usize> {
 
 // Degrees.
 
-/// Here list 3 holds the coefficients that the word is encoded from. N × 2^step of them fold to N.
-/// Compared are the numbers of three answers, and the coefficients that are to be zero.
+/// Here list 3 holds the coefficients that the word is encoded from. N × 2^step of them fold to
+/// N. Compared are the numbers of three answers, and the coefficients that are to be zero.
 fn low_degrees(library: &dyn Library, amounts: &Turns) -> Comparison {
     let name = "the fold of a low degree has a low degree";
     compare(

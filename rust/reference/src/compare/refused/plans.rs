@@ -1,5 +1,5 @@
-//! How refused calls are made. A plan is made into a call when its turn comes, since many calls take
-//! much room.
+//! How refused calls are made. A plan is made into a call when its turn comes, since many calls
+//! take much room.
 
 use super::Amounts;
 use crate::answer::{refused, refused_at, Answer};
