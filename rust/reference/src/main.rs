@@ -18,7 +18,7 @@ fn main() -> ExitCode {
         compare::field::comparisons(&compare::field::RAZGWILH, &compare::field::FULL),
         compare::reed_solomon::comparisons(&Razgwilh, &compare::reed_solomon::FULL),
         compare::fold::comparisons(&Razgwilh, &compare::fold::FULL),
-        compare::protocol::comparisons(&compare::protocol::RAZGWILH, &compare::protocol::FULL),
+        compare::protocol::comparisons(&Razgwilh, &compare::protocol::FULL),
         transcripts.comparisons,
     ];
     let report = compare::report(&parts.concat(), &transcripts.table);

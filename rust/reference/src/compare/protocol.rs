@@ -1,354 +1,333 @@
-//! The comparisons of the prover, of the judge over lists and of the lookup of a
-//! layer.
+//! The comparisons of the prover, of the judge over lists, of the lookup of a layer, and of the
+//! numbers that say how long the lists of a run are.
 
-pub(super) mod call;
 pub(crate) mod inputs;
-mod judging;
+mod lengths;
 mod lookup;
 mod proving;
-mod refusals;
 mod table_a;
 
-use super::lent::{Lent, APART};
-use super::{compare, Comparison, Show, REFERENCE_AND_LIBRARY};
-use crate::answer::Answer;
-use crate::answer::{raw, ANSWER_LENGTH, DEGREE_TOO_HIGH};
+use super::call::*;
+use super::lent::FILLS;
+use super::operation::{raw_calls, Library, Op, Operation, Outputs, Setting};
+use super::{library, refused, Comparison, Input};
+use crate::answer::{refused_at, Answer, DEGREE_TOO_HIGH};
 use crate::parameters::Parameters;
-use crate::protocol::{self, Proved, Run};
-use call::Call;
-use inputs::known::Others;
-use inputs::refused::OutOfRange;
+use crate::protocol::{self, may_take, Proved, Run};
+use crate::random::Random;
+use crate::transcript::Judging;
+use inputs::{any_queries, damaged, known, queries, right, Turns};
 
-/// Takes the run, the store and the last coefficients.
-type Prove = fn(razgwilh::Run, &mut [u64], &mut [u64]) -> Answer;
+// The operations.
 
-/// Takes the list for the answer too.
-type ProveInto = fn(razgwilh::Run, &mut [u64], &mut [u64], &mut [u64]);
-
-/// Takes the run, the queries, the store and the last coefficients.
-type Judge = fn(razgwilh::Run, &[u64], &[u64], &[u64]) -> Answer;
-
-/// Takes the list for the answer too.
-type JudgeInto = fn(razgwilh::Run, &[u64], &[u64], &[u64], &mut [u64]);
-
-/// Takes k, rate, step, the store and the layer.
-type Layer = fn(usize, usize, usize, &[u64], usize) -> &[u64];
-
-/// Takes the list for the answer too.
-type LayerInto = fn(usize, usize, usize, &[u64], usize, &mut [u64]);
-
-/// The functions under test.
-#[derive(Clone, Copy)]
-pub struct Library {
-    pub prove: Prove,
-    pub prove_into: ProveInto,
-    pub judge: Judge,
-    pub judge_into: JudgeInto,
-    pub layer: Layer,
-    pub layer_into: LayerInto,
-}
-
-/// Those of the verified library.
-pub const RAZGWILH: Library = Library {
-    prove: razgwilh::prove,
-    prove_into: razgwilh::prove_into,
-    judge: razgwilh::judge,
-    judge_into: razgwilh::judge_into,
-    layer: razgwilh::layer,
-    layer_into: razgwilh::layer_into,
+/// What the prover and the judge have in common.
+const OVER_A_RUN: Operation = Operation {
+    name: "",
+    numbers: &[K, Rate, Step, Offset],
+    given: &[],
+    lent: &[],
+    dimensions: 2..=20,
+    settings: |k| {
+        let all = (1..=6).flat_map(|rate| (1..=3).map(move |step| [k, rate, step]));
+        all.filter(|[k, rate, step]| *k >= rate + step).collect()
+    },
+    due_length,
+    fits: |_, length, due| length == due,
+    refusal: |call| may_take(&run_of(call)).err(),
+    due: |call, outputs| write_proof(call, outputs, proof_due),
+    mended: |_| None,
+    safe: library::prove,
+    raw: library::raw_prove,
+    right: |random, setting, turn| prove_call(right::honest(random, with(setting), turn)),
+    special: |random, setting| right::special(random, with(setting)).map(prove_call).to_vec(),
+    k_out_of_range: "k out of range",
+    least_k: "rate plus step",
+    several_lists: "several lists of wrong lengths",
 };
 
-/// How many inputs of each dimension, from 0 to 9, with all the rates and steps
-/// that it takes.
-type Turns = [usize; 10];
+pub static PROVE: Operation = Operation {
+    name: "prove",
+    given: &[Basis, Challenges, Given],
+    lent: &[Store, Last],
+    ..OVER_A_RUN
+};
+
+pub static JUDGE: Operation = Operation {
+    name: "judge",
+    given: &[Basis, Challenges, Given, Store, Last, Queries],
+    due: |call, _| protocol::judge(&run_of(call), &call[Queries]),
+    mended: made_honest,
+    safe: library::judge,
+    raw: library::raw_judge,
+    right: |random, setting, turn| {
+        let run = right::honest(random, with(setting), turn);
+        let queries = any_queries(random, run.parameters, 2);
+        judge_call(Judging { run, queries })
+    },
+    special: failing_or_refused_for_queries,
+    ..OVER_A_RUN
+};
+
+fn with([k, rate, step]: Setting) -> Parameters {
+    Parameters { k, rate, step }
+}
+
+/// The length that a list must have. Where there is none, the parameters being bad, it is what the
+/// paper's formulas give for the nearest that they can be computed for.
+fn due_length(call: &Call, list: List) -> usize {
+    let Parameters { k, rate, step } = parameters_of(call);
+    let k = k.min(refused::LARGEST_OF_LISTS);
+    let nearest = Parameters { k, rate: rate.min(k), step: step.max(1) };
+    match list {
+        Basis => k as usize,
+        Challenges => nearest.rounds() as usize,
+        Given => nearest.layer_length(0),
+        Store => nearest.store_length(),
+        Last => nearest.last_count(),
+        _ => 0,
+    }
+}
+
+// Calls of runs.
+
+fn call_of(operation: Op, run: Run) -> Call {
+    let Parameters { k, rate, step } = run.parameters;
+    Call::of(operation)
+        .with_setting([k, rate, step])
+        .with(Offset, run.offset)
+        .with_list(Basis, run.basis)
+        .with_list(Challenges, run.challenges)
+        .with_list(Given, run.word)
+        .with_list(Store, run.store)
+        .with_list(Last, run.last)
+}
+
+/// The store and the last coefficients are lists to write to.
+fn prove_call(mut run: Run) -> Call {
+    run.store.fill(0);
+    run.last.fill(0);
+    call_of(&PROVE, run)
+}
+
+fn judge_call(Judging { run, queries }: Judging) -> Call {
+    call_of(&JUDGE, run).with_list(Queries, queries)
+}
+
+fn parameters_of(call: &Call) -> Parameters {
+    with([K, Rate, Step].map(|number| call[number]))
+}
+
+fn run_of(call: &Call) -> Run {
+    Run {
+        parameters: parameters_of(call),
+        offset: call[Offset],
+        basis: call[Basis].clone(),
+        challenges: call[Challenges].clone(),
+        word: call[Given].clone(),
+        store: call[Store].clone(),
+        last: call[Last].clone(),
+    }
+}
+
+/// Writes what is proved of a run whose lists are those that were lent.
+fn write_proof(call: &Call, outputs: &mut Outputs, prove: impl Fn(&Run) -> Proved) -> Answer {
+    let [store, last] = outputs.lists();
+    let lent = Run { store: store.to_vec(), last: last.to_vec(), ..run_of(call) };
+    let proved = prove(&lent);
+    store.copy_from_slice(&proved.store);
+    last.copy_from_slice(&proved.last);
+    proved.answer
+}
+
+fn proof_due(run: &Run) -> Proved {
+    let proved = protocol::prove(run);
+    match (proved.answer.number, proved.answer.place) {
+        (DEGREE_TOO_HIGH, Some(degree)) => Proved { answer: degree_too_high(degree), ..proved },
+        _ => proved,
+    }
+}
+
+/// The C interface has the degree for its value as well, where the paper has one number.
+fn degree_too_high(degree: u64) -> Answer {
+    Answer { value: Some(degree), ..refused_at(DEGREE_TOO_HIGH, degree) }
+}
+
+/// With the honest store and the honest last coefficients, if there are any.
+fn made_honest(call: &Call) -> Option<Call> {
+    let run = run_of(call);
+    may_take(&run).ok()?;
+    let Run { store, last, .. } = run.made_honest();
+    Some(call.clone().with_list(Store, store).with_list(Last, last))
+}
+
+/// What a judge alone refuses: a failing run, no query, and a query out of range.
+fn failing_or_refused_for_queries(random: &mut Random, setting: Setting) -> Vec<Call> {
+    let honest = (JUDGE.right)(random, setting, 0);
+    let mut failing = honest.clone();
+    failing[Last][0] ^= 1;
+    let outside = honest.clone().with_list(Queries, vec![0, 1 << setting[0]]);
+    vec![failing, outside, honest.with_list(Queries, Vec::new())]
+}
+
+/// Judgings to try in place of this one, all with lists of the right lengths.
+pub(crate) fn simpler(judging: &Judging) -> Vec<Judging> {
+    let fits = |call: &Call| {
+        let mut lists = JUDGE.lists().into_iter();
+        parameters_of(call).may_use().is_ok() && lists.all(|list| call.fits(list))
+    };
+    let judging_of = |call: Call| Judging { run: run_of(&call), queries: call[Queries].clone() };
+    let simpler = judge_call(judging.clone()).simpler().into_iter();
+    simpler.filter(fits).map(judging_of).collect()
+}
+
+// The comparisons.
 
 /// How many inputs the comparisons take.
 pub struct Amounts {
-    /// Proofs of any words.
-    pub any_words: Turns,
+    /// Runs of each sort, or a multiple of so many.
+    pub turns: Turns,
     /// The largest dimension with words of every degree.
     pub all_degrees: u64,
     /// Words of degrees near the bounds.
     pub near_bounds: Turns,
-    pub exceptional: Turns,
     /// Larger dimensions, each with every step.
     pub whole: &'static [u64],
     /// Runs that are too large for the reference to prove.
-    pub known: &'static [(Parameters, Others)],
-    /// Judgings of honest runs.
-    pub honest: Turns,
-    /// The largest dimension of runs with each entry damaged, in which each
-    /// query is judged alone, and all are judged together.
+    pub known: &'static [Setting],
+    /// The largest dimension of runs with each entry damaged, in which each query is judged alone,
+    /// and all are judged together.
     pub each_damaged: [u64; 2],
-    /// Runs with some entries damaged.
-    pub damaged: Turns,
-    /// The same for larger parameters.
-    pub large_damaged: (&'static [Parameters], usize),
-    pub other_challenges: Turns,
-    pub high_degrees: Turns,
+    /// Large runs with some entries damaged, and how often each.
+    pub large_damaged: (&'static [Setting], usize),
+    /// Runs with each of many query lists.
     pub queries: Turns,
-    pub out_of_range: &'static [OutOfRange],
-    /// The dimensions of calls with wrong parameters or with wrong lists.
-    pub wrong: &'static [u64],
-    /// How often each choice of several wrong lists.
-    pub several_lists: usize,
-    /// The largest dimension of calls with a dependent basis.
-    pub largest_dependent: usize,
-    /// How often each choice of causes.
-    pub several_causes: usize,
-    /// How many safe calls of every sort.
-    pub safe_calls: usize,
     /// The largest dimension with every lookup, and the largest with some.
     pub lookups: [u64; 2],
-    /// What the library proves it must accept.
-    pub accepted: Turns,
+    /// The largest number that stands for each of the parameters.
+    pub lengths: u64,
     /// How many of the smallest challenges and of random ones in case J.
     pub challenges: usize,
+    pub refused: refused::Amounts,
 }
 
-/// The amounts that the program takes. All sorts of runs come up within 420 turns.
+/// The amounts that the program takes. All sorts of any words come up within 420 turns.
 pub const FULL: Amounts = Amounts {
-    any_words: [0, 0, 420, 168, 84, 42, 21, 12, 7, 5],
+    turns: [0, 0, 84, 42, 21, 12, 7, 4, 2, 1],
     all_degrees: 5,
     near_bounds: [0, 0, 8, 8, 4, 2, 2, 1, 1, 1],
-    exceptional: [0, 0, 84, 42, 21, 12, 7, 4, 2, 1],
     whole: &[10, 11, 12, 13, 14, 15],
-    known: &[
-        (with(16, 3, 1), Others::Any),
-        (with(17, 2, 3), Others::Any),
-        (with(18, 1, 1), Others::Multiples),
-        (with(19, 5, 2), Others::Any),
-        (with(20, 6, 3), Others::Multiples),
-    ],
-    honest: [0, 0, 168, 84, 42, 21, 12, 7, 4, 2],
+    known: LARGE.split_at(6).1,
     each_damaged: [5, 6],
-    damaged: [0, 0, 84, 42, 21, 12, 7, 4, 2, 1],
-    large_damaged: (
-        &[
-            with(10, 3, 1),
-            with(11, 1, 2),
-            with(12, 6, 3),
-            with(13, 2, 1),
-            with(14, 4, 2),
-            with(15, 1, 3),
-            with(16, 1, 1),
-            with(17, 5, 2),
-            with(18, 3, 3),
-            with(20, 1, 1),
-            with(20, 6, 3),
-        ],
-        16,
-    ),
-    other_challenges: [0, 0, 42, 42, 21, 12, 7, 4, 1, 1],
-    high_degrees: [0, 0, 42, 42, 21, 12, 7, 4, 1, 1],
+    large_damaged: (LARGE, 16),
     queries: [0, 0, 2, 2, 1, 1, 0, 0, 1, 0],
-    out_of_range: &[
-        (1, 2),
-        (0, 2),
-        (21, 21),
-        (22, 6),
-        (24, 8),
-        (31, 15),
-        (32, 2),
-        (32 + 5, 5),
-        (63, 15),
-        (64, 2),
-        (64 + 5, 5),
-        (128 + 5, 5),
-        (256 + 5, 5),
-        ((1 << 16) + 5, 5),
-        ((1 << 32) + 5, 5),
-        (1 << 63, 2),
-        ((1 << 63) + 5, 5),
-        (u64::MAX - 1, 14),
-        (u64::MAX, 15),
-    ],
-    wrong: &[2, 3, 4, 5, 6, 7, 8, 9, 12],
-    several_lists: 4,
-    largest_dependent: 10,
-    several_causes: 2,
-    safe_calls: 14,
     lookups: [10, 20],
-    accepted: [0, 0, 84, 42, 12, 7, 4, 2, 1, 1],
+    lengths: 40,
     challenges: 1_000,
+    refused: refused::Amounts {
+        out_of_range: &[1, 0, 21, 22, 24, 31, 32, 37, 63, 64, 69, 133, 261, 1 << 63],
+        dimensions: &[2, 3, 4, 5, 6, 7, 8, 9, 12],
+        too_small: 5,
+        several_lists: 4,
+        largest_dependent: 10,
+        several_causes: 2,
+        every_sort: (&[2, 3, 4], 14),
+    },
 };
 
-const fn with(k: u64, rate: u64, step: u64) -> Parameters {
-    Parameters { k, rate, step }
-}
+const LARGE: &[Setting] = &[
+    [10, 3, 1],
+    [11, 1, 2],
+    [12, 6, 3],
+    [13, 2, 1],
+    [14, 4, 2],
+    [15, 1, 3],
+    [16, 1, 1],
+    [17, 5, 2],
+    [18, 3, 3],
+    [19, 5, 2],
+    [20, 1, 1],
+    [20, 6, 3],
+];
 
 /// Runs all comparisons of this file and of those under it.
-pub fn comparisons(library: &Library, amounts: &Amounts) -> Vec<Comparison> {
+pub fn comparisons(library: &dyn Library, amounts: &Amounts) -> Vec<Comparison> {
     [
+        proofs(library, amounts),
         proving::comparisons(library, amounts),
-        judging::comparisons(library, amounts),
-        refusals::comparisons(library, amounts),
-        lookup::comparisons(library, amounts),
-        table_a::comparisons(library, amounts),
+        judgings(library, amounts),
+        refused::comparisons(library, &PROVE, &amounts.refused),
+        refused::comparisons(library, &JUDGE, &amounts.refused),
+        lookup::comparisons(library, amounts.lookups),
+        lengths::comparisons(library, amounts.lengths),
+        table_a::comparisons(library, amounts.challenges),
     ]
     .concat()
 }
 
-// Proofs, against the reference.
-
-/// The store and the last coefficients, with the numbers around them.
-#[derive(PartialEq)]
-struct Output {
-    store: Lent,
-    last: Lent,
-}
-
-impl Output {
-    fn lent(call: &Call) -> Output {
-        Output {
-            store: Lent::filled(call.run.store.len(), call.fill),
-            last: Lent::filled(call.run.last.len(), call.fill + APART),
-        }
-    }
-
-    fn lists(&mut self) -> (&mut [u64], &mut [u64]) {
-        (self.store.list(), self.last.list())
-    }
-}
-
-impl Show for Output {
-    fn show(&self) -> String {
-        let (store, last) = (self.store.show(), self.last.show());
-        format!("store: {store}; last: {last}")
-    }
-}
-
-/// An answer, as a list of numbers or as a value, and the lists that a prover
-/// writes to.
-#[derive(PartialEq)]
-struct Outcome<A> {
-    answer: A,
-    output: Output,
-}
-
-impl<A: Show> Show for Outcome<A> {
-    fn show(&self) -> String {
-        let (answer, output) = (self.answer.show(), self.output.show());
-        format!("answer: {answer}; {output}")
-    }
-}
-
-fn lent_answer(call: &Call) -> Lent {
-    Lent::filled(call.answer, call.fill + 2 * APART)
-}
-
-/// Lends the lists, has them written to, and gives all of them.
-fn after_proof(call: &Call, write: impl FnOnce(&mut Lent, &mut Output)) -> Outcome<Lent> {
-    let mut answer = lent_answer(call);
-    let mut output = Output::lent(call);
-    write(&mut answer, &mut output);
-    Outcome { answer, output }
-}
-
-/// An answer of another length than five leaves all lists alone.
-fn proof_of_reference(call: &Call) -> Outcome<Lent> {
-    after_proof(call, |answer, output| {
-        if call.answer == ANSWER_LENGTH {
-            let given = write_proof(call, output);
-            answer.list().copy_from_slice(&raw(&given));
-        }
-    })
-}
-
-/// Writes what is due and gives the answer that is due.
-fn write_proof(call: &Call, output: &mut Output) -> Answer {
-    let (store, last) = output.lists();
-    let lent = Run { store: store.to_vec(), last: last.to_vec(), ..call.run.clone() };
-    let due = protocol::prove(&lent);
-    store.copy_from_slice(&due.store);
-    last.copy_from_slice(&due.last);
-    answer_of(&due)
-}
-
-/// The C interface has the degree that is too high for its value as well, where
-/// the paper has one number.
-fn answer_of(proved: &Proved) -> Answer {
-    let answer = proved.answer;
-    match answer.number {
-        DEGREE_TOO_HIGH => Answer { value: answer.place, ..answer },
-        _ => answer,
-    }
-}
-
-fn proof_of_library(call: &Call, prove_into: ProveInto) -> Outcome<Lent> {
-    after_proof(call, |answer, output| {
-        let (store, last) = output.lists();
-        prove_into(call.given(), store, last, answer.list())
-    })
-}
-
-fn proofs(
-    library: &Library,
+/// Compares the calls of all inputs, the fills in turn.
+fn compared<I, Inputs: IntoIterator<Item = I>>(
+    library: &dyn Library,
     name: &'static str,
-    inputs: impl IntoIterator<Item = Call>,
+    call: fn(I) -> Call,
+    inputs: impl FnOnce(Random) -> Inputs,
 ) -> Comparison {
-    compare(name, inputs, REFERENCE_AND_LIBRARY, proof_of_reference, |call| {
-        proof_of_library(call, library.prove_into)
-    })
+    let inputs = inputs(Random::named(name)).into_iter();
+    let calls = inputs.zip(FILLS.into_iter().cycle());
+    raw_calls(library, name, calls.map(|(input, fill)| call(input).with_fill(fill)))
 }
 
-// Proofs that give the answer as a value.
-
-fn safe_proof(call: &Call, write: impl FnOnce(&mut Output) -> Answer) -> Outcome<Answer> {
-    let mut output = Output::lent(call);
-    let answer = write(&mut output);
-    Outcome { answer, output }
+fn proofs(library: &dyn Library, amounts: &Amounts) -> Vec<Comparison> {
+    let any_words = amounts.turns.map(|turns| 5 * turns);
+    let proofs = |name, inputs: &dyn Fn(&mut Random) -> Vec<Run>| {
+        compared(library, name, prove_call, |mut random| inputs(&mut random))
+    };
+    vec![
+        proofs("prove, any words", &|random| right::any_words(random, &any_words)),
+        proofs("prove, words of every degree", &|random| {
+            right::all_degrees(random, amounts.all_degrees)
+        }),
+        proofs("prove, degrees near the bounds", &|random| {
+            right::near_bounds(random, &amounts.near_bounds)
+        }),
+        proofs("prove, exceptional challenges", &|random| {
+            known::exceptional(random, &amounts.turns)
+        }),
+        proofs("prove, k 10 to 15", &|random| right::large(random, amounts.whole)),
+    ]
 }
 
-fn safe_proof_of_library(call: &Call, prove: Prove) -> Outcome<Answer> {
-    safe_proof(call, |output| {
-        let (store, last) = output.lists();
-        prove(call.given(), store, last)
-    })
+fn judgings(library: &dyn Library, amounts: &Amounts) -> Vec<Comparison> {
+    let Amounts { turns, queries, .. } = amounts;
+    let honest = turns.map(|turns| 2 * turns);
+    let (large, times) = amounts.large_damaged;
+    let large: Vec<Parameters> = large.iter().copied().map(with).collect();
+    let judgings = |name, inputs: &dyn Fn(&mut Random) -> Vec<Judging>| {
+        compared(library, name, judge_call, |mut random| inputs(&mut random))
+    };
+    vec![
+        judgings("judge, honest runs", &|random| right::honest_with_queries(random, &honest)),
+        judgings("judge, honest folds of too high a degree", &|random| {
+            right::of_high_degrees(random, turns)
+        }),
+        judgings("judge, some entries damaged, k 2 to 9", &|random| damaged::some(random, turns)),
+        judgings("judge, another challenge", &|random| damaged::other_challenges(random, turns)),
+        judgings("judge, counts of queries", &|random| queries::of_all_counts(random, queries)),
+        judgings("judge, repeated queries", &|random| queries::repeated(random, queries)),
+        judgings("judge, a query out of range", &|random| queries::out_of_range(random, queries)),
+        judgings("judge, several queries out of range", &|random| {
+            queries::several_out_of_range(random, queries)
+        }),
+        compared(library, "judge, each entry damaged, each query alone", judge_call, |random| {
+            damaged::with_each_query(random, amounts.each_damaged[0])
+        }),
+        compared(library, "judge, each entry damaged, all queries", judge_call, |random| {
+            damaged::with_all_queries(random, amounts.each_damaged[1])
+        }),
+        compared(library, "judge, some entries damaged, k 10 to 20", judge_call, |random| {
+            damaged::some_of_large(random, &large, times)
+        }),
+    ]
 }
 
-// Judgings, against the reference.
-
-fn after_judging(call: &Call, write: impl FnOnce(&mut Lent)) -> Lent {
-    let mut answer = lent_answer(call);
-    write(&mut answer);
-    answer
-}
-
-fn judging_of_reference(call: &Call) -> Lent {
-    after_judging(call, |answer| {
-        if call.answer == ANSWER_LENGTH {
-            answer.list().copy_from_slice(&raw(&verdict_due(call)));
-        }
-    })
-}
-
-fn verdict_due(call: &Call) -> Answer {
-    protocol::judge(&call.run, &call.queries)
-}
-
-fn judging_of_library(call: &Call, judge_into: JudgeInto) -> Lent {
-    let Call { run, queries, .. } = call;
-    after_judging(call, |answer| {
-        judge_into(call.given(), queries, &run.store, &run.last, answer.list())
-    })
-}
-
-fn verdict_of_library(call: &Call, judge: Judge) -> Answer {
-    let Call { run, queries, .. } = call;
-    judge(call.given(), queries, &run.store, &run.last)
-}
-
-fn judgings(
-    library: &Library,
-    name: &'static str,
-    inputs: impl IntoIterator<Item = Call>,
-) -> Comparison {
-    compare(name, inputs, REFERENCE_AND_LIBRARY, judging_of_reference, |call| {
-        judging_of_library(call, library.judge_into)
-    })
-}
-
-/// Each comparison is shown to fail for a library that is wrong.
 #[cfg(test)]
 mod tests;

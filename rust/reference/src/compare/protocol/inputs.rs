@@ -1,37 +1,15 @@
-//! The calls that are compared: of right runs and of damaged ones, and what is
-//! refused before any round.
+//! The runs that are proved and judged: right ones, damaged ones, and their queries.
 
 pub mod damaged;
 pub mod known;
 pub mod queries;
-pub mod refused;
 pub mod right;
 
-use super::call::{Call, List, LARGEST_K};
-use crate::answer::ANSWER_LENGTH;
-use crate::compare::lent::FILLS;
 use crate::parameters::{all_up_to, Parameters};
-use crate::protocol::Run;
 use crate::random::Random;
 
-/// The call of a run, with no query.
-pub fn call_of(random: &mut Random, run: Run) -> Call {
-    Call { run, queries: Vec::new(), answer: ANSWER_LENGTH, fill: FILLS[random.below(2)] }
-}
-
-/// A run over a coset and with challenges, the rest of which is zeros.
-pub fn zero_run(parameters: Parameters, offset: u64, basis: Vec<u64>, challenges: Vec<u64>) -> Run {
-    let zeros = |list: List| vec![0; list.right_length(parameters)];
-    Run {
-        parameters,
-        offset,
-        basis,
-        challenges,
-        word: zeros(List::Word),
-        store: zeros(List::Store),
-        last: zeros(List::Last),
-    }
-}
+/// How many inputs of each dimension, from 0 on, with all the rates and steps that it takes.
+pub type Turns = [usize; 10];
 
 /// All parameters that there are turns for, with the number of each turn.
 fn turns(amounts: &[usize]) -> impl Iterator<Item = (Parameters, usize)> + '_ {
@@ -39,13 +17,6 @@ fn turns(amounts: &[usize]) -> impl Iterator<Item = (Parameters, usize)> + '_ {
         (0..amounts[parameters.k as usize]).map(move |turn| (parameters, turn))
     };
     all_up_to(amounts.len() as u64 - 1).into_iter().flat_map(of)
-}
-
-/// All parameters of these dimensions.
-fn of_dimensions(dimensions: &[u64]) -> Vec<Parameters> {
-    let mut all = all_up_to(LARGEST_K);
-    all.retain(|parameters| dimensions.contains(&parameters.k));
-    all
 }
 
 /// Any query of a run.

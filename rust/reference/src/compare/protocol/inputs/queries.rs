@@ -1,29 +1,28 @@
-//! Honest runs with query lists of all sorts: of every count that is near a bound,
-//! with repeated queries, and with queries out of range.
+//! Honest runs with query lists of all sorts: of every count that is near a bound, with repeated
+//! queries, and with queries out of range.
 
-use super::{any_queries, any_query, call_of, right, turns};
-use crate::compare::protocol::call::Call;
+use super::{any_queries, any_query, right, turns};
 use crate::parameters::Parameters;
 use crate::protocol::QUERY_COUNTS;
 use crate::random::Random;
+use crate::transcript::Judging;
 
 /// Counts that a judge takes, and counts that it does not.
 const COUNTS: [usize; 9] = [0, 1, 2, 255, 256, 257, 258, 512, 1_024];
 
 /// Each count, with any queries in range, and with one query over and over.
-pub fn of_all_counts(random: &mut Random, amounts: &[usize]) -> Vec<Call> {
+pub fn of_all_counts(random: &mut Random, amounts: &[usize]) -> Vec<Judging> {
     with_lists(random, amounts, |random, parameters| {
-        let mut lists = Vec::new();
-        for count in COUNTS {
-            lists.push(any_queries(random, parameters, count));
-            lists.push(vec![any_query(random, parameters); count]);
-        }
-        lists
+        let of_count = |count| {
+            let one = any_query(random, parameters);
+            [any_queries(random, parameters, count), vec![one; count]]
+        };
+        COUNTS.into_iter().flat_map(of_count).collect()
     })
 }
 
 /// Queries that are given again, and queries of one coset of each layer.
-pub fn repeated(random: &mut Random, amounts: &[usize]) -> Vec<Call> {
+pub fn repeated(random: &mut Random, amounts: &[usize]) -> Vec<Judging> {
     with_lists(random, amounts, |random, parameters| {
         let [one, other] = [0, 1].map(|_| any_query(random, parameters));
         let mut lists =
@@ -37,13 +36,12 @@ pub fn repeated(random: &mut Random, amounts: &[usize]) -> Vec<Call> {
     })
 }
 
-/// Lists of up to eight queries, and the longest, with one out of range at each of
-/// their places, or at the last few.
-pub fn out_of_range(random: &mut Random, amounts: &[usize]) -> Vec<Call> {
+/// Lists of up to eight queries, and the longest, with one out of range at each of their places, or
+/// at the last few.
+pub fn out_of_range(random: &mut Random, amounts: &[usize]) -> Vec<Judging> {
     with_lists(random, amounts, |random, parameters| {
         let mut lists = Vec::new();
-        let most = *QUERY_COUNTS.end();
-        for count in (1..=8).chain([most]) {
+        for count in (1..=8).chain([*QUERY_COUNTS.end()]) {
             for place in count.saturating_sub(8)..count {
                 for query in queries_out_of_range(parameters) {
                     let mut list = any_queries(random, parameters, count);
@@ -62,82 +60,38 @@ fn queries_out_of_range(parameters: Parameters) -> [u64; 8] {
     [all, all + 1, 2 * all - 1, 2 * all, 1 << 32, 1 << 63, u64::MAX - 1, u64::MAX]
 }
 
-/// Two queries out of range, the first of which is to be named, and as many as are
-/// refused for their count, which comes first.
-pub fn several_out_of_range(random: &mut Random, amounts: &[usize]) -> Vec<Call> {
+/// Two queries out of range, the first of which is to be named, and as many as are refused for
+/// their count, which comes first.
+pub fn several_out_of_range(random: &mut Random, amounts: &[usize]) -> Vec<Judging> {
     with_lists(random, amounts, |random, parameters| {
-        let mut lists = Vec::new();
-        for count in [2, 3, 5, *QUERY_COUNTS.end(), QUERY_COUNTS.end() + 1] {
+        let outside = queries_out_of_range(parameters);
+        let of_count = |count| {
             let mut list = any_queries(random, parameters, count);
-            let outside = queries_out_of_range(parameters);
             for _ in 0..2 {
                 list[random.below(count)] = outside[random.below(outside.len())];
             }
-            lists.push(list);
-        }
-        lists
+            list
+        };
+        [2, 3, 5, *QUERY_COUNTS.end(), QUERY_COUNTS.end() + 1].map(of_count).to_vec()
     })
 }
 
-/// Honest runs with each of the lists, and one run with a last coefficient made
-/// wrong, so that all queries fail.
+/// Honest runs with each of the lists, and the same with a last coefficient made wrong, so that all
+/// queries fail.
 fn with_lists(
     random: &mut Random,
     amounts: &[usize],
     lists: impl Fn(&mut Random, Parameters) -> Vec<Vec<u64>>,
-) -> Vec<Call> {
-    let mut calls = Vec::new();
+) -> Vec<Judging> {
+    let mut all = Vec::new();
     for (parameters, turn) in turns(amounts) {
         let honest = right::honest(random, parameters, turn);
-        let honest = call_of(random, honest);
         let mut failing = honest.clone();
-        failing.run.last[0] ^= 1;
-        for list in lists(random, parameters) {
-            calls.push(honest.with_queries(list.clone()));
-            calls.push(failing.with_queries(list));
+        failing.last[0] ^= 1;
+        for queries in lists(random, parameters) {
+            let runs = [&honest, &failing].map(Clone::clone);
+            all.extend(runs.map(|run| Judging { run, queries: queries.clone() }));
         }
     }
-    calls
-}
-
-#[cfg(test)]
-mod tests {
-    use super::*;
-    use crate::protocol::judge;
-    use std::collections::HashSet;
-
-    const FEW: [usize; 4] = [0, 0, 1, 1];
-
-    fn random() -> Random {
-        Random::named("queries")
-    }
-
-    fn numbers(calls: &[Call]) -> HashSet<u64> {
-        let number = |call: &Call| judge(&call.run, &call.queries).number;
-        calls.iter().map(number).collect()
-    }
-
-    #[test]
-    fn counts_in_and_out_of_range_are_met() {
-        let calls = of_all_counts(&mut random(), &FEW);
-        assert_eq!(calls.len(), 4 * COUNTS.len() * 4);
-        assert_eq!(numbers(&calls), HashSet::from([0, 9, 11]));
-        assert_eq!(numbers(&repeated(&mut random(), &FEW)), HashSet::from([0, 11]));
-    }
-
-    #[test]
-    fn each_place_is_out_of_range() {
-        let calls = out_of_range(&mut random(), &FEW);
-        assert_eq!(numbers(&calls), HashSet::from([10]));
-        let places: HashSet<Option<u64>> =
-            calls.iter().map(|call| judge(&call.run, &call.queries).place).collect();
-        let due = (0..8).chain(248..256).map(Some);
-        assert_eq!(places, due.collect());
-    }
-
-    #[test]
-    fn several_are_out_of_range() {
-        let calls = several_out_of_range(&mut random(), &FEW);
-        assert_eq!(numbers(&calls), HashSet::from([9, 10]));
-    }
+    all
 }

@@ -1,16 +1,11 @@
 //! Wrong judges.
 
-mod queries;
-mod reads;
-
 use super::*;
-use crate::answer::{accepted, failed, refused};
-use crate::compare::wrong::{changed, write_what_fits};
-
-// The comparisons that a mistake of one sort shows in.
+use crate::answer::{accepted, failed, refused, refused_at};
+use std::collections::BTreeSet;
 
 const HONEST: &str = "judge, honest runs";
-const HIGH_DEGREES: &str = "judge, honest folds of too high a degree";
+const DEGREES: &str = "judge, honest folds of too high a degree";
 const EACH_ALONE: &str = "judge, each entry damaged, each query alone";
 const EACH: &str = "judge, each entry damaged, all queries";
 const SOME: &str = "judge, some entries damaged, k 2 to 9";
@@ -18,8 +13,8 @@ const LARGE: &str = "judge, some entries damaged, k 10 to 20";
 const CHALLENGES: &str = "judge, another challenge";
 const COUNTS: &str = "judge, counts of queries";
 const REPEATED: &str = "judge, repeated queries";
-const OUTSIDE: &str = "judge, a query out of range";
-const SEVERAL_OUTSIDE: &str = "judge, several queries out of range";
+const ONE_OUT: &str = "judge, a query out of range";
+const SOME_OUT: &str = "judge, several queries out of range";
 const SEVERAL: &str = "judge, several causes";
 const OTHER_ANSWER: &str = "judge with an answer list of another length";
 const SAFE: &str = "judge, safe calls";
@@ -30,325 +25,271 @@ const CASE_L: &str = "case L of table A";
 const CASE_O: &str = "case O of table A, judged";
 const CASE_P: &str = "case P of table A";
 
+/// All in which something that was sent is damaged.
+const DAMAGED: [&str; 5] = [EACH_ALONE, EACH, SOME, LARGE, CHALLENGES];
+
 /// All in which some query fails.
 const FAILING: [&str; 9] =
-    [HIGH_DEGREES, EACH_ALONE, EACH, SOME, LARGE, CHALLENGES, COUNTS, REPEATED, SAFE];
+    [DEGREES, EACH_ALONE, EACH, SOME, LARGE, CHALLENGES, COUNTS, REPEATED, SAFE];
 
-/// All comparisons of the prover and of the lookup alone.
-fn of_others() -> Vec<&'static str> {
-    let of_others = |name: &&str| name.starts_with("prove") || name.starts_with("layer");
-    names().into_iter().filter(of_others).collect()
+/// All in which the folds of several rounds count.
+const FOLDED: [&str; 4] = [HONEST, DEGREES, ACCEPTED, SAFE];
+
+/// All in which a query is out of range.
+const OUT_OF_RANGE: [&str; 3] = [ONE_OUT, SOME_OUT, SAFE];
+
+pub const OTHERS: Others = Others {
+    right: &[
+        HONEST, DEGREES, EACH_ALONE, EACH, SOME, LARGE, CHALLENGES, COUNTS, REPEATED, ONE_OUT,
+        SOME_OUT,
+    ],
+    safely: &[CASES_G_TO_I, CASE_K, CASE_L, CASE_P, ACCEPTED],
+    dependent: &[],
+    unsaid: &[SEVERAL, CASE_O],
+};
+
+pub fn rows() -> Vec<Row<Wrong>> {
+    [in_all(), checks(), stops(), queries(), reads()].into_iter().flatten().collect()
 }
 
-/// All of these differ, and no comparison of the prover or of the lookup does.
-#[track_caller]
-fn assert_shown(library: &Library, differ: &[&[&str]], agree: &[&str]) {
-    let agree = [&of_others()[..], agree].concat();
-    assert_among(library, &differ.concat(), &agree);
+/// Makes another verdict of the run, the queries and the right verdict, if that has one of these
+/// numbers.
+fn judge(
+    what: &'static str,
+    numbers: &'static [u64],
+    verdict: impl Fn(&Run, &[u64], Answer) -> Answer + 'static,
+) -> Row<Wrong> {
+    let behaviour = move |call: &Call, outputs: &mut Outputs| match (JUDGE.due)(call, outputs) {
+        right if numbers.contains(&right.number) => verdict(&run_of(call), &call[Queries], right),
+        right => right,
+    };
+    row(what, alike(behaviour).of(&JUDGE))
 }
 
-// Judges that are wrong in all.
+/// The numbers of a run that was judged.
+const JUDGED: &[u64] = &[0, 11];
 
-pub(super) const TURNING_ALL_AWAY: Library = with_judge!(|_, _, _, _| refused(4));
-
-pub(super) const TAKING_ALL: Library = with_judge!(|given, queries, store, last| {
-    let answer = right_judge(given, queries, store, last);
-    match answer.number {
-        0 | 11 => answer,
-        _ => accepted(0),
-    }
-});
-
-#[test]
-fn all_are_turned_away() {
-    let due = [HONEST, OUTSIDE, SEVERAL_OUTSIDE, ACCEPTED];
-    let cases = [CASES_G_TO_I, CASE_K, CASE_L, CASE_O, CASE_P];
-    assert_shown(&TURNING_ALL_AWAY, &[&FAILING, &due, &cases], &[OTHER_ANSWER]);
-}
-
-#[test]
-fn nothing_is_refused_before_a_round() {
-    let due = [COUNTS, OUTSIDE, SEVERAL_OUTSIDE, SEVERAL, SAFE, CASE_O, CASE_P];
-    assert_shown(&TAKING_ALL, &[&due], &[HONEST, EACH, CASE_L]);
+fn in_all() -> Vec<Row<Wrong>> {
+    vec![
+        judge("all are turned away", ALL, |_, _, _| refused(4))
+            .differs(&FAILING)
+            .differs(&[HONEST, ONE_OUT, SOME_OUT, ACCEPTED])
+            .differs(&[CASES_G_TO_I, CASE_K, CASE_L, CASE_O, CASE_P])
+            .agrees(&[OTHER_ANSWER]),
+        judge("nothing is refused before a round", BEFORE_WORK, |_, _, _| accepted(0))
+            .differs(&[COUNTS, ONE_OUT, SOME_OUT, SEVERAL, SAFE, CASE_O, CASE_P])
+            .agrees(&[HONEST, EACH, CASE_L]),
+        judge("only the constant of the last polynomial counts", JUDGED, |run, queries, _| {
+            let mut constant = run.clone();
+            constant.last[1..].fill(0);
+            protocol::judge(&constant, queries)
+        })
+        .differs(&[HONEST, SOME, ACCEPTED, SAFE, CASE_O])
+        // The least parameters with two last coefficients.
+        .smallest(HONEST, "k 4; rate 1; step 2; "),
+        judge("the top bit of an entry is lost", JUDGED, |run, queries, _| {
+            let word = run.word.iter().map(|entry| entry & (u64::MAX >> 1)).collect();
+            protocol::judge(&Run { word, ..run.clone() }, queries)
+        })
+        .differs(&DAMAGED)
+        .differs(&FOLDED)
+        .agrees(&[CASES_G_TO_I, CASE_K, CASE_L]),
+    ]
 }
 
 // Rounds that are checked wrongly.
 
-fn entries(parameters: Parameters, cosets: u64) -> u64 {
-    cosets << parameters.step
+/// All checks that do not hold, by the place of the query and the round. A check is given the query
+/// and the round.
+fn failing(run: &Run, queries: &[u64], holds: impl Fn(u64, u64) -> bool) -> Vec<(u64, u64)> {
+    let rounds = 0..run.parameters.rounds();
+    let with_rounds = |(place, &query)| rounds.clone().map(move |round| (place, query, round));
+    let checks = (0..).zip(queries).flat_map(with_rounds);
+    let failing = checks.filter(|&(_, query, round)| !holds(query, round));
+    failing.map(|(place, _, round)| (place, round)).collect()
 }
 
-/// The paper's formula for a failing check.
-fn reads_if_failing(parameters: Parameters, query: u64, round: u64) -> u64 {
-    let r = parameters.rounds();
-    entries(parameters, query * r + r.min(round + 2))
-}
-
-/// Judges with other round checks, if the run may be judged.
-fn with_checks(
-    given: razgwilh::Run,
-    queries: &[u64],
-    store: &[u64],
-    last: &[u64],
-    holds: impl Fn(&Run, u64, u64) -> bool,
-) -> Answer {
-    let run = run_of(given, store, last);
-    if protocol::may_judge(&run, queries).is_err() {
-        return right_judge(given, queries, store, last);
+/// The verdict that fails at a check, or accepts, with the paper's formulas for the reads.
+fn failing_at(run: &Run, queries: &[u64], check: Option<(u64, u64)>) -> Answer {
+    let r = run.parameters.rounds();
+    let entries = |cosets: u64| cosets << run.parameters.step;
+    match check {
+        Some((query, round)) => failed(query, round, entries(query * r + r.min(round + 2))),
+        None => accepted(entries(queries.len() as u64 * r)),
     }
-    let Run { parameters, .. } = run;
-    for (place, &query) in (0..).zip(queries) {
-        let mut rounds = 0..parameters.rounds();
-        if let Some(round) = rounds.find(|&round| !holds(&run, query, round)) {
-            return failed(place, round, reads_if_failing(parameters, place, round));
-        }
+}
+
+fn holds(folding: Folding, run: &Run, query: u64, round: u64) -> bool {
+    let layer = |i| {
+        let part = run.parameters.layer_of_store(run.store.len(), i);
+        part.map_or(&run.word[..], |part| &run.store[part])
+    };
+    let used = run.parameters.coset_used(query, round) as usize;
+    let found = folding.entry(run, round as usize, layer(round), used);
+    if !is_last(run, round) {
+        return found == layer(round + 1)[used];
     }
-    accepted(entries(parameters, queries.len() as u64 * parameters.rounds()))
+    let Coset { offset, basis } = &(folding.cosets)(run)[round as usize + 1];
+    found == value(&run.last, point(*offset, basis, used as u64))
 }
 
-/// Whether a round check holds over these cosets.
-fn holds_over(cosets: &[Coset], pairing: Pairing, run: &Run, query: u64, round: u64) -> bool {
-    let Run { parameters, .. } = *run;
-    let layer = layer_of(run, round);
-    let used = parameters.coset_used(query, round) as usize;
-    let indices = pairing.indices(parameters.step, layer.len(), used);
-    let challenge = run.challenges[round as usize];
-    let found = fold_at(&cosets[round as usize], layer, &indices, challenge);
-    found == due_over(cosets, run, used, round)
+fn is_last(run: &Run, round: u64) -> bool {
+    round + 1 == run.parameters.rounds()
 }
 
-fn due_over(cosets: &[Coset], run: &Run, index: usize, round: u64) -> u64 {
-    if round + 1 < run.parameters.rounds() {
-        return layer_of(run, round + 1)[index];
-    }
-    let Coset { offset, basis } = &cosets[round as usize + 1];
-    value(&run.last, point(*offset, basis, index as u64))
+/// Judges with other folds, and passes over some rounds.
+fn checking(what: &'static str, folding: Folding, passes: fn(&Run, u64) -> bool) -> Row<Wrong> {
+    judge(what, JUDGED, move |run, queries, _| {
+        let holds = |query, round| passes(run, round) || holds(folding, run, query, round);
+        failing_at(run, queries, failing(run, queries, holds).first().copied())
+    })
 }
 
-fn layer_of(run: &Run, i: u64) -> &[u64] {
-    let part = run.parameters.layer_of_store(run.store.len(), i);
-    part.map_or(&run.word, |part| &run.store[part])
-}
-
-fn holds(run: &Run, query: u64, round: u64) -> bool {
-    let cosets = protocol::cosets(run);
-    holds_over(&cosets, Pairing::Neighbours, run, query, round)
-}
-
-#[test]
-fn the_checks_of_these_tests_are_right() {
-    assert_differing(
-        &with_judge!(|given, queries, store, last| {
-            with_checks(given, queries, store, last, holds)
-        }),
-        &[],
-    );
-}
-
-#[test]
-fn every_run_is_accepted() {
-    let wrong = with_judge!(|given, queries, store, last| {
-        with_checks(given, queries, store, last, |_, _, _| true)
-    });
-    assert_shown(&wrong, &[&FAILING, &[CASES_G_TO_I, CASE_L]], &[HONEST, ACCEPTED]);
-    let start = "k 2; rate 1; step 1; offset 0; basis 1, 2; challenges 0; word 0 (4 times); \
-                 store nothing; last 1; queries 0; ";
-    assert_smallest(&wrong, EACH, start);
-}
-
-#[test]
-fn only_the_last_round_is_checked() {
-    let wrong = with_judge!(|given, queries, store, last| {
-        with_checks(given, queries, store, last, |run, query, round| {
-            round + 1 < run.parameters.rounds() || holds(run, query, round)
-        })
-    });
-    let due = [EACH_ALONE, EACH, SOME, LARGE, CHALLENGES, CASE_L];
-    assert_shown(&wrong, &[&due], &[HONEST, HIGH_DEGREES, CASES_G_TO_I]);
-    assert_smallest(&wrong, EACH, "k 3; rate 1; step 1; ");
-}
-
-#[test]
-fn one_round_is_not_checked() {
-    let first = with_judge!(|given, queries, store, last| {
-        with_checks(given, queries, store, last, |run, query, round| {
-            round == 0 || holds(run, query, round)
-        })
-    });
-    assert_shown(&first, &[&[EACH_ALONE, EACH, SOME, CASES_G_TO_I, CASE_L]], &[HONEST]);
-    let last_one = with_judge!(|given, queries, store, last| {
-        with_checks(given, queries, store, last, |run, query, round| {
-            round + 1 == run.parameters.rounds() || holds(run, query, round)
-        })
-    });
-    assert_shown(&last_one, &[&[HIGH_DEGREES, EACH, CASES_G_TO_I]], &[HONEST, CASE_L]);
-}
-
-#[test]
-fn only_the_first_query_is_checked() {
-    let wrong = with_judge!(|given, queries, store, last| {
-        let first = queries.first().copied();
-        with_checks(given, queries, store, last, |run, query, round| {
-            Some(query) != first || holds(run, query, round)
-        })
-    });
-    assert_shown(&wrong, &[&[EACH, SOME, CASES_G_TO_I]], &[HONEST, EACH_ALONE]);
-}
-
-#[test]
-fn entries_are_paired_with_those_half_the_length_away() {
-    let wrong = with_judge!(|given, queries, store, last| {
-        with_checks(given, queries, store, last, |run, query, round| {
-            let cosets = protocol::cosets(run);
-            holds_over(&cosets, Pairing::HalfTheLengthAway, run, query, round)
-        })
-    });
-    assert_shown(&wrong, &[&[HONEST, EACH, SOME, LARGE, ACCEPTED, CASE_K]], &[]);
-}
-
-#[test]
-fn round_1_folds_over_the_basis_of_layer_0() {
-    let wrong = with_judge!(|given, queries, store, last| {
-        with_checks(given, queries, store, last, |run, query, round| {
-            holds_over(&with_first_basis(run), Pairing::Neighbours, run, query, round)
-        })
-    });
-    assert_shown(&wrong, &[&[HONEST, EACH, LARGE, ACCEPTED, CASE_K]], &[CASES_G_TO_I]);
-    assert_smallest(&wrong, HONEST, "k 3; rate 1; step 1; ");
-}
-
-#[test]
-fn later_layers_have_the_points_0_1_2_and_so_on() {
-    let wrong = with_judge!(|given, queries, store, last| {
-        with_checks(given, queries, store, last, |run, query, round| {
-            holds_over(&with_plain_points(run), Pairing::Neighbours, run, query, round)
-        })
-    });
-    assert_shown(&wrong, &[&[HONEST, EACH, LARGE, ACCEPTED, CASE_O]], &[CASES_G_TO_I]);
-}
-
-#[test]
-fn only_the_constant_of_the_last_polynomial_counts() {
-    let wrong = with_judge!(|given, queries, store, last| {
-        let mut constant = last.to_vec();
-        constant.iter_mut().skip(1).for_each(|rest| *rest = 0);
-        right_judge(given, queries, store, &constant)
-    });
-    assert_shown(&wrong, &[&[HONEST, SOME, ACCEPTED, CASE_O]], &[CASES_G_TO_I, CASE_L]);
-    // The least parameters with two last coefficients.
-    assert_smallest(&wrong, HONEST, "k 4; rate 1; step 2; ");
-}
-
-#[test]
-fn the_top_bit_of_an_entry_is_lost() {
-    let wrong = with_judge!(|given, queries, store, last| {
-        let word: Vec<u64> = given.word.iter().map(|entry| entry & (u64::MAX >> 1)).collect();
-        let other = razgwilh::Run { word: &word, ..given };
-        right_judge(other, queries, store, last)
-    });
-    assert_shown(&wrong, &[&[HONEST, EACH, ACCEPTED]], &[CASES_G_TO_I, CASE_K, CASE_L]);
+fn checks() -> Vec<Row<Wrong>> {
+    let folding = |(what, folding)| checking(what, folding, |_, _| false);
+    vec![
+        folding(("nothing", RIGHT)),
+        folding(HALVES).differs(&DAMAGED).differs(&FOLDED).differs(&[CASE_K, CASE_L, CASE_O]),
+        folding(FIRST_BASIS)
+            .differs(&DAMAGED)
+            .differs(&FOLDED)
+            .differs(&[CASE_K, CASE_L])
+            .smallest(HONEST, "k 3; rate 1; step 1; "),
+        folding(PLAIN_POINTS).differs(&DAMAGED).differs(&FOLDED).differs(&[CASE_K, CASE_L, CASE_O]),
+        checking("every run is accepted", RIGHT, |_, _| true)
+            .differs(&FAILING)
+            .differs(&[CASES_G_TO_I, CASE_L])
+            .smallest(EACH, "k 2; rate 1; step 1; offset 0; basis: 1, 2; challenges: 0; "),
+        checking("only the last round is checked", RIGHT, |run, round| !is_last(run, round))
+            .differs(&DAMAGED)
+            .differs(&[SAFE, CASE_L])
+            .smallest(EACH, "k 3; rate 1; step 1; "),
+        checking("the first round is not checked", RIGHT, |_, round| round == 0)
+            .differs(&FAILING)
+            .differs(&[CASES_G_TO_I, CASE_L]),
+        checking("the last round is not checked", RIGHT, is_last)
+            .differs(&FAILING)
+            .differs(&[CASES_G_TO_I]),
+    ]
 }
 
 // Where it stops.
 
-/// All checks that fail, by query and round, if the run may be judged.
-fn failing(given: razgwilh::Run, queries: &[u64], store: &[u64], last: &[u64]) -> Vec<(u64, u64)> {
-    let run = run_of(given, store, last);
-    if protocol::may_judge(&run, queries).is_err() {
-        return Vec::new();
-    }
-    let mut all = Vec::new();
-    for (place, &query) in (0..).zip(queries) {
-        let rounds = 0..run.parameters.rounds();
-        let failing = rounds.filter(|&round| !holds(&run, query, round));
-        all.extend(failing.map(|round| (place, round)));
-    }
-    all
-}
-
 /// Stops at another of the checks that fail.
-fn stopping_at(
-    given: razgwilh::Run,
-    queries: &[u64],
-    store: &[u64],
-    last: &[u64],
-    chosen: impl Fn(Vec<(u64, u64)>) -> Option<(u64, u64)>,
-) -> Answer {
-    let Run { parameters, .. } = run_of(given, store, last);
-    match chosen(failing(given, queries, store, last)) {
-        Some((query, round)) => failed(query, round, reads_if_failing(parameters, query, round)),
-        None => right_judge(given, queries, store, last),
-    }
+fn stopping(what: &'static str, chosen: fn(&[(u64, u64)]) -> Option<(u64, u64)>) -> Row<Wrong> {
+    judge(what, &[11], move |run, queries, _| {
+        let failing = failing(run, queries, |query, round| holds(RIGHT, run, query, round));
+        failing_at(run, queries, chosen(&failing))
+    })
 }
 
-#[test]
-fn it_stops_at_the_lowest_round_of_all_queries() {
-    let wrong = with_judge!(|given, queries, store, last| {
-        stopping_at(given, queries, store, last, |all| {
-            all.into_iter().min_by_key(|&(query, round)| (round, query))
+fn stops() -> Vec<Row<Wrong>> {
+    vec![
+        stopping("only the first query is checked", |all| {
+            all.iter().copied().find(|&(query, _)| query == 0)
         })
-    });
-    assert_shown(&wrong, &[&[EACH, SOME]], &[HONEST, EACH_ALONE, CASES_G_TO_I]);
-}
-
-#[test]
-fn it_stops_at_the_last_query_that_fails() {
-    let wrong = with_judge!(|given, queries, store, last| {
-        stopping_at(given, queries, store, last, |all| {
-            let last = all.iter().map(|&(query, _)| query).max();
-            all.into_iter().find(|&(query, _)| Some(query) == last)
+        .differs(&[DEGREES, EACH, SOME, LARGE, CASES_G_TO_I]),
+        stopping("it stops at the lowest round of all queries", |all| {
+            all.iter().copied().min_by_key(|&(query, round)| (round, query))
         })
-    });
-    assert_shown(&wrong, &[&[EACH, SOME, COUNTS]], &[HONEST, EACH_ALONE, CASES_G_TO_I]);
-}
-
-#[test]
-fn it_stops_at_the_last_round_that_fails() {
-    let wrong = with_judge!(|given, queries, store, last| {
-        stopping_at(given, queries, store, last, |all| {
-            let first = all.first().map(|&(query, _)| query);
-            all.into_iter().rfind(|&(query, _)| Some(query) == first)
+        .differs(&[EACH, SOME, LARGE]),
+        stopping("it stops at the last query that fails", |all| {
+            let (last, _) = *all.last()?;
+            all.iter().copied().find(|&(query, _)| query == last)
         })
-    });
-    assert_shown(&wrong, &[&[EACH, EACH_ALONE, SOME, CASE_L]], &[HONEST, CASES_G_TO_I]);
+        .differs(&[DEGREES, EACH, SOME, LARGE, CHALLENGES, COUNTS, REPEATED, SAFE]),
+        stopping("it stops at the last round that fails", |all| {
+            all.iter().copied().rfind(|&(query, _)| query == all[0].0)
+        })
+        .differs(&[EACH_ALONE, EACH, SOME, LARGE, SAFE, CASE_L]),
+    ]
 }
 
-// Answers.
+// Queries that are taken wrongly.
 
-pub(super) const NOT_LOOKING_AT_THE_ANSWER: Library = Library {
-    judge_into: |given, queries, store, last, answer| {
-        write_what_fits(right_judge(given, queries, store, last), answer)
-    },
-    ..RIGHT
-};
-
-#[test]
-fn the_length_of_the_answer_is_not_looked_at() {
-    assert_differing(&NOT_LOOKING_AT_THE_ANSWER, &[OTHER_ANSWER]);
+fn queries() -> Vec<Row<Wrong>> {
+    vec![
+        judge("queries beyond the most are not looked at", &[9], |run, queries, _| {
+            protocol::judge(run, &queries[..queries.len().min(256)])
+        })
+        .differs(&[COUNTS, SOME_OUT, SEVERAL, CASE_P]),
+        judge("no query is accepted", &[9], |_, queries, right| match queries {
+            [] => accepted(0),
+            _ => right,
+        })
+        .differs(&[COUNTS, SAFE]),
+        judge("the most queries are refused", &[0, 10, 11], |_, queries, right| {
+            match queries.len() {
+                256 => refused(9),
+                _ => right,
+            }
+        })
+        .differs(&[COUNTS, ONE_OUT, SOME_OUT, CASE_O, CASE_P]),
+        judge("only the lowest bits of a query count", &[10], |run, queries, _| {
+            let cut = queries.iter().map(|query| query % (1 << run.parameters.k));
+            protocol::judge(run, &cut.collect::<Vec<u64>>())
+        })
+        .differs(&OUT_OF_RANGE)
+        .smallest(ONE_OUT, "; queries: 4; answer of length 5"),
+        judge("a query out of range is counted from 1", &[10], |_, _, right| {
+            refused_at(10, right.place.map_or(0, |place| place + 1))
+        })
+        .differs(&OUT_OF_RANGE),
+        judge("the last query out of range is named", &[10], |run, queries, _| {
+            let place = queries.iter().rposition(|query| query >> run.parameters.k != 0);
+            refused_at(10, place.expect("a query out of range") as u64)
+        })
+        .differs(&[SOME_OUT]),
+        judge("queries before one out of range are judged first", &[10], |run, queries, right| {
+            let before = &queries[..right.place.map_or(0, |place| place as usize)];
+            match protocol::judge(run, before) {
+                failed if failed.number == 11 => failed,
+                _ => right,
+            }
+        })
+        .differs(&[ONE_OUT, SOME_OUT]),
+    ]
 }
 
-fn changing<const PLACE: usize>(
-    given: razgwilh::Run,
-    queries: &[u64],
-    store: &[u64],
-    last: &[u64],
-) -> Answer {
-    changed::<PLACE>(right_judge(given, queries, store, last))
-}
+// Reads.
 
-#[test]
-fn one_of_the_five_numbers_is_wrong() {
-    let wrong = [
-        with_judge!(changing::<0>),
-        with_judge!(changing::<1>),
-        with_judge!(changing::<3>),
-        with_judge!(changing::<4>),
-    ];
-    let due = [HONEST, OUTSIDE, SAFE, ACCEPTED, CASE_K, CASE_L, CASE_P];
-    for library in wrong {
-        assert_shown(&library, &[&FAILING, &due], &[OTHER_ANSWER]);
-    }
-    // The round is made 0.
-    let round = with_judge!(changing::<2>);
-    assert_shown(&round, &[&[HONEST, EACH, OUTSIDE, SAFE, ACCEPTED]], &[OTHER_ANSWER]);
+fn reads() -> Vec<Row<Wrong>> {
+    // What is read if the failing query is counted with so many cosets more than rounds before.
+    let counting = |what, more: u64| {
+        judge(what, &[11], move |run, _, right| {
+            let (query, round) = right.place.zip(right.round).expect("a failing query");
+            let cosets = query * run.parameters.rounds() + round + more;
+            Answer { reads: cosets << run.parameters.step, ..right }
+        })
+    };
+    vec![
+        judge("it answers before reading", &[11], |_, _, right| Answer { reads: 0, ..right })
+            .differs(&FAILING)
+            .differs(&[CASES_G_TO_I, CASE_L]),
+        judge("the reads are invented", JUDGED, |_, _, right| Answer { reads: 4, ..right })
+            .differs(&FAILING)
+            .differs(&[HONEST, ACCEPTED, CASES_G_TO_I, CASE_O, CASE_P]),
+        judge("a failing run has the reads of an accepted one", &[11], |run, queries, right| {
+            Answer { reads: failing_at(run, queries, None).reads, ..right }
+        })
+        .differs(&[DEGREES, EACH, SOME, LARGE, CHALLENGES, COUNTS, REPEATED, SAFE]),
+        counting("the coset of the next layer is not counted", 1)
+            .differs(&DAMAGED)
+            .differs(&[SAFE, CASE_L]),
+        counting("the last polynomial is taken for a coset", 2)
+            .differs(&FAILING)
+            .differs(&[CASES_G_TO_I]),
+        judge("a coset is counted once in all queries", &[0], |run, queries, _| {
+            let rounds = 0..run.parameters.rounds();
+            let coset = |query, i| (i, run.parameters.coset_used(query, i));
+            let used = |&query| rounds.clone().map(move |i| coset(query, i));
+            let met: BTreeSet<(u64, u64)> = queries.iter().flat_map(used).collect();
+            accepted((met.len() as u64) << run.parameters.step)
+        })
+        .differs(&[
+            HONEST, EACH, SOME, LARGE, CHALLENGES, COUNTS, REPEATED, SAFE, ACCEPTED, CASE_P,
+        ]),
+        judge("a refusal has reads", &[10], |_, _, right| Answer { reads: 2, ..right })
+            .differs(&OUT_OF_RANGE),
+    ]
 }

@@ -1,7 +1,12 @@
 //! Wrong lookups.
 
 use super::*;
-use crate::compare::wrong::{changed, write_what_fits};
+use crate::answer::{refused, ANSWER_LENGTH};
+use crate::compare::protocol::lookup::{answer_as_part, part_as_answer, LAYER};
+use crate::compare::wrong::{
+    always_instead, answering, changed_at, into_five, raw_alone, right, write_what_fits,
+};
+use std::ops::Range;
 
 const ALL: &str = "layer, all layers of all stores";
 const OTHERS: &str = "layer, other layers";
@@ -12,159 +17,82 @@ const SAFE: &str = "layer, safe calls";
 const PROVED: &str = "what is proved, layer by layer";
 const CASE_K: &str = "case K of table A, layer 1";
 
-/// As long as there is such a part.
-fn within(part: Range<usize>, store: usize) -> Range<usize> {
-    if part.end <= store {
-        part
-    } else {
-        0..0
-    }
-}
-
-/// The layer behind the one that is asked for.
-pub(super) const NEXT_LAYER: Library =
-    with_lookup!(|parameters, store, i| right_part(parameters, store, i.saturating_add(1)));
-
-#[test]
-fn the_layer_is_off_by_one() {
-    assert_differing(&NEXT_LAYER, &[PROVED, ALL, OTHERS, SAFE, CASE_K]);
-    assert_smallest(&NEXT_LAYER, OTHERS, "k 3; rate 1; step 1; store of length 4; layer 0; ");
-    let before =
-        with_lookup!(|parameters, store, i| right_part(parameters, store, i.saturating_sub(1)));
-    assert_differing(&before, &[PROVED, ALL, OTHERS, SAFE, CASE_K]);
-}
-
-/// The whole store for all that is to give the empty part.
-pub(super) const TAKING_ALL: Library = with_lookup!(|parameters, store, i| {
-    let part = right_part(parameters, store, i);
-    if part.is_empty() {
-        0..store
-    } else {
-        part
-    }
-});
-
-#[test]
-fn the_whole_store_stands_for_the_empty_part() {
-    assert_differing(&TAKING_ALL, &[PROVED, OTHERS, STORES, PARAMETERS, SAFE]);
-}
-
-#[test]
-fn all_parts_are_empty() {
-    let wrong = with_lookup!(|_, _, _| 0..0);
-    assert_differing(&wrong, &[PROVED, ALL, SAFE, CASE_K]);
-}
-
-#[test]
-fn the_store_may_be_longer() {
-    let wrong = with_lookup!(|parameters, store, i| {
-        let right = call::List::Store.right_length(parameters);
-        right_part(parameters, store.min(right), i)
-    });
-    assert_differing(&wrong, &[STORES, SAFE]);
-}
-
-#[test]
-fn the_store_may_be_shorter() {
-    let wrong = with_lookup!(|parameters, store, i| {
-        let right = call::List::Store.right_length(parameters);
-        within(right_part(parameters, right, i), store)
-    });
-    assert_differing(&wrong, &[STORES, SAFE]);
-}
-
-#[test]
-fn only_the_lowest_bits_of_the_layer_count() {
-    let wrong = with_lookup!(|parameters, store, i| right_part(parameters, store, i % (1 << 32)));
-    assert_differing(&wrong, &[OTHERS, SAFE]);
-}
-
-/// Each is taken as the nearest in range.
-#[test]
-fn bad_parameters_are_taken() {
-    let wrong = [
-        with_lookup!(|parameters, store, i| {
-            let rate = parameters.rate.clamp(1, 6);
-            right_part(Parameters { rate, ..parameters }, store, i)
-        }),
-        with_lookup!(|parameters, store, i| {
-            let step = parameters.step.clamp(1, 3);
-            right_part(Parameters { step, ..parameters }, store, i)
-        }),
-        with_lookup!(|parameters, store, i| {
-            let k = parameters.k % 256;
-            right_part(Parameters { k, ..parameters }, store, i)
-        }),
-    ];
-    for library in wrong {
-        assert_differing(&library, &[PARAMETERS, SAFE]);
-    }
-}
-
-#[test]
-fn the_layers_lie_from_behind() {
-    let wrong = with_lookup!(|parameters, store, i| {
-        let part = right_part(parameters, store, i);
-        if part.is_empty() {
-            part
-        } else {
-            store - part.end..store - part.start
-        }
-    });
-    assert_differing(&wrong, &[PROVED, ALL, SAFE]);
-}
-
-// Answers.
-
-pub(super) const NOT_LOOKING_AT_THE_ANSWER: Library = Library {
-    layer_into: |k, rate, step, store, i, answer| {
-        let parameters = with(k as u64, rate as u64, step as u64);
-        let part = right_part(parameters, store.len(), i as u64);
-        write_what_fits(part_as_answer(part), answer)
-    },
-    ..RIGHT
-};
-
-#[test]
-fn the_length_of_the_answer_is_not_looked_at() {
-    assert_differing(&NOT_LOOKING_AT_THE_ANSWER, &[OTHER_ANSWER]);
-}
-
-fn changing<const PLACE: usize>(
-    k: usize,
-    rate: usize,
-    step: usize,
-    store: &[u64],
-    i: usize,
-    answer: &mut [u64],
-) {
-    let parameters = with(k as u64, rate as u64, step as u64);
-    let part = right_part(parameters, store.len(), i as u64);
-    into_five(answer, || changed::<PLACE>(part_as_answer(part)))
-}
-
-/// The empty part has a number 0 too.
-#[test]
-fn one_of_the_five_numbers_is_wrong() {
-    let wrong: [LayerInto; 5] =
-        [changing::<0>, changing::<1>, changing::<2>, changing::<3>, changing::<4>];
-    for layer_into in wrong {
-        let library = Library { layer_into, ..RIGHT };
-        assert_differing(&library, &[ALL, OTHERS, STORES, PARAMETERS]);
-    }
-}
-
-#[test]
-fn the_empty_part_is_refused() {
-    let wrong = Library {
-        layer_into: |k, rate, step, store, i, answer| {
-            let parameters = with(k as u64, rate as u64, step as u64);
-            let part = right_part(parameters, store.len(), i as u64);
-            let refusal = crate::answer::refused(4);
-            let empty = part.is_empty();
-            into_five(answer, || if empty { refusal } else { part_as_answer(part) })
-        },
-        ..RIGHT
+/// Takes another number for one.
+fn taking(what: &'static str, number: Number, other: fn(u64) -> u64) -> Row<Wrong> {
+    let other = move |call: Call| {
+        let other = other(call[number]);
+        call.with(number, other)
     };
-    assert_differing(&wrong, &[OTHERS, STORES, PARAMETERS]);
+    row(what, always_instead(other).of(&LAYER))
+}
+
+/// Takes the store to have another length, made of its own and of that which is due.
+fn fitting(what: &'static str, length: fn(usize, usize) -> usize) -> Row<Wrong> {
+    let other = move |call: Call| {
+        let length = length(call[Store].len(), call.due_length(Store));
+        call.with_length(Store, length)
+    };
+    row(what, always_instead(other).of(&LAYER))
+}
+
+/// Gives another part, made of the length of the store and the right part.
+fn giving(what: &'static str, part: fn(usize, Range<usize>) -> Range<usize>) -> Row<Wrong> {
+    let other = move |call: &Call, right: Answer| {
+        part_as_answer(part(call[Store].len(), answer_as_part(right)))
+    };
+    row(what, answering(other).of(&LAYER))
+}
+
+/// Gives another answer by the C convention alone.
+fn raw(what: impl Into<String>, other: impl Fn(Answer) -> Answer + 'static) -> Row<Wrong> {
+    let behaviour = move |call: &Call, outputs: &mut Outputs, answer: &mut [u64]| {
+        into_five(answer, || other(right(call, outputs)))
+    };
+    row(what, raw_alone(behaviour).of(&LAYER))
+}
+
+pub fn rows() -> Vec<Row<Wrong>> {
+    let any_length =
+        raw_alone(|call, outputs, answer| write_what_fits(right(call, outputs), answer));
+    let mut rows = vec![
+        taking("the layer is one too high", Layer, |i| i.saturating_add(1))
+            .differs(&[PROVED, ALL, OTHERS, SAFE, CASE_K])
+            .smallest(OTHERS, "k 3; rate 1; step 1; layer 0; "),
+        taking("the layer is one too low", Layer, |i| i.saturating_sub(1))
+            .differs(&[PROVED, ALL, OTHERS, SAFE, CASE_K]),
+        taking("only the lowest bits of the layer count", Layer, |i| i % (1 << 32))
+            .differs(&[OTHERS, SAFE]),
+        taking("only the lowest bits of the dimension count", K, |k| k % 256)
+            .differs(&[PARAMETERS, SAFE]),
+        taking("a bad rate is taken for the nearest", Rate, |rate| rate.clamp(1, 6))
+            .differs(&[PARAMETERS, SAFE]),
+        taking("a bad step is taken for the nearest", Step, |step| step.clamp(1, 3))
+            .differs(&[PARAMETERS, SAFE]),
+        fitting("the store may be longer", usize::min).differs(&[STORES, SAFE]),
+        fitting("the store may be shorter", usize::max).differs(&[STORES, SAFE]),
+        giving("all parts are empty", |_, _| 0..0).differs(&[PROVED, ALL, SAFE, CASE_K]),
+        giving("the whole store stands for the empty part", |store, part| match part.len() {
+            0 => 0..store,
+            _ => part,
+        })
+        .differs(&[PROVED, OTHERS, STORES, PARAMETERS, SAFE]),
+        giving("the layers lie from behind", |store, part| match part.len() {
+            0 => part,
+            _ => store - part.end..store - part.start,
+        })
+        .differs(&[PROVED, ALL, SAFE]),
+        raw("the empty part is refused", |right| match right.value {
+            Some(0) => refused(4),
+            _ => right,
+        })
+        .differs(&[OTHERS, STORES, PARAMETERS]),
+        row("the length of the answer is not looked at", any_length.of(&LAYER))
+            .differs(&[OTHER_ANSWER]),
+    ];
+    for place in 0..ANSWER_LENGTH {
+        let what = format!("number {place} of the answer is wrong");
+        let wrong = raw(what, move |right| changed_at(place, right));
+        rows.push(wrong.differs(&[ALL, OTHERS, STORES, PARAMETERS]));
+    }
+    rows
 }

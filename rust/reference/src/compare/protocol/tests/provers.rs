@@ -1,10 +1,9 @@
 //! Wrong provers.
 
 use super::*;
-use crate::answer::{done, refused, refused_at};
-use crate::compare::wrong::{changed, write_what_fits};
-
-// The comparisons that a mistake of one sort shows in.
+use crate::answer::{done, refused};
+use crate::coset::points;
+use crate::polynomial::interpolant;
 
 const ANY_WORDS: &str = "prove, any words";
 const DEGREES: &str = "prove, words of every degree";
@@ -14,434 +13,204 @@ const LARGE: &str = "prove, k 10 to 15";
 const KNOWN: &str = "prove, k 16 to 20, known layers";
 const ACCEPTED: &str = "what is proved is accepted with every query";
 const LAYERS: &str = "what is proved, layer by layer";
+const SEVERAL: &str = "prove, several causes";
 const SAFE: &str = "prove, safe calls";
 const OTHER_ANSWER: &str = "prove with an answer list of another length";
 const CASE_F: &str = "case F of table A";
 const CASE_J: &str = "case J of table A";
 const CASE_J_ALL: &str = "case J of table A, 2 alone is proved";
 const CASE_K: &str = "case K of table A, proved";
+const CASE_O: &str = "case O of table A, lists of a prover";
 
-/// All in which something is proved or the degree is too high, but for those of
-/// safe calls.
-const TAKEN: [&str; 5] = [ANY_WORDS, DEGREES, NEAR_BOUNDS, EXCEPTIONAL, LARGE];
+/// All in which layers are written, but for cases.
+const WRITTEN: [&str; 9] =
+    [ANY_WORDS, DEGREES, NEAR_BOUNDS, EXCEPTIONAL, LARGE, KNOWN, ACCEPTED, LAYERS, SAFE];
 
-/// All comparisons of the judge and of the lookup alone.
-fn of_others() -> Vec<&'static str> {
-    let of_others = |name: &&str| name.starts_with("judge") || name.starts_with("layer");
-    names().into_iter().filter(of_others).collect()
+/// All in which last coefficients are written.
+const SENT: [&str; 9] =
+    [ANY_WORDS, DEGREES, NEAR_BOUNDS, EXCEPTIONAL, KNOWN, ACCEPTED, SAFE, CASE_J, CASE_K];
+
+/// All in which the degree is too high, but for cases.
+const TOO_HIGH: [&str; 6] = [ANY_WORDS, DEGREES, NEAR_BOUNDS, LARGE, KNOWN, SAFE];
+
+pub const OTHERS: Others = Others {
+    right: &[ANY_WORDS, DEGREES, NEAR_BOUNDS, EXCEPTIONAL, LARGE],
+    safely: &[KNOWN, CASE_F, CASE_J, CASE_K, CASE_O],
+    dependent: &[],
+    unsaid: &[CASE_O],
+};
+
+pub fn rows() -> Vec<Row<Wrong>> {
+    [in_all(), layers(), last_coefficients(), degrees()].into_iter().flatten().collect()
 }
 
-/// All of these differ, and no comparison of the judge or of the lookup does.
-#[track_caller]
-fn assert_shown(library: &Library, differ: &[&[&str]], agree: &[&str]) {
-    let agree = [&of_others()[..], agree].concat();
-    assert_among(library, &differ.concat(), &agree);
+/// Makes another proof of the run, with the lists as they were lent, and the right proof, if that
+/// has one of these numbers.
+fn prover(
+    what: &'static str,
+    numbers: &'static [u64],
+    proof: impl Fn(&Run, Proved) -> Proved + 'static,
+) -> Row<Wrong> {
+    let changed = move |run: &Run| match proof_due(run) {
+        right if numbers.contains(&right.answer.number) => proof(run, right),
+        right => right,
+    };
+    row(what, alike(move |call, outputs| write_proof(call, outputs, &changed)).of(&PROVE))
 }
 
-// Provers that are wrong in all.
+/// The numbers of a run whose layers are written.
+const FOLDED: &[u64] = &[0, 12];
 
-pub(super) const TURNING_ALL_AWAY: Library = with_prover!(|_, _, _| refused(4));
-
-pub(super) const TAKING_ALL: Library = with_prover!(|given, store, last| {
-    let answer = right_prove(given, store, last);
-    match answer.number {
-        0 | 12 => answer,
-        _ => done(),
-    }
-});
-
-#[test]
-fn all_are_turned_away() {
-    let due = [KNOWN, ACCEPTED, SAFE, CASE_F, CASE_J, CASE_J_ALL, CASE_K];
-    // The layers are then those of a store that was not written.
-    assert_shown(&TURNING_ALL_AWAY, &[&TAKEN, &due, &[LAYERS]], &[OTHER_ANSWER]);
+fn in_all() -> Vec<Row<Wrong>> {
+    vec![
+        prover("all are turned away", ALL, |run, right| {
+            let left = with_store_left(run, with_last_left(run, right));
+            Proved { answer: refused(4), ..left }
+        })
+        .differs(&WRITTEN)
+        .differs(&[CASE_F, CASE_J, CASE_J_ALL, CASE_K])
+        .agrees(&[OTHER_ANSWER]),
+        prover("nothing is refused", BEFORE_WORK, |_, right| Proved { answer: done(), ..right })
+            .differs(&[SAFE, SEVERAL, CASE_O])
+            .agrees(&[ANY_WORDS, DEGREES, NEAR_BOUNDS, EXCEPTIONAL, LARGE]),
+    ]
 }
 
-#[test]
-fn nothing_is_refused() {
-    assert_shown(&TAKING_ALL, &[&[SAFE, "prove, several causes"]], &TAKEN);
+fn with_store_left(run: &Run, proved: Proved) -> Proved {
+    Proved { store: run.store.clone(), ..proved }
+}
+
+fn with_last_left(run: &Run, proved: Proved) -> Proved {
+    Proved { last: run.last.clone(), ..proved }
 }
 
 // Wrong layers.
 
-/// Does what is right but for the layers, if the run may be taken.
-fn with_layers(
-    given: razgwilh::Run,
-    store: &mut [u64],
-    last: &mut [u64],
-    layers: impl Fn(&Run) -> Vec<Vec<u64>>,
-) -> Answer {
-    let run = run_of(given, store, last);
-    if protocol::may_take(&run).is_err() {
-        return right_prove(given, store, last);
-    }
-    let layers = layers(&run);
-    let r = layers.len() - 1;
-    store.copy_from_slice(&layers[1..r].concat());
-    let Coset { offset, basis } = &protocol::cosets(&run)[r];
-    let polynomial = interpolant(&crate::coset::points(*offset, basis), &layers[r]);
-    let degree = polynomial.iter().rposition(|&coefficient| coefficient != 0);
-    match degree {
-        Some(degree) if degree >= last.len() => too_high(degree as u64),
-        _ => {
-            last.copy_from_slice(&polynomial[..last.len()]);
-            done()
+/// What is right but for the folds.
+fn folding((what, folding): (&'static str, Folding)) -> Row<Wrong> {
+    prover(what, FOLDED, move |run, _| {
+        let mut layers = vec![run.word.clone()];
+        for round in 0..run.challenges.len() {
+            let entries = 0..layers[round].len() >> run.parameters.step;
+            layers.push(entries.map(|j| folding.entry(run, round, &layers[round], j)).collect());
         }
-    }
+        let r = layers.len() - 1;
+        let Coset { offset, basis } = &protocol::cosets(run)[r];
+        let mut last = interpolant(&points(*offset, basis), &layers[r]);
+        let degree = last.iter().rposition(|&coefficient| coefficient != 0);
+        last.truncate(run.last.len());
+        let proved = Proved { answer: done(), store: layers[1..r].concat(), last };
+        match degree {
+            Some(degree) if degree >= run.last.len() => {
+                let answer = degree_too_high(degree as u64);
+                with_last_left(run, Proved { answer, ..proved })
+            }
+            _ => proved,
+        }
+    })
 }
 
-fn too_high(degree: u64) -> Answer {
-    Answer { value: Some(degree), ..refused_at(12, degree) }
-}
-
-/// All layers, folded over these cosets.
-fn folded(run: &Run, cosets: Cosets, pairing: Pairing) -> Vec<Vec<u64>> {
-    let step = run.parameters.step;
-    let mut layers = vec![run.word.clone()];
-    for (coset, &challenge) in cosets(run).iter().zip(&run.challenges) {
-        let layer = &layers[layers.len() - 1];
-        let fold = |j| {
-            let indices = pairing.indices(step, layer.len(), j);
-            fold_at(coset, layer, &indices, challenge)
-        };
-        let next = (0..layer.len() >> step).map(fold).collect();
-        layers.push(next);
-    }
-    layers
-}
-
-#[test]
-fn the_layers_of_these_tests_are_right() {
-    assert_differing(
-        &with_prover!(|given, store, last| {
-            let layers = |run: &Run| folded(run, protocol::cosets, Pairing::Neighbours);
-            with_layers(given, store, last, layers)
-        }),
-        &[],
-    );
-}
-
-#[test]
-fn entries_are_paired_with_those_half_the_length_away() {
-    let wrong = with_prover!(|given, store, last| {
-        let layers = |run: &Run| folded(run, protocol::cosets, Pairing::HalfTheLengthAway);
-        with_layers(given, store, last, layers)
-    });
-    assert_shown(&wrong, &[&TAKEN, &[KNOWN, ACCEPTED, LAYERS, CASE_K]], &[]);
-}
-
-/// Nothing shows where there is one round.
-#[test]
-fn round_1_folds_over_the_basis_of_layer_0() {
-    let wrong = with_prover!(|given, store, last| {
-        let layers = |run: &Run| folded(run, with_first_basis, Pairing::Neighbours);
-        with_layers(given, store, last, layers)
-    });
-    let due = [KNOWN, ACCEPTED, CASE_K];
-    assert_shown(&wrong, &[&TAKEN, &due], &[CASE_F, CASE_J, CASE_J_ALL]);
-    assert_smallest(&wrong, ANY_WORDS, "k 3; rate 1; step 1; offset 0; ");
-}
-
-#[test]
-fn later_layers_have_the_points_0_1_2_and_so_on() {
-    let wrong = with_prover!(|given, store, last| {
-        let layers = |run: &Run| folded(run, with_plain_points, Pairing::Neighbours);
-        with_layers(given, store, last, layers)
-    });
-    let due = [KNOWN, ACCEPTED, CASE_K];
-    assert_shown(&wrong, &[&TAKEN, &due], &[CASE_F, CASE_J, CASE_J_ALL]);
-}
-
-/// Changes the store and the last coefficients of what is proved or has too high a
-/// degree.
-fn and_then(
-    given: razgwilh::Run,
-    store: &mut [u64],
-    last: &mut [u64],
-    change: impl FnOnce(Parameters, &mut [u64], &mut [u64]),
-) -> Answer {
-    let answer = right_prove(given, store, last);
-    if [0, 12].contains(&answer.number) {
-        change(run_of(given, &[], &[]).parameters, store, last);
-    }
-    answer
-}
-
-/// The layer next to the word is folded.
-#[test]
-fn only_layer_1_is_folded() {
-    let wrong = with_prover!(|given, store, last| {
-        and_then(given, store, last, |parameters, store, _| {
-            let first = parameters.layer_length(1).min(store.len());
-            store[first..].fill(0)
+fn layers() -> Vec<Row<Wrong>> {
+    vec![
+        folding(("nothing", RIGHT)),
+        folding(HALVES).differs(&WRITTEN).differs(&[CASE_J, CASE_J_ALL, CASE_K]),
+        // Nothing shows where there is one round.
+        folding(FIRST_BASIS)
+            .differs(&WRITTEN)
+            .differs(&[CASE_K])
+            .smallest(ANY_WORDS, "; rate 1; step 1; offset 0; basis: 1, 2, 4"),
+        folding(PLAIN_POINTS).differs(&WRITTEN).differs(&[CASE_K]),
+        prover("only layer 1 is folded", FOLDED, |run, mut right| {
+            let first = run.parameters.layer_length(1);
+            right.store.iter_mut().skip(first).for_each(|entry| *entry = 0);
+            right
         })
-    });
-    let due = [ANY_WORDS, NEAR_BOUNDS, EXCEPTIONAL, LARGE, KNOWN, ACCEPTED, LAYERS];
-    assert_shown(&wrong, &[&due], &[CASE_F, CASE_J, CASE_K]);
-    // With three rounds there are two layers in the store.
-    assert_smallest(&wrong, ANY_WORDS, "k 4; rate 1; step 1; ");
-}
-
-#[test]
-fn the_layers_are_joined_from_behind() {
-    let wrong = with_prover!(|given, store, last| {
-        and_then(given, store, last, |parameters, store, _| {
-            let first = parameters.layer_length(1).min(store.len());
-            store.rotate_left(first)
+        .differs(&WRITTEN)
+        // With three rounds there are two layers in the store.
+        .smallest(ANY_WORDS, "k 4; rate 1; step 1; "),
+        prover("the layers are joined from behind", FOLDED, |run, mut right| {
+            let first = run.parameters.layer_length(1).min(right.store.len());
+            right.store.rotate_left(first);
+            right
         })
-    });
-    assert_shown(&wrong, &[&[ANY_WORDS, KNOWN, LAYERS]], &[CASE_K]);
-}
-
-#[test]
-fn the_challenges_are_taken_from_behind() {
-    let wrong = with_prover!(|given, store, last| {
-        let challenges: Vec<u64> = given.challenges.iter().rev().copied().collect();
-        let other = razgwilh::Run { challenges: &challenges, ..given };
-        right_prove(other, store, last)
-    });
-    // With one round there is one challenge.
-    let agree = [CASE_F, CASE_J, CASE_J_ALL];
-    assert_shown(&wrong, &[&[ANY_WORDS, KNOWN, LAYERS, CASE_K]], &agree);
-}
-
-#[test]
-fn the_store_is_not_written() {
-    let wrong = with_prover!(|given, store, last| {
-        let before = store.to_vec();
-        let answer = right_prove(given, store, last);
-        store.copy_from_slice(&before);
-        answer
-    });
-    assert_shown(&wrong, &[&TAKEN, &[KNOWN, ACCEPTED, LAYERS, SAFE, CASE_K]], &[CASE_F, CASE_J]);
+        .differs(&WRITTEN),
+        prover("the challenges are taken from behind", FOLDED, |run, _| {
+            let challenges = run.challenges.iter().rev().copied().collect();
+            proof_due(&Run { challenges, ..run.clone() })
+        })
+        .differs(&WRITTEN)
+        .differs(&[CASE_K]),
+        prover("the store is not written", FOLDED, with_store_left)
+            .differs(&WRITTEN)
+            .differs(&[CASE_K]),
+    ]
 }
 
 // Wrong last coefficients.
 
-pub(super) const FIXED_LAST: Library = with_prover!(|given, store, last| {
-    let answer = right_prove(given, store, last);
-    if answer.number == 0 {
-        last.fill(0xb);
-    }
-    answer
-});
-
-#[test]
-fn the_last_coefficients_are_the_same_for_all() {
-    let due = [KNOWN, ACCEPTED, SAFE, CASE_J, CASE_K];
-    assert_shown(&FIXED_LAST, &[&TAKEN[..4], &due], &[CASE_F, LAYERS]);
-}
-
-/// Values are taken for coefficients.
-#[test]
-fn the_last_layer_is_sent_as_values() {
-    let wrong = with_prover!(|given, store, last| {
-        let answer = right_prove(given, store, last);
-        if answer.number == 0 {
-            let layers = protocol::honest_layers(&run_of(given, store, last));
-            last.copy_from_slice(&layers[layers.len() - 1][..last.len()]);
-        }
-        answer
-    });
-    assert_shown(&wrong, &[&[ANY_WORDS, ACCEPTED]], &[CASE_F, CASE_J, CASE_K, LAYERS]);
-    // One coefficient is the value at any point, and these are the least with two.
-    assert_smallest(&wrong, NEAR_BOUNDS, "k 4; rate 1; step 2; ");
-}
-
-#[test]
-fn the_last_coefficients_are_not_written() {
-    let wrong = with_prover!(|given, store, last| {
-        let before = last.to_vec();
-        let answer = right_prove(given, store, last);
-        last.copy_from_slice(&before);
-        answer
-    });
-    let due = [KNOWN, ACCEPTED, SAFE, CASE_F, CASE_J, CASE_K];
-    assert_shown(&wrong, &[&TAKEN[..4], &due], &[LAYERS]);
+fn last_coefficients() -> Vec<Row<Wrong>> {
+    vec![
+        prover("the last coefficients are the same for all", &[0], |run, right| Proved {
+            last: vec![0xb; run.last.len()],
+            ..right
+        })
+        .differs(&SENT),
+        prover("the last layer is sent as values", &[0], |run, right| {
+            let mut layers = protocol::honest_layers(run);
+            let values = layers.pop().expect("a last layer");
+            Proved { last: values[..run.last.len()].to_vec(), ..right }
+        })
+        .differs(&[ANY_WORDS, DEGREES, NEAR_BOUNDS, EXCEPTIONAL, ACCEPTED, SAFE])
+        // One coefficient is the value at any point, and these are the least with two.
+        .smallest(NEAR_BOUNDS, "k 4; rate 1; step 2; "),
+        prover("the last coefficients are not written", &[0], with_last_left)
+            .differs(&SENT)
+            .differs(&[CASE_F]),
+    ]
 }
 
 // Too high a degree.
 
-/// Does something to the lists, as they were and as they are, if the degree is too
-/// high.
-fn at_high_degrees(
-    given: razgwilh::Run,
-    store: &mut [u64],
-    last: &mut [u64],
-    change: impl FnOnce(&Run, &mut [u64], &mut [u64]),
-) -> Answer {
-    let before = run_of(given, store, last);
-    let answer = right_prove(given, store, last);
-    if answer.number == 12 {
-        change(&before, store, last);
-    }
-    answer
-}
-
-#[test]
-fn the_store_is_left_at_a_high_degree() {
-    let wrong = with_prover!(|given, store, last| {
-        at_high_degrees(given, store, last, |before, store, _| store.copy_from_slice(&before.store))
-    });
-    let due = [ANY_WORDS, NEAR_BOUNDS, LARGE, KNOWN, SAFE];
-    assert_shown(&wrong, &[&due], &[EXCEPTIONAL, ACCEPTED, LAYERS, CASE_J]);
-    assert_smallest(&wrong, ANY_WORDS, "k 3; rate 1; step 1; ");
-}
-
-#[test]
-fn the_coefficients_are_written_at_a_high_degree() {
-    let wrong = with_prover!(|given, store, last| {
-        at_high_degrees(given, store, last, |before, _, last| {
-            last.copy_from_slice(&protocol::honest_last(before))
-        })
-    });
-    let due = [ANY_WORDS, DEGREES, NEAR_BOUNDS, LARGE, KNOWN, SAFE, CASE_J];
-    assert_shown(&wrong, &[&due], &[EXCEPTIONAL, ACCEPTED, LAYERS, CASE_F]);
-}
-
-/// Changes the answer to too high a degree.
-fn saying(
-    given: razgwilh::Run,
-    store: &mut [u64],
-    last: &mut [u64],
-    other: impl Fn(u64) -> Answer,
-) -> Answer {
-    let answer = right_prove(given, store, last);
-    match answer.place {
-        Some(degree) if answer.number == 12 => other(degree),
-        _ => answer,
-    }
-}
-
-#[test]
-fn a_high_degree_has_another_answer() {
-    let wrong = [
-        with_prover!(|given, store, last| saying(given, store, last, |_| done())),
-        with_prover!(|given, store, last| saying(given, store, last, |_| refused(12))),
-        with_prover!(|given, store, last| saying(given, store, last, |d| refused_at(12, d))),
-        with_prover!(|given, store, last| saying(given, store, last, |d| too_high(d + 1))),
-        with_prover!(|given, store, last| saying(given, store, last, |degree| Answer {
-            place: None,
-            ..too_high(degree)
-        })),
-    ];
-    let due = [ANY_WORDS, DEGREES, NEAR_BOUNDS, LARGE, KNOWN, SAFE, CASE_J];
-    for library in wrong {
-        assert_shown(&library, &[&due], &[EXCEPTIONAL, ACCEPTED, LAYERS, CASE_F]);
-    }
-}
-
-/// The degree of the word is taken for that of the last layer, which is lower at an
-/// exceptional challenge.
-#[test]
-fn a_word_of_a_high_degree_is_never_proved() {
-    let wrong = with_prover!(|given, store, last| {
-        let answer = right_prove(given, store, last);
-        if answer.number != 0 {
-            return answer;
-        }
-        let run = run_of(given, store, last);
-        let points = crate::coset::points(run.offset, &run.basis);
-        let polynomial = interpolant(&points, &run.word);
-        let bound = polynomial.len() >> given.rate;
-        let low = polynomial[bound..].iter().all(|&coefficient| coefficient == 0);
-        if low {
-            answer
-        } else {
-            too_high(last.len() as u64)
-        }
-    });
-    let due = [EXCEPTIONAL, CASE_J, CASE_J_ALL];
-    assert_shown(&wrong, &[&due], &[DEGREES, NEAR_BOUNDS, ACCEPTED]);
-}
-
-#[test]
-fn a_degree_of_d_is_proved() {
-    let wrong = with_prover!(|given, store, last| {
-        let d = last.len() as u64;
-        let before = run_of(given, store, last);
-        let answer = right_prove(given, store, last);
-        if answer.place != Some(d) || answer.number != 12 {
-            return answer;
-        }
-        last.copy_from_slice(&protocol::honest_last(&before));
-        done()
-    });
-    assert_shown(&wrong, &[&[ANY_WORDS, DEGREES, NEAR_BOUNDS, CASE_J]], &[EXCEPTIONAL, ACCEPTED]);
-}
-
-// Wrong answers.
-
-pub(super) const NOT_LOOKING_AT_THE_ANSWER: Library = Library {
-    prove_into: |given, store, last, answer| {
-        write_what_fits(right_prove(given, store, last), answer)
-    },
-    ..RIGHT
-};
-
-#[test]
-fn the_length_of_the_answer_is_not_looked_at() {
-    assert_differing(&NOT_LOOKING_AT_THE_ANSWER, &[OTHER_ANSWER]);
-}
-
-#[test]
-fn the_lists_are_written_without_an_answer() {
-    let wrong = Library {
-        prove_into: |given, store, last, answer| {
-            let given = right_prove(given, store, last);
-            into_five(answer, || given);
-        },
-        ..RIGHT
+fn degrees() -> Vec<Row<Wrong>> {
+    let answering = |what, answer: fn(Answer) -> Answer| {
+        prover(what, &[12], move |_, right| Proved { answer: answer(right.answer), ..right })
+            .differs(&TOO_HIGH)
+            .differs(&[CASE_J])
     };
-    assert_differing(&wrong, &[OTHER_ANSWER]);
-}
-
-/// A safe function cannot write beside its list, so the writer that does stands
-/// where the library is called.
-#[test]
-fn a_number_beside_a_list_is_written_to() {
-    let random = &mut crate::random::Random::named("beside");
-    let beside: [fn(&mut Lent, &mut Output); 6] = [
-        |answer, _| answer.numbers[answer.list.start - 1] = 0,
-        |answer, _| answer.numbers[answer.list.end] = 0,
-        |_, output| output.store.numbers[output.store.list.start - 1] = 0,
-        |_, output| output.store.numbers[output.store.list.end] = 0,
-        |_, output| output.last.numbers[output.last.list.start - 1] = 0,
-        |_, output| output.last.numbers[output.last.list.end] = 0,
-    ];
-    for call in inputs::refused::of_every_sort(random, 1) {
-        let due = proof_of_reference(&call);
-        let right_and = |write: fn(&mut Lent, &mut Output)| {
-            after_proof(&call, |answer, output| {
-                let given = write_proof(&call, output);
-                answer.list().copy_from_slice(&raw(&given));
-                write(answer, output);
-            })
-        };
-        assert!(right_and(|_, _| ()) == due);
-        assert!(beside.into_iter().all(|write| right_and(write) != due));
-    }
-}
-
-fn changing<const PLACE: usize>(
-    given: razgwilh::Run,
-    store: &mut [u64],
-    last: &mut [u64],
-) -> Answer {
-    changed::<PLACE>(right_prove(given, store, last))
-}
-
-#[test]
-fn one_of_the_five_numbers_is_wrong() {
-    let wrong = [
-        with_prover!(changing::<0>),
-        with_prover!(changing::<1>),
-        with_prover!(changing::<2>),
-        with_prover!(changing::<3>),
-        with_prover!(changing::<4>),
-    ];
-    let due = [KNOWN, SAFE, CASE_F, CASE_J, CASE_K];
-    for library in wrong {
-        assert_shown(&library, &[&TAKEN, &due], &[ACCEPTED, LAYERS, OTHER_ANSWER]);
-    }
+    vec![
+        answering("a high degree is no refusal", |_| done()).differs(&[CASE_J_ALL]),
+        answering("a high degree is not given", |_| refused(12)),
+        answering("a high degree is no value", |right| Answer { value: None, ..right }),
+        answering("a high degree is no place", |right| Answer { place: None, ..right }),
+        answering("a high degree is given one too high", |right| {
+            degree_too_high(right.place.map_or(0, |degree| degree + 1))
+        }),
+        prover("the store is left at a high degree", &[12], with_store_left)
+            .differs(&TOO_HIGH)
+            .smallest(ANY_WORDS, "k 3; rate 1; step 1; "),
+        prover("coefficients are written at a high degree", &[12], |run, right| Proved {
+            last: protocol::honest_last(run),
+            ..right
+        })
+        .differs(&TOO_HIGH)
+        .differs(&[CASE_J]),
+        prover("a degree of d is proved", &[12], |run, right| match right.answer.place {
+            Some(degree) if degree == run.last.len() as u64 => {
+                Proved { answer: done(), last: protocol::honest_last(run), ..right }
+            }
+            _ => right,
+        })
+        .differs(&TOO_HIGH)
+        .differs(&[CASE_J, CASE_J_ALL]),
+        // At an exceptional challenge the degree of the last layer is lower.
+        prover("a word of a high degree is never proved", &[0], |run, right| {
+            let polynomial = interpolant(&points(run.offset, &run.basis), &run.word);
+            let bound = polynomial.len() >> run.parameters.rate;
+            match polynomial[bound..].iter().all(|&coefficient| coefficient == 0) {
+                true => right,
+                false => Proved { answer: degree_too_high(run.last.len() as u64), ..right },
+            }
+        })
+        .differs(&[ANY_WORDS, EXCEPTIONAL, SAFE, CASE_J, CASE_J_ALL]),
+    ]
 }
