@@ -15,7 +15,7 @@ fn main() -> ExitCode {
         &compare::transcript::FULL,
     );
     let parts = [
-        compare::field::comparisons(&compare::field::RAZGWILH, &compare::field::FULL),
+        compare::field::comparisons(&compare::field::Field::razgwilh(), compare::field::FULL),
         compare::reed_solomon::comparisons(&Razgwilh, &compare::reed_solomon::FULL),
         compare::fold::comparisons(&Razgwilh, &compare::fold::FULL),
         compare::protocol::comparisons(&Razgwilh, &compare::protocol::FULL),

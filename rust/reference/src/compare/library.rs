@@ -135,3 +135,32 @@ pub fn last_length(call: &Call, _: &mut Outputs) -> Answer {
     let [k, rate, step] = parameters_of(call);
     went_well(razgwilh::last_length(k, rate, step) as u64)
 }
+
+// The field.
+
+pub fn sum(a: u64, b: u64) -> u64 {
+    razgwilh::sum(a, b)
+}
+
+pub fn product(a: u64, b: u64) -> u64 {
+    razgwilh::product(a, b)
+}
+
+pub fn inverse(a: u64) -> Answer {
+    razgwilh::inverse(a).map_or_else(refusal, went_well)
+}
+
+pub fn raw_inverse(a: u64, answer: &mut [u64]) {
+    raw::inverse(a, answer)
+}
+
+// Transcripts.
+
+pub fn judge_transcript(bytes: &[u8]) -> Answer {
+    let verdict = razgwilh::judge_transcript(bytes);
+    verdict.map_or_else(refusal, |verdict| accepted(verdict.reads))
+}
+
+pub fn raw_judge_transcript(bytes: &[u8], answer: &mut [u64]) {
+    raw::judge_transcript(bytes, answer)
+}

@@ -1,125 +1,77 @@
+//! Wrong libraries, and the comparisons that they differ in.
+
 use super::*;
 use crate::answer::NONE;
-use crate::compare::wrong::{self, changed, into_five};
-use std::collections::HashSet;
+use crate::compare::wrong::{changed_at, hold_table, into_five, row, write_what_fits, Row};
 
 /// Few enough to run without optimisation.
-const FEW: Amounts = Amounts { against_reference: 50, doublings: 50, laws: 50, lent_lists: 20 };
+const FEW: usize = 500;
 
-/// The reference in the place of the library.
-const RIGHT: Library = Library {
-    sum: field::sum,
-    product: field::product,
-    inverse: inverse_due,
-    inverse_into: right_inverse_into,
-};
+// The reference in the place of the library, with one function wrong.
 
-fn right_inverse_into(a: u64, answer: &mut [u64]) {
-    into_five(answer, || inverse_due(a));
-}
-
-fn with_sum(sum: fn(u64, u64) -> u64) -> Library {
-    Library { sum, ..RIGHT }
-}
-
-fn with_product(product: fn(u64, u64) -> u64) -> Library {
-    Library { product, ..RIGHT }
-}
-
-fn with_inverse(inverse: fn(u64) -> Answer) -> Library {
-    Library { inverse, ..RIGHT }
-}
-
-fn with_inverse_into(inverse_into: fn(u64, &mut [u64])) -> Library {
-    Library { inverse_into, ..RIGHT }
-}
-
-/// The names of the comparisons that do not agree.
-fn differing(library: &Library) -> Vec<&'static str> {
-    wrong::differing(&comparisons(library, &FEW))
-}
-
-fn smallest(comparison: Comparison) -> String {
-    comparison.difference.expect("a difference").smallest
-}
-
-const SUM: [&str; 2] = ["sum, edge pairs", "sum, random pairs"];
-const PRODUCT: [&str; 2] = ["product, edge pairs", "product, random pairs"];
-const INVERSE: [&str; 2] = ["inverse, edge values", "inverse, random values"];
-const INVERSE_PRODUCT: [&str; 2] = [
-    "product with the inverse is one, edge values",
-    "product with the inverse is one, random values",
-];
-const DOUBLING: [&str; 2] =
-    ["doubling of SP 800-38B, edge values", "doubling of SP 800-38B, random values"];
-const OTHER_LENGTH: [&str; 1] = ["inverse into a list of another length"];
-const FIVE: [&str; 2] =
-    ["inverse into a list of five, edge values", "inverse into a list of five, random values"];
-
-#[test]
-fn the_reference_agrees_with_itself() {
-    assert!(differing(&RIGHT).is_empty());
-}
-
-/// No comparison is there that could not fail.
-#[test]
-fn every_comparison_fails_for_some_wrong_library() {
-    let wrong = [
-        with_sum(u64::wrapping_sub),
-        with_product(dropping::<0>),
-        with_product(|a, b| field::product(a, field::product(b, b)) ^ 1),
-        with_inverse(went_well),
-        with_inverse_into(|_, answer| answer.fill(0)),
-    ];
-    let failed: HashSet<&str> = wrong.iter().flat_map(differing).collect();
-    for comparison in comparisons(&RIGHT, &FEW) {
-        assert!(failed.contains(comparison.name), "{}", comparison.name);
+fn right() -> Field {
+    Field {
+        sum: Box::new(field::sum),
+        product: Box::new(field::product),
+        inverse: Box::new(inverse_due),
+        raw_inverse: Box::new(|a, answer| into_five(answer, || inverse_due(a))),
     }
 }
 
-#[test]
-fn the_names_differ() {
-    let all = comparisons(&RIGHT, &FEW);
-    let names: HashSet<&str> = all.iter().map(|comparison| comparison.name).collect();
-    assert_eq!(names.len(), all.len());
+type Operation = fn(u64, u64) -> u64;
+
+fn wrong_sum(what: &str, sum: Operation, differ: &[&[&str]]) -> Row<Field> {
+    row(format!("sum: {what}"), Field { sum: Box::new(sum), ..right() }).differs(&differ.concat())
 }
 
-#[test]
-fn the_edge_values_hold_what_they_should() {
-    let values: HashSet<u64> = edge_values().into_iter().collect();
-    for value in [0, 1, 2, 3, 7, 0x1b, 1 << 32, (1 << 32) - 1, u64::MAX] {
-        assert!(values.contains(&value));
-    }
-    for place in 0..64 {
-        assert!(values.contains(&(1 << place)));
-        assert!(values.contains(&(u64::MAX >> place)));
-    }
-    assert_eq!(edge_pairs().len(), values.len() * values.len());
+fn wrong_product(what: &str, product: Operation, differ: &[&[&str]]) -> Row<Field> {
+    row(format!("product: {what}"), Field { product: Box::new(product), ..right() })
+        .differs(PRODUCT)
+        .differs(&differ.concat())
 }
 
-// Wrong sums.
-
-#[test]
-fn a_sum_that_carries() {
-    let names = differing(&with_sum(u64::wrapping_add));
-    let law = ["a (b + c) = a b + a c"];
-    assert_eq!(names, [&SUM[..], &law].concat());
+fn wrong_inverse(
+    what: impl Into<String>,
+    inverse: impl Fn(u64) -> Answer + Sync + 'static,
+    differ: &[&[&str]],
+) -> Row<Field> {
+    row(what, Field { inverse: Box::new(inverse), ..right() }).differs(&differ.concat())
 }
 
-#[test]
-fn a_sum_that_depends_on_the_order() {
-    let names = differing(&with_sum(u64::wrapping_sub));
-    let laws = ["a + b = b + a", "(a + b) + c = a + (b + c)", "a (b + c) = a b + a c"];
-    assert_eq!(names, [&SUM[..], &laws].concat());
+fn wrong_list(
+    what: impl Into<String>,
+    raw_inverse: impl Fn(u64, &mut [u64]) + Sync + 'static,
+    differ: &[&[&str]],
+) -> Row<Field> {
+    row(what, Field { raw_inverse: Box::new(raw_inverse), ..right() }).differs(&differ.concat())
 }
 
-#[test]
-fn a_sum_that_is_wrong_for_one_edge_pair() {
-    let wrong = |a, b| field::sum(a, b) ^ u64::from(a == u64::MAX && b == 1 << 63);
-    assert_eq!(differing(&with_sum(wrong)), [SUM[0]]);
-}
+// Comparisons that a mistake shows in.
 
-// Wrong products.
+const SUM: &[&str] = &["sum, edge pairs", "sum, random pairs"];
+const PRODUCT: &[&str] = &["product, edge pairs", "product, random pairs"];
+const INVERSE: &[&str] = &["inverse, edge values", "inverse, random values"];
+const ONE: &[&str] = &["inverse is one, edge values", "inverse is one, random values"];
+const SUM_LAWS: &[&str] = &["a + b = b + a", "(a + b) + c = a + (b + c)"];
+const COMMUTES: &[&str] = &["a b = b a"];
+const ASSOCIATES: &[&str] = &["(a b) c = a (b c)"];
+const DISTRIBUTES: &[&str] = &["a (b + c) = a b + a c"];
+const DOUBLING: &[&str] = &["SP 800-38B, edge values", "SP 800-38B, random values"];
+const CASE_A: &[&str] = &["case A of table A"];
+const CASES: &[&str] = &["case A of table A", "case B of table A"];
+const CASE_C: &[&str] = &["case C of table A"];
+const ZERO: &[&str] = &["inverse, zero"];
+const OTHERS: &[&str] = &["list of another length"];
+const FIVE: &[&str] = &["list of five, edge values", "list of five, random values"];
+
+fn wrong_sums() -> Vec<Row<Field>> {
+    let wrong_for_one = |a, b| a ^ b ^ u64::from([a, b] == [u64::MAX, 1 << 63]);
+    vec![
+        wrong_sum("carries", u64::wrapping_add, &[SUM, DISTRIBUTES]),
+        wrong_sum("depends on the order", u64::wrapping_sub, &[SUM, SUM_LAWS, DISTRIBUTES]),
+        wrong_sum("is wrong for one edge pair", wrong_for_one, &[&SUM[..1]]),
+    ]
+}
 
 /// The product reduced by t^64 and the lower terms given.
 fn product_reduced_by(lower_terms: u64, a: u64, b: u64) -> u64 {
@@ -129,244 +81,110 @@ fn product_reduced_by(lower_terms: u64, a: u64, b: u64) -> u64 {
     })
 }
 
-#[test]
-fn the_product_of_these_tests_is_right_with_the_right_constant() {
-    let right = with_product(|a, b| product_reduced_by(0x1b, a, b));
-    assert!(differing(&right).is_empty());
+fn square(a: u64) -> u64 {
+    field::product(a, a)
 }
 
-/// With another constant the laws of a ring still hold, so they stay silent.
-#[test]
-fn a_product_with_another_reduction_constant() {
-    let wrong = with_product(|a, b| product_reduced_by(0x1d, a, b));
-    let names = [&PRODUCT[..], &INVERSE_PRODUCT, &DOUBLING, &["case A of table A"]];
-    assert_eq!(differing(&wrong), names.concat());
-    assert_eq!(smallest(product_edge(&wrong)), "2, 8000000000000000");
-    assert_eq!(smallest(doubling_edge(&wrong)), "8000000000000000");
-    assert_eq!(smallest(doubling_random(&wrong, &FEW)), "8000000000000000");
+fn wrong_products() -> Vec<Row<Field>> {
+    use field::product;
+    let all = [ONE, DOUBLING, ASSOCIATES, CASES];
+    let few = [DOUBLING, ASSOCIATES];
+    let reduced: Operation = |a, b| product_reduced_by(0x1d, a, b);
+    let cut: Operation = |a, b| product(a & (u64::MAX >> 1), b);
+    vec![
+        // The laws of a ring still hold, so they stay silent.
+        wrong_product("another constant", reduced, &[ONE, DOUBLING, CASE_A])
+            .smallest(PRODUCT[0], "2, 8000000000000000")
+            .smallest(DOUBLING[0], "8000000000000000")
+            .smallest(DOUBLING[1], "8000000000000000"),
+        wrong_product("an argument cut", cut, &[ONE, COMMUTES, ASSOCIATES, CASE_A])
+            .smallest(PRODUCT[0], "8000000000000000, 1")
+            .smallest(PRODUCT[1], "8000000000000000, 1"),
+        wrong_product("no bit 0", |a, b| product(a, b) & !1, &all).smallest(PRODUCT[0], "1, 1"),
+        wrong_product("no bit 31", |a, b| product(a, b) & !(1 << 31), &few)
+            .smallest(PRODUCT[0], "1, 80000000"),
+        wrong_product("no bit 32", |a, b| product(a, b) & !(1 << 32), &few)
+            .smallest(PRODUCT[0], "1, 100000000"),
+        wrong_product("no bit 63", |a, b| product(a, b) & !(1 << 63), &few)
+            .smallest(PRODUCT[0], "1, 8000000000000000"),
+        wrong_product("carries", u64::wrapping_mul, &[ONE, DOUBLING, DISTRIBUTES, CASES]),
+        wrong_product("a factor squared", |a, b| product(a, square(b)), &all).differs(COMMUTES),
+        // It commutes and distributes.
+        wrong_product("the square", |a, b| square(product(a, b)), &[DOUBLING, ASSOCIATES, CASES]),
+        wrong_product("one more", |a, b| product(a, b) ^ 1, &all).differs(DISTRIBUTES),
+    ]
 }
 
-#[test]
-fn a_product_that_drops_the_top_bit_of_an_argument() {
-    let wrong = with_product(|a, b| field::product(a & (u64::MAX >> 1), b));
-    let names = differing(&wrong);
-    assert!(PRODUCT.iter().all(|name| names.contains(name)));
-    assert!(names.contains(&"a b = b a"));
-    assert!(names.contains(&"case A of table A"));
-    assert_eq!(smallest(product_edge(&wrong)), "8000000000000000, 1");
-    assert_eq!(smallest(product_random(&wrong, &FEW)), "8000000000000000, 1");
-}
-
-/// The product without one bit of the answer.
-fn dropping<const BIT: u32>(a: u64, b: u64) -> u64 {
-    field::product(a, b) & !(1 << BIT)
-}
-
-#[test]
-fn a_product_that_drops_a_bit_of_the_answer() {
-    let smallest_of = |wrong| smallest(product_edge(&with_product(wrong)));
-    assert_eq!(smallest_of(dropping::<0>), "1, 1");
-    assert_eq!(smallest_of(dropping::<31>), "1, 80000000");
-    assert_eq!(smallest_of(dropping::<32>), "1, 100000000");
-    assert_eq!(smallest_of(dropping::<63>), "1, 8000000000000000");
-}
-
-#[test]
-fn a_product_that_drops_the_lowest_bit_of_the_answer() {
-    let names = differing(&with_product(dropping::<0>));
-    assert!(PRODUCT.iter().all(|name| names.contains(name)));
-    assert!(INVERSE_PRODUCT.iter().all(|name| names.contains(name)));
-    assert!(names.contains(&"case A of table A"));
-    assert!(names.contains(&"case B of table A"));
-}
-
-#[test]
-fn a_product_that_carries() {
-    let names = differing(&with_product(u64::wrapping_mul));
-    assert!(PRODUCT.iter().all(|name| names.contains(name)));
-    assert!(DOUBLING.iter().all(|name| names.contains(name)));
-    assert!(names.contains(&"case B of table A"));
-}
-
-#[test]
-fn a_product_that_does_not_commute() {
-    let wrong = with_product(|a, b| field::product(a, field::product(b, b)));
-    assert!(differing(&wrong).contains(&"a b = b a"));
-}
-
-/// The square of the product commutes and distributes.
-#[test]
-fn a_product_that_does_not_associate() {
-    let wrong = with_product(|a, b| {
-        let right = field::product(a, b);
-        field::product(right, right)
-    });
-    let names = differing(&wrong);
-    assert!(names.contains(&"(a b) c = a (b c)"));
-    assert!(!names.contains(&"a b = b a"));
-    assert!(!names.contains(&"a (b + c) = a b + a c"));
-}
-
-#[test]
-fn a_product_that_does_not_distribute() {
-    let wrong = with_product(|a, b| field::product(a, b) ^ 1);
-    assert!(differing(&wrong).contains(&"a (b + c) = a b + a c"));
-}
-
-// Wrong inverses.
-
-#[test]
-fn an_inverse_that_answers_its_argument() {
-    let names = differing(&with_inverse(went_well));
-    let all = [&["inverse, zero"], &INVERSE[..], &INVERSE_PRODUCT, &["case C of table A"]];
-    assert_eq!(names, all.concat());
-}
-
-/// The inverse with one of the five numbers changed.
-fn changed_inverse<const PLACE: usize>(a: u64) -> Answer {
-    changed::<PLACE>(inverse_due(a))
-}
-
-fn changed_for_zero<const PLACE: usize>(a: u64) -> Answer {
-    if a == 0 {
-        changed_inverse::<PLACE>(a)
-    } else {
-        inverse_due(a)
-    }
-}
-
-#[test]
-fn an_inverse_with_one_of_the_five_numbers_wrong() {
-    let wrong: [fn(u64) -> Answer; 5] = [
-        changed_inverse::<0>,
-        changed_inverse::<1>,
-        changed_inverse::<2>,
-        changed_inverse::<3>,
-        changed_inverse::<4>,
-    ];
-    for library in wrong.map(with_inverse) {
-        assert!(!inverse_zero(&library).agrees());
-        assert!(!inverse_edge(&library).agrees());
-        assert!(!inverse_random(&library, &FEW).agrees());
-        assert!(!case_c(&library).agrees());
-    }
-}
-
-#[test]
-fn an_inverse_of_zero_with_one_of_the_five_numbers_wrong() {
-    let wrong: [fn(u64) -> Answer; 5] = [
-        changed_for_zero::<0>,
-        changed_for_zero::<1>,
-        changed_for_zero::<2>,
-        changed_for_zero::<3>,
-        changed_for_zero::<4>,
-    ];
-    for library in wrong.map(with_inverse) {
-        assert!(!inverse_zero(&library).agrees());
-        assert_eq!(smallest(inverse_edge(&library)), "0");
-        assert!(inverse_random(&library, &FEW).agrees());
-    }
-}
-
-/// As a raw number all ones may be a value or stand for none.
-#[test]
-fn an_inverse_that_is_all_ones_is_taken_for_none() {
-    let wrong = with_inverse(|a| {
+fn wrong_inverses() -> Vec<Row<Field>> {
+    // As a raw number all ones may be a value or stand for none.
+    let all_ones_is_none = |a| {
         let due = inverse_due(a);
-        let value = due.value.filter(|&x| x != NONE);
-        Answer { value, ..due }
-    });
-    assert_eq!(differing(&wrong), [INVERSE[0], INVERSE_PRODUCT[0]]);
-    let input = field::inverse(u64::MAX).unwrap();
-    assert_eq!(smallest(inverse_edge(&wrong)), format!("{input:x}"));
-}
-
-#[test]
-fn an_inverse_that_refuses_everything() {
-    let names = differing(&with_inverse(|_| refused(15)));
-    let all = [&INVERSE[..], &INVERSE_PRODUCT, &["case C of table A"]];
-    assert_eq!(names, all.concat());
-}
-
-// Wrong lists.
-
-#[test]
-fn a_list_of_six_is_written_to() {
-    let wrong = with_inverse_into(|a, answer| {
-        if answer.len() >= 5 {
-            answer[..5].copy_from_slice(&raw(&inverse_due(a)));
-        }
-    });
-    assert_eq!(differing(&wrong), OTHER_LENGTH);
-    let comparison = lent_other_lengths(&wrong);
-    assert!(smallest(comparison).starts_with("0, with a list of length 6 "));
-}
-
-#[test]
-fn a_list_that_is_too_short_is_written_to() {
-    let wrong = with_inverse_into(|a, answer| {
-        let written = answer.len().min(5);
-        if answer.len() <= 5 {
-            answer.copy_from_slice(&raw(&inverse_due(a))[..written]);
-        }
-    });
-    assert_eq!(differing(&wrong), OTHER_LENGTH);
-    let comparison = lent_other_lengths(&wrong);
-    assert!(smallest(comparison).starts_with("0, with a list of length 1 "));
-}
-
-/// Writes all numbers but one.
-fn leaving<const PLACE: usize>(a: u64, answer: &mut [u64]) {
-    if answer.len() == 5 {
-        let left = answer[PLACE];
-        right_inverse_into(a, answer);
-        answer[PLACE] = left;
+        Answer { value: due.value.filter(|&x| x != NONE), ..due }
+    };
+    let mut rows = vec![
+        wrong_inverse("is its argument", went_well, &[ZERO, INVERSE, ONE, CASE_C]),
+        wrong_inverse("is refused", |_| refused(15), &[INVERSE, ONE, CASE_C]),
+        wrong_inverse("all ones is none", all_ones_is_none, &[&INVERSE[..1], &ONE[..1]])
+            .smallest(INVERSE[0], field::inverse(u64::MAX).show()),
+    ];
+    for place in 0..5 {
+        // A wrong value shows in a product as well.
+        let products = if place == 4 { ONE } else { &[] };
+        let always = move |a| changed_at(place, inverse_due(a));
+        let for_zero = move |a| if a == 0 { always(a) } else { inverse_due(a) };
+        let (what, edge) = (format!("number {place} is wrong"), &products[..products.len() / 2]);
+        rows.extend([
+            wrong_inverse(format!("{what} for 0"), for_zero, &[ZERO, &INVERSE[..1], edge])
+                .smallest(INVERSE[0], "0"),
+            wrong_inverse(what, always, &[ZERO, INVERSE, products, CASE_C]),
+        ]);
     }
+    rows
 }
 
-#[test]
-fn a_number_is_left_unwritten() {
-    let wrong: [fn(u64, &mut [u64]); 5] =
-        [leaving::<0>, leaving::<1>, leaving::<2>, leaving::<3>, leaving::<4>];
-    for library in wrong.map(with_inverse_into) {
-        assert_eq!(differing(&library), FIVE);
-    }
-}
-
-#[test]
-fn nothing_is_ever_written() {
-    assert_eq!(differing(&with_inverse_into(|_, _| ())), FIVE);
-}
-
-#[test]
-fn zero_is_written_for_a_value_there_is_none_of() {
-    let wrong = with_inverse_into(|a, answer| {
-        right_inverse_into(a, answer);
-        if answer.len() == 5 && a == 0 {
-            answer[4] = 0;
+fn wrong_lists() -> Vec<Row<Field>> {
+    let written_if = |may_be: fn(usize) -> bool| {
+        move |a, answer: &mut [u64]| {
+            if may_be(answer.len()) {
+                write_what_fits(inverse_due(a), answer);
+            }
         }
-    });
-    assert_eq!(differing(&wrong), FIVE[..1]);
+    };
+    let zero_for_none = |a, answer: &mut [u64]| {
+        let due = inverse_due(a);
+        into_five(answer, || Answer { value: due.value.or(Some(0)), ..due });
+    };
+    let mut rows = vec![
+        wrong_list("a longer list is written to", written_if(|length| length >= 5), &[OTHERS])
+            .smallest(OTHERS[0], "0; answer of length 6, "),
+        wrong_list("a shorter list is written to", written_if(|length| length <= 5), &[OTHERS])
+            .smallest(OTHERS[0], "0; answer of length 1, "),
+        wrong_list("zeros everywhere", |_, answer| answer.fill(0), &[OTHERS, FIVE]),
+        wrong_list("nothing is ever written", |_, _| (), &[FIVE]),
+        wrong_list("zero for no value", zero_for_none, &[&FIVE[..1]]),
+    ];
+    for place in 0..5 {
+        let leaving = move |a, answer: &mut [u64]| {
+            let before = answer.to_vec();
+            into_five(answer, || inverse_due(a));
+            answer.iter_mut().zip(before).skip(place).take(1).for_each(|(n, left)| *n = left);
+        };
+        rows.push(wrong_list(format!("number {place} is left unwritten"), leaving, &[FIVE]));
+    }
+    rows
 }
 
-/// A safe function cannot write beside its list, so the writer that does stands
-/// where the library is called.
 #[test]
-fn a_number_beside_the_list_is_written_to() {
-    for length in [0, 1, 4, 5, 6, 64] {
-        for call in lent_lists([0, 2], length) {
-            let before = |answer: &mut Lent| {
-                right_inverse_into(call.a, answer.list());
-                answer.numbers[answer.list.start - 1] = NONE;
-            };
-            let behind = |answer: &mut Lent| {
-                right_inverse_into(call.a, answer.list());
-                answer.numbers[answer.list.end] = 0;
-            };
-            let due = after_reference(&call);
-            assert!(after_library(&call, &RIGHT) == due);
-            assert!(after(&call, before) != due);
-            assert!(after(&call, behind) != due);
-        }
-    }
+fn wrong_libraries_differ_as_they_should() {
+    let rows = [wrong_sums(), wrong_products(), wrong_inverses(), wrong_lists()];
+    let rows: Vec<Row<Field>> = rows.into_iter().flatten().collect();
+    hold_table(&right(), &rows, |library| comparisons(library, FEW));
+}
+
+/// With the right constant the product of these tests is right.
+#[test]
+fn the_reduction_constant_decides() {
+    let product = Box::new(|a, b| product_reduced_by(0x1b, a, b));
+    let compared = comparisons(&Field { product, ..right() }, FEW);
+    assert!(compared.iter().all(Comparison::agrees));
 }
