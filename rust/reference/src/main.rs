@@ -10,10 +10,8 @@ use std::process::ExitCode;
 
 fn main() -> ExitCode {
     // Each part of the library has a file of its own under `compare`.
-    let transcripts = compare::transcript::comparisons(
-        &compare::transcript::RAZGWILH,
-        &compare::transcript::FULL,
-    );
+    let judges = compare::transcript::Judges::razgwilh();
+    let transcripts = compare::transcript::comparisons(&judges, &compare::transcript::FULL);
     let parts = [
         compare::field::comparisons(&compare::field::Field::razgwilh(), compare::field::FULL),
         compare::reed_solomon::comparisons(&Razgwilh, &compare::reed_solomon::FULL),

@@ -1,57 +1,384 @@
-//! The byte strings that are compared: whole transcripts, broken ones, those with
-//! values that are refused, long ones, and those with several causes.
+//! The byte strings that are compared: transcripts of what is judged over lists, what is made of
+//! the sections of honest transcripts, and any bytes.
 
-pub mod broken;
-pub mod limit;
-pub mod refused;
-pub mod several;
-pub mod whole;
+mod causes;
+mod limit;
 
-use super::bytes::Bytes;
-use super::Amounts;
-use crate::compare::protocol::call::Call;
-use crate::compare::protocol::inputs::{any_queries, right};
+use super::{Amounts, Bytes};
+use crate::cases::{of_case_f, of_case_k};
+use crate::compare::cosets::{self, Bases};
+use crate::compare::protocol::inputs::{any_queries, damaged, known, queries, right};
 use crate::parameters::{all_up_to, Parameters};
 use crate::random::Random;
-use crate::transcript::{sections, written, Section};
+use crate::transcript::{sections, transcript, written, Judging, Section};
+use Source::{EachSection, Lists, Made, Others, Turns};
 
-fn of_calls(calls: impl IntoIterator<Item = Call>) -> Vec<Bytes> {
-    calls.into_iter().map(|call| Bytes::of(&call)).collect()
+/// Byte strings of one sort, which are given to the library and to the program: their name, and
+/// where they come from.
+pub struct Sort(pub &'static str, Source);
+
+enum Source {
+    /// What is judged over lists, so many times for the dimensions from 2 to 7, with all the rates
+    /// and steps that each takes.
+    Turns([usize; 6], fn(&mut Random, &[usize]) -> Vec<Judging>),
+    /// What is judged over lists, up to a dimension.
+    Lists(u64, fn(Random, u64) -> Vec<Judging>),
+    /// What is made of an honest transcript, for all parameters up to a dimension.
+    Made(u64, fn(&mut Random, &[Section]) -> Vec<Bytes>),
+    /// Such a transcript with each section, by its place, made each of others.
+    EachSection(u64, fn(usize, &Section) -> Vec<Section>),
+    Others(fn(&mut Random, &Amounts) -> Vec<Bytes>),
 }
 
-/// How many queries the transcripts have that others are made of.
-const QUERIES: usize = 3;
+pub const SORTS: [Sort; 27] = [
+    Sort("honest runs", Turns([84, 42, 21, 12, 7, 5], right::honest_with_queries)),
+    Sort(
+        "honest runs of large parameters",
+        Others(|random, amounts| honest(random, &amounts.large())),
+    ),
+    Sort(
+        "honest runs of the largest parameters",
+        Others(|random, amounts| honest(random, &amounts.largest())),
+    ),
+    Sort("honest folds of too high a degree", Turns([42, 21, 12, 7, 4, 2], right::of_high_degrees)),
+    Sort(
+        "each entry damaged, each query alone",
+        Lists(4, |random, k| damaged::with_each_query(random, k).collect()),
+    ),
+    Sort(
+        "each entry damaged, all queries",
+        Lists(5, |random, k| damaged::with_all_queries(random, k).collect()),
+    ),
+    Sort("some entries damaged", Turns([12, 12, 7, 4, 2, 1], damaged::some)),
+    Sort("some entries of large parameters damaged", Others(some_of_large)),
+    Sort("another challenge", Turns([42, 21, 12, 7, 4, 2], damaged::other_challenges)),
+    Sort("cut at every byte", Made(4, cut_at_every_byte)),
+    Sort("cut near every section", Made(6, cut_near_every_section)),
+    Sort("bytes behind the last section", Made(4, with_bytes_behind)),
+    Sort("another count", EachSection(4, other_counts)),
+    Sort("fewer or more entries", EachSection(4, other_entries)),
+    Sort("sections out of order", Made(4, with_sections_out_of_order)),
+    Sort("every bit flipped", Others(with_a_bit_flipped)),
+    Sort("any bytes", Others(any)),
+    Sort("any bytes behind a right front", Made(4, any_behind_a_front)),
+    Sort("any entries", Made(4, any_entries)),
+    Sort("a parameter out of range", EachSection(4, parameters_out_of_range)),
+    Sort("all parameters", EachSection(2, all_parameters)),
+    Sort("a dependent basis", Others(with_a_dependent_basis)),
+    Sort(
+        "counts of queries",
+        Turns([1, 1, 1, 0, 0, 0], |random, turns| {
+            [queries::of_all_counts(random, turns), queries::repeated(random, turns)].concat()
+        }),
+    ),
+    Sort(
+        "queries out of range",
+        Turns([1, 1, 0, 0, 0, 0], |random, turns| {
+            [queries::out_of_range(random, turns), queries::several_out_of_range(random, turns)]
+                .concat()
+        }),
+    ),
+    Sort("powers of two as queries", EachSection(4, powers_of_two_as_queries)),
+    Sort("several causes", Others(causes::several)),
+    Sort("lengths near the limit and far longer", Others(limit::near_the_limit)),
+];
 
-/// The sections of an honest run. Its basis, offset and challenges are of another
-/// sort in each turn.
-fn honest_sections(random: &mut Random, parameters: Parameters, turn: usize) -> Vec<Section> {
-    let run = right::honest(random, parameters, turn);
-    sections(&run, &any_queries(random, parameters, QUERIES))
+impl Sort {
+    pub fn byte_strings(&self, amounts: &Amounts) -> Vec<Bytes> {
+        let random = &mut Random::named(self.0);
+        let up_to = |k: u64| k.min(amounts.largest_k);
+        match self.1 {
+            Turns(turns, judgings) => of(judgings(random, &amounts.turns_of(turns))),
+            Lists(k, judgings) => of(judgings(another(random), up_to(k))),
+            Made(k, make) => of_each(random, up_to(k), make),
+            EachSection(k, others) => {
+                of_each(random, up_to(k), |_, sections| with_each_section(sections, others))
+            }
+            Others(inputs) => inputs(random, amounts),
+        }
+    }
 }
 
-/// Those of one run for all parameters up to a dimension.
-fn small(random: &mut Random, largest_k: u64) -> Vec<Vec<Section>> {
-    let all = all_up_to(largest_k).into_iter().enumerate();
-    let one = |(turn, parameters)| honest_sections(random, parameters, turn);
-    all.map(one).collect()
+impl Amounts {
+    /// The turns of each dimension, from 0 on.
+    fn turns_of(&self, from_2_on: [usize; 6]) -> Vec<usize> {
+        let mut turns = [&[0, 0], &from_2_on[..]].concat();
+        turns.truncate(self.largest_k as usize + 1);
+        turns.iter().map(|&turns| turns.min(self.turns)).collect()
+    }
+
+    fn large(&self) -> Vec<Parameters> {
+        let mut all = all_up_to(*self.large.end());
+        all.retain(|parameters| self.large.contains(&parameters.k));
+        all
+    }
+
+    fn largest(&self) -> Vec<Parameters> {
+        self.largest.iter().map(|&[k, rate, step]| Parameters { k, rate, step }).collect()
+    }
 }
 
-/// The transcript after a change.
-fn changed(sections: &[Section], change: impl FnOnce(&mut [Section])) -> Bytes {
-    let mut changed = sections.to_vec();
-    change(&mut changed);
-    Bytes(written(&changed))
+/// The transcripts.
+fn of(judgings: impl IntoIterator<Item = Judging>) -> Vec<Bytes> {
+    judgings.into_iter().map(|Judging { run, queries }| transcript(&run, &queries)).collect()
 }
 
-/// Any bytes.
-fn any_bytes(random: &mut Random, length: usize) -> Vec<u8> {
-    (0..length).map(|_| random.number() as u8).collect()
+/// A generator for inputs that keep theirs.
+fn another(random: &mut Random) -> Random {
+    Random::seeded(random.number())
+}
+
+/// An honest transcript of each, with a few queries.
+fn honest(random: &mut Random, all: &[Parameters]) -> Vec<Bytes> {
+    let one = |&parameters: &Parameters| {
+        let run = known::honest(random, parameters);
+        let count = 1 + random.below(8);
+        transcript(&run, &any_queries(random, parameters, count))
+    };
+    all.iter().map(one).collect()
+}
+
+fn some_of_large(random: &mut Random, amounts: &Amounts) -> Vec<Bytes> {
+    let parameters = [amounts.large(), amounts.largest()].concat();
+    of(damaged::some_of_large(another(random), &parameters, 1))
 }
 
 // Places of the sections, in a list of them.
 
-const OF_THE_PARAMETERS: usize = 0;
-const OF_THE_COSET: usize = 1;
-const OF_THE_CHALLENGES: usize = 2;
-const OF_THE_QUERIES: usize = 3;
-const OF_THE_WORD: usize = 4;
+const PARAMETERS: usize = 0;
+const COSET: usize = 1;
+const CHALLENGES: usize = 2;
+const QUERIES: usize = 3;
+const WORD: usize = 4;
+
+// What is made of the sections of an honest transcript.
+
+/// The sections of an honest run with three queries. Its basis, offset and challenges are of
+/// another sort in each turn.
+fn honest_sections(random: &mut Random, parameters: Parameters, turn: usize) -> Vec<Section> {
+    let run = right::honest(random, parameters, turn);
+    sections(&run, &any_queries(random, parameters, 3))
+}
+
+/// What is made of one for all parameters up to a dimension.
+fn of_each(
+    random: &mut Random,
+    largest_k: u64,
+    make: impl Fn(&mut Random, &[Section]) -> Vec<Bytes>,
+) -> Vec<Bytes> {
+    let all = all_up_to(largest_k).into_iter().enumerate();
+    let one = |(turn, parameters)| {
+        let sections = honest_sections(random, parameters, turn);
+        make(random, &sections)
+    };
+    all.flat_map(one).collect()
+}
+
+/// The transcript after a change.
+fn changed(sections: &[Section], change: impl FnOnce(&mut Vec<Section>)) -> Bytes {
+    let mut changed = sections.to_vec();
+    change(&mut changed);
+    written(&changed)
+}
+
+fn cut_at_every_byte(_: &mut Random, sections: &[Section]) -> Vec<Bytes> {
+    let bytes = written(sections);
+    (0..bytes.len()).map(|length| bytes[..length].to_vec()).collect()
+}
+
+/// Cut in every count, next to it, and near the ends of the entries behind it.
+fn cut_near_every_section(_: &mut Random, sections: &[Section]) -> Vec<Bytes> {
+    let bytes = written(sections);
+    let starts = (0..sections.len()).map(|place| written(&sections[..place]).len());
+    let near = starts.flat_map(|start| start.saturating_sub(9)..=start + 13);
+    near.filter(|&length| length < bytes.len()).map(|length| bytes[..length].to_vec()).collect()
+}
+
+/// Zeros, ones and any bytes, the whole or its last section once more, and an empty section.
+fn with_bytes_behind(random: &mut Random, sections: &[Section]) -> Vec<Bytes> {
+    let bytes = written(sections);
+    let last = written(&sections[sections.len() - 1..]);
+    let mut behind = vec![bytes.clone(), last, written(&[Section::of(&[])])];
+    for length in (1..=16).chain([24, 100, 1_000]) {
+        behind.extend([vec![0; length], vec![0xff; length], any_bytes(random, length)]);
+    }
+    behind.into_iter().map(|behind| [&bytes[..], &behind].concat()).collect()
+}
+
+/// A section left out, one that is there twice, and two next to each other the other way round.
+fn with_sections_out_of_order(_: &mut Random, sections: &[Section]) -> Vec<Bytes> {
+    let mut all = Vec::new();
+    for (place, section) in sections.iter().enumerate() {
+        all.push(changed(sections, |all| drop(all.remove(place))));
+        all.push(changed(sections, |all| all.insert(place, section.clone())));
+        if place > 0 {
+            all.push(changed(sections, |all| all.swap(place - 1, place)));
+        }
+    }
+    all
+}
+
+/// The right counts, and any entries in one section and in all behind it.
+fn any_entries(random: &mut Random, sections: &[Section]) -> Vec<Bytes> {
+    let mut from = |first| {
+        changed(sections, |all| {
+            for section in &mut all[first..] {
+                section.entries = random.list(section.entries.len());
+            }
+        })
+    };
+    (1..sections.len()).map(&mut from).collect()
+}
+
+/// The beginning of a transcript, at every number and in some, and then other bytes: a few of
+/// them, or as many as were cut.
+fn any_behind_a_front(random: &mut Random, sections: &[Section]) -> Vec<Bytes> {
+    let bytes = written(sections);
+    let mut all = Vec::new();
+    for place in (0..bytes.len()).step_by(4) {
+        let front = &bytes[..place + random.below(2) * random.below(4)];
+        let (few, left) = (1 + random.below(40), bytes.len() - front.len());
+        let others = [any_bytes(random, few), any_bytes(random, left), mostly_zeros(random, left)];
+        all.extend(others.map(|behind| [front, &behind].concat()));
+    }
+    all
+}
+
+// What a section is made.
+
+fn with_each_section(
+    sections: &[Section],
+    others: fn(usize, &Section) -> Vec<Section>,
+) -> Vec<Bytes> {
+    let made = |place| {
+        let others = others(place, &sections[place]).into_iter();
+        others.map(move |other| changed(sections, |all| all[place] = other))
+    };
+    (0..sections.len()).flat_map(made).collect()
+}
+
+/// With the entries left as they were. The counts are near, far too many, and such that only some
+/// of their bits are right. Where 32 bits hold the number of bytes, 2^29 more entries are none.
+fn other_counts(_: usize, section: &Section) -> Vec<Section> {
+    let count = section.count;
+    let near = [0, 1, 2, 3, 4, count.wrapping_sub(1), count + 1, 2 * count];
+    let with_bit = [8, 16, 24, 28, 29, 30, 31].map(|bit| count + (1 << bit));
+    let far = [8, 16, 24, 29, 31].map(|bit| 1 << bit);
+    let most = [255, 257, u32::MAX - 1, u32::MAX, count.swap_bytes()];
+    let all = [&near[..], &with_bit, &far, &most].concat().into_iter();
+    let others = all.filter(|&other| other != count);
+    others.map(|count| Section { count, ..section.clone() }).collect()
+}
+
+/// Fewer or more of them, with their count.
+fn other_entries(_: usize, section: &Section) -> Vec<Section> {
+    let entries = &section.entries[..];
+    let twice = [entries, &vec![2; entries.len()]].concat();
+    [&[], &entries[1..], &[entries, &[1]].concat(), &twice].map(Section::of).to_vec()
+}
+
+/// The largest dimension, rate and step.
+const LARGEST: [u64; 3] = [20, 6, 3];
+
+fn parameters_out_of_range(place: usize, section: &Section) -> Vec<Section> {
+    let mut all = Vec::new();
+    for which in (0..3).filter(|_| place == PARAMETERS) {
+        for number in out_of_range(which, section.entries[which]) {
+            let mut other = section.clone();
+            other.entries[which] = number;
+            all.push(other);
+        }
+    }
+    all
+}
+
+/// Zero, the least above the range, the most, and some that have a right one in some of their
+/// bits.
+fn out_of_range(which: usize, right: u64) -> Vec<u64> {
+    let with_bit = [5, 6, 7, 8, 16, 31, 32, 33, 48, 62, 63].map(|bit| right + (1 << bit));
+    let moved = [8, 16, 32, 56].map(|bits| right << bits);
+    let edges = [0, LARGEST[which] + 1, LARGEST[which] + 2, 255, 256, 1 << 32, 1 << 63];
+    let most = [u64::MAX >> 32, u64::MAX >> 1, u64::MAX - 1, u64::MAX];
+    [&with_bit[..], &moved, &edges, &most].concat()
+}
+
+/// All in range, and those next to the ranges. What follows is right for its own ones alone.
+fn all_parameters(place: usize, _: &Section) -> Vec<Section> {
+    let [largest_k, largest_rate, largest_step] = LARGEST;
+    let mut all = Vec::new();
+    for k in (0..=largest_k + 1).filter(|_| place == PARAMETERS) {
+        for rate in 0..=largest_rate + 1 {
+            all.extend((0..=largest_step + 1).map(|step| Section::of(&[k, rate, step])));
+        }
+    }
+    all
+}
+
+/// Each alone.
+fn powers_of_two_as_queries(place: usize, _: &Section) -> Vec<Section> {
+    let bits = (0..u64::BITS).filter(|_| place == QUERIES);
+    bits.map(|bit| Section::of(&[1 << bit])).collect()
+}
+
+/// Zeros, repeated elements and sums of earlier ones, at every place, and two of these.
+fn with_a_dependent_basis(random: &mut Random, amounts: &Amounts) -> Vec<Bytes> {
+    let sorts: [Bases; 4] = [
+        cosets::with_zero_elements,
+        cosets::with_repeated_elements,
+        cosets::with_sums_of_elements,
+        cosets::dependent_at_two_places,
+    ];
+    let dimensions = 2..=amounts.largest_k as usize;
+    let bases = sorts.map(|bases| bases(random, dimensions.clone())).concat();
+    let over = |basis: Vec<u64>| {
+        let mut parameters = all_up_to(basis.len() as u64);
+        parameters.retain(|parameters| parameters.k == basis.len() as u64);
+        let chosen = parameters[random.below(parameters.len())];
+        let sections = honest_sections(random, chosen, 0);
+        changed(&sections, |all| all[COSET].entries[1..].copy_from_slice(&basis))
+    };
+    bases.into_iter().map(over).collect()
+}
+
+// Bits and bytes.
+
+/// Every single bit, of cases G and K of table A and of runs of other parameters.
+fn with_a_bit_flipped(random: &mut Random, amounts: &Amounts) -> Vec<Bytes> {
+    let mut all = vec![transcript(&of_case_f(), &[0, 3]), transcript(&of_case_k(), &[5])];
+    for (turn, [k, rate, step]) in [[3, 1, 2], [4, 1, 2], [4, 1, 3]].into_iter().enumerate() {
+        if k <= amounts.largest_k {
+            let parameters = Parameters { k, rate, step };
+            all.push(written(&honest_sections(random, parameters, turn + 1)));
+        }
+    }
+    all.into_iter().flat_map(each_bit_flipped).collect()
+}
+
+fn each_bit_flipped(bytes: Bytes) -> impl Iterator<Item = Bytes> {
+    (0..8 * bytes.len()).map(move |bit| {
+        let mut flipped = bytes.clone();
+        flipped[bit / 8] ^= 1 << (bit % 8);
+        flipped
+    })
+}
+
+fn any_bytes(random: &mut Random, length: usize) -> Bytes {
+    (0..length).map(|_| random.number() as u8).collect()
+}
+
+/// Bytes that more often look like counts and small entries.
+fn mostly_zeros(random: &mut Random, length: usize) -> Bytes {
+    let byte = |_| match random.below(8) {
+        0 => random.below(5) as u8,
+        _ => 0,
+    };
+    (0..length).map(byte).collect()
+}
+
+/// Of every length up to one, and of some longer ones.
+fn any(random: &mut Random, amounts: &Amounts) -> Vec<Bytes> {
+    let lengths = (0..=amounts.turns.min(300)).chain([512, 1_000, 4_096, 10_000]);
+    let of_length =
+        |length| [any_bytes(random, length), mostly_zeros(random, length), vec![0; length]];
+    lengths.flat_map(of_length).collect()
+}

@@ -1,136 +1,63 @@
-//! Wrong libraries and wrong programs, and the comparisons that they differ in. No
-//! program is started here: a function stands for it.
+//! Wrong libraries and wrong programs, and the comparisons that they differ in. No program is
+//! started here: a function stands for it.
 
-mod answers;
-mod programs;
 mod readers;
 
 use super::*;
-use crate::answer::refused;
-use crate::compare::wrong::{self, into_five, smallest};
-use std::collections::HashSet;
+use crate::answer::{accepted, refused, refused_at};
+use crate::compare::wrong::{changed_at, hold_table, into_five, row, write_what_fits, Row};
+use crate::transcript::LARGEST_INPUT;
+use std::collections::BTreeSet;
+use std::sync::LazyLock;
 
-/// Few and small, since every wrong judge is compared with many of them.
-pub(super) const FEW: Amounts = Amounts {
-    honest: [0, 0, 7, 4, 2, 0, 0, 0],
-    large: 5..=5,
-    largest: &[with(6, 1, 1)],
-    high_degrees: [0, 0, 4, 4, 2, 0, 0, 0],
-    each_damaged: [2, 3],
-    damaged: [0, 0, 2, 2, 2, 0, 0, 0],
-    other_challenges: [0, 0, 2, 2, 2, 0, 0, 0],
-    small: 3,
-    cut_near_sections: 4,
-    flipped: &[],
-    any_bytes: 40,
-    dependent: 4,
-    query_counts: [0, 0, 1, 0, 0, 0, 0, 0],
-    outside: [0, 0, 1, 0, 0, 0, 0, 0],
-    several_causes: (1, 60),
-};
+/// Few and small, since every wrong judge is compared with them.
+const FEW: Amounts = Amounts { turns: 2, largest_k: 3, large: 4..=4, largest: &[[5, 1, 1]] };
 
-pub(super) fn number(Bytes(bytes): &Bytes) -> u64 {
-    transcript::judge(bytes).number
+// The reference in the place of the library and of the program, with a mistake.
+
+/// A library and a program that judge so. The limit of the program is right.
+fn judging(judge: impl Fn(&[u8]) -> Answer + Clone + Sync + 'static) -> Judges {
+    let [by_value, by_list, printing] = [judge.clone(), judge.clone(), judge];
+    Judges {
+        judge: Box::new(by_value),
+        raw_judge: Box::new(move |bytes, answer| into_five(answer, || by_list(bytes))),
+        program: Box::new(move |bytes| match bytes.len() {
+            ..=LARGEST_INPUT => lines(&printing(bytes)).into_bytes(),
+            _ => right_program(bytes),
+        }),
+    }
 }
 
-// The reference in the place of the library and of the program.
-
-const RIGHT: Judges = Judges {
-    judge: transcript::judge,
-    judge_into: |bytes, answer| into_five(answer, || transcript::judge(bytes)),
-    program: right_program,
-};
+fn right() -> Judges {
+    judging(judge)
+}
 
 fn right_program(bytes: &[u8]) -> Vec<u8> {
     lines(&judge_of_program(bytes)).into_bytes()
 }
 
-/// What a program prints that judges so.
-fn program_of(judge: Judge, bytes: &[u8]) -> Vec<u8> {
-    let answer = match judge_of_program(bytes).number {
-        14 => refused(14),
-        _ => judge(bytes),
-    };
-    lines(&answer).into_bytes()
+/// Judges that give another answer in place of those with some numbers.
+fn instead_of(
+    numbers: impl IntoIterator<Item = u64>,
+    other: impl Fn(&[u8], Answer) -> Answer + Clone + Sync + 'static,
+) -> Judges {
+    let numbers: Vec<u64> = numbers.into_iter().collect();
+    judging(move |bytes| match judge(bytes) {
+        answer if numbers.contains(&answer.number) => other(bytes, answer),
+        answer => answer,
+    })
 }
 
-// Judges of which the library and the program are wrong alike, or the program alone.
-// They are macros because functions of a library cannot hold anything.
-
-macro_rules! with_judge {
-    ($judge:expr) => {
-        Judges {
-            judge: $judge,
-            judge_into: |bytes, answer| {
-                let judge: Judge = $judge;
-                into_five(answer, || judge(bytes))
-            },
-            program: |bytes| program_of($judge, bytes),
-        }
-    };
+fn with_program(program: impl Fn(&[u8]) -> Vec<u8> + Sync + 'static) -> Judges {
+    Judges { program: Box::new(program), ..right() }
 }
 
-macro_rules! with_program {
-    ($program:expr) => {
-        Judges { program: $program, ..RIGHT }
-    };
+/// A program that prints the right text after a change.
+fn printing(change: impl Fn(&str) -> String + Sync + 'static) -> Judges {
+    with_program(move |bytes| change(&lines(&judge_of_program(bytes))).into_bytes())
 }
 
-use {with_judge, with_program};
-
-// Comparisons that differ.
-
-/// The names of all comparisons, and of those that differ.
-fn all_and_differing(judges: &Judges) -> [Vec<&'static str>; 2] {
-    let comparisons = comparisons(judges, &FEW).comparisons;
-    let all = comparisons.iter().map(|one| one.name).collect();
-    [all, wrong::differing(&comparisons)]
-}
-
-/// The comparisons of the library and of the program with byte strings of one sort.
-fn of_sort(judges: &Judges, name: &str) -> [Comparison; 2] {
-    let mut sorts = SORTS.iter();
-    let sort = sorts.find(|sort| sort.names[0].ends_with(&format!(", {name}")));
-    let sort = sort.expect("a sort of this name");
-    both(judges, sort.names, &sort.inputs(&FEW))
-}
-
-/// Whether the library and the program agree.
-fn agree(judges: &Judges, name: &str) -> [bool; 2] {
-    of_sort(judges, name).map(|comparison| comparison.agrees())
-}
-
-/// Both differ with all of the first sorts, and with none of the second.
-#[track_caller]
-fn assert_judge(judges: &Judges, differ: &[&str], same: &[&str]) {
-    for name in differ {
-        assert_eq!(agree(judges, name), [false, false], "{name}");
-    }
-    for name in same {
-        assert_eq!(agree(judges, name), [true, true], "{name}");
-    }
-}
-
-/// The program alone differs with all of the first sorts, and with none of the second.
-#[track_caller]
-fn assert_program(program: &Judges, differ: &[&str], same: &[&str]) {
-    for name in differ {
-        assert_eq!(agree(program, name), [true, false], "{name}");
-    }
-    assert_judge(program, &[], same);
-}
-
-/// The smallest inputs of both comparisons start like this.
-#[track_caller]
-fn assert_smallest(judges: &Judges, name: &str, start: &str) {
-    let comparisons = of_sort(judges, name);
-    for comparison in &comparisons {
-        let shown = smallest(&comparisons, comparison.name);
-        assert!(shown.starts_with(start), "{shown}");
-    }
-}
-
-// Sorts that a mistake shows in.
+// Sorts of byte strings, and what they are refused for.
 
 const HONEST: &str = "honest runs";
 const EACH: &str = "each entry damaged, all queries";
@@ -138,11 +65,9 @@ const CUT: &str = "cut at every byte";
 const CUT_NEAR: &str = "cut near every section";
 const BEHIND: &str = "bytes behind the last section";
 const COUNTS: &str = "another count";
-const ENTRIES: &str = "fewer or more entries";
-const ORDER: &str = "sections out of order";
+const FLIPPED: &str = "every bit flipped";
 const FRONT: &str = "any bytes behind a right front";
 const PARAMETERS: &str = "a parameter out of range";
-const ALL_PARAMETERS: &str = "all parameters";
 const BASES: &str = "a dependent basis";
 const QUERIES: &str = "counts of queries";
 const OUTSIDE: &str = "queries out of range";
@@ -150,76 +75,249 @@ const POWERS: &str = "powers of two as queries";
 const SEVERAL: &str = "several causes";
 const LIMIT: &str = "lengths near the limit and far longer";
 
-// All comparisons.
+/// The numbers that are due among the byte strings of each sort.
+const DUE: [(&str, &[u64]); 27] = [
+    (HONEST, &[0]),
+    ("honest runs of large parameters", &[0]),
+    ("honest runs of the largest parameters", &[0]),
+    ("honest folds of too high a degree", &[0, 11]),
+    ("each entry damaged, each query alone", &[0, 11]),
+    (EACH, &[0, 11]),
+    ("some entries damaged", &[0, 11]),
+    ("some entries of large parameters damaged", &[0, 11]),
+    ("another challenge", &[0, 11]),
+    (CUT, &[1]),
+    (CUT_NEAR, &[1]),
+    (BEHIND, &[3]),
+    (COUNTS, &[1, 2, 9, 10]),
+    ("fewer or more entries", &[0, 2, 9]),
+    ("sections out of order", &[1, 2, 3, 4, 8, 10]),
+    (FLIPPED, &[0, 1, 2, 4, 5, 6, 7, 8, 9, 10, 11]),
+    ("any bytes", &[1, 2]),
+    (FRONT, &[1, 2, 3, 4, 5, 6, 8, 9, 10, 11]),
+    ("any entries", &[10, 11]),
+    (PARAMETERS, &[4, 5, 6]),
+    ("all parameters", &[0, 2, 4, 5, 6, 7]),
+    (BASES, &[8]),
+    (QUERIES, &[0, 9, 11]),
+    (OUTSIDE, &[9, 10]),
+    (POWERS, &[0, 10]),
+    (SEVERAL, &[1, 2, 3, 4, 5, 6, 7, 8, 9, 10]),
+    (LIMIT, &[0, 1, 2, 3, 4, 11]),
+];
 
-#[test]
-fn the_reference_agrees_with_itself() {
-    let [names, differing] = all_and_differing(&RIGHT);
-    assert_eq!(differing, [""; 0]);
-    let different: HashSet<&str> = names.iter().copied().collect();
-    assert_eq!(different.len(), names.len());
-    assert_eq!(names.len(), 2 * SORTS.len() + 2 + 6);
-}
-
-/// No comparison is there that could not fail: those of the program fail for a wrong
-/// program, and those of the library for a wrong library. Neither hides the other.
-#[test]
-fn every_comparison_fails_for_some_wrong_judge() {
-    let of_library = |name: &&str| name.starts_with("transcript");
-    let wrong_program = with_program!(|_| Vec::new());
-    let [names, differing] = all_and_differing(&wrong_program);
-    let (library, program): (Vec<&str>, Vec<&str>) = names.into_iter().partition(of_library);
-    assert_eq!(differing, program);
-    let wrong_library = Judges {
-        judge: |_| refused(17),
-        judge_into: |_, answer| wrong::write_what_fits(refused(17), answer),
-        ..RIGHT
+/// The byte strings of each sort, and the numbers that are due for them.
+static INPUTS: LazyLock<Vec<(&str, Vec<Bytes>, BTreeSet<u64>)>> = LazyLock::new(|| {
+    let all = SORTS.iter().map(|sort| (sort.0, sort.byte_strings(&FEW)));
+    let with_numbers = |(name, inputs): (_, Vec<Bytes>)| {
+        let numbers = inputs.iter().map(|bytes| judge(bytes).number).collect();
+        (name, inputs, numbers)
     };
-    let [_, differing] = all_and_differing(&wrong_library);
-    assert_eq!(differing, library);
-}
+    all.map(with_numbers).collect()
+});
 
-/// But for the length of the list for the answer all is right.
+/// All of them, but that few runs may all be accepted or all fail. The same byte strings come each
+/// time.
 #[test]
-fn the_length_of_the_answer_is_not_looked_at() {
-    let wrong = Judges {
-        judge_into: |bytes, answer| wrong::write_what_fits(transcript::judge(bytes), answer),
-        ..RIGHT
-    };
-    assert_judge(&wrong, &[], &[HONEST, CUT]);
-    let comparison = other_answers(&wrong, &FEW);
-    let shown = comparison.difference.expect("a difference").smallest;
-    assert_eq!(shown, "answer of length 1; 0 bytes: nothing");
+fn the_numbers_are_due() {
+    for ((sort, (name, inputs, met)), (same_name, due)) in SORTS.iter().zip(&*INPUTS).zip(DUE) {
+        assert!(*name == same_name && *inputs == sort.byte_strings(&FEW));
+        let due: BTreeSet<u64> = due.iter().copied().collect();
+        assert!(met.is_subset(&due), "{name}: {met:?}");
+        assert!(due.difference(met).all(|number| [0, 11].contains(number)), "{name}: {met:?}");
+    }
 }
-
-// Byte strings.
 
 /// But for the largest parameters, which would take long here.
 #[test]
 fn there_are_twenty_thousand_byte_strings() {
     let amounts = Amounts { large: 3..=3, largest: &[], ..FULL };
-    let all = SORTS.iter().flat_map(|sort| sort.inputs(&amounts));
-    let different: HashSet<Bytes> = all.collect();
+    let all = SORTS.iter().flat_map(|sort| sort.byte_strings(&amounts));
+    let different: BTreeSet<Bytes> = all.collect();
     assert!(different.len() > 20_000, "{}", different.len());
 }
 
-/// All that can be, which are those that the paper has for bytes, but for a dependent
-/// later basis, which no independent one leads to.
-#[test]
-fn all_numbers_are_met() {
-    let all = SORTS.iter().flat_map(|sort| sort.inputs(&FEW));
-    let (mut library, mut program) = (HashSet::new(), HashSet::new());
-    for Bytes(bytes) in all {
-        library.insert(transcript::judge(&bytes).number);
-        program.insert(judge_of_program(&bytes).number);
+/// Wrong judges are compared with all sorts but those that cost much.
+fn is_compared(name: &str) -> bool {
+    ![FLIPPED, LIMIT].contains(&name)
+}
+
+/// The sorts in which some of the numbers are due, of the library, of the program, or of both.
+fn with_numbers(of: &str, numbers: impl IntoIterator<Item = u64>) -> Vec<String> {
+    let numbers: BTreeSet<u64> = numbers.into_iter().collect();
+    let sorts =
+        INPUTS.iter().filter(|(name, _, due)| is_compared(name) && !due.is_disjoint(&numbers));
+    sorts.map(|(name, ..)| format!("{of}, {name}")).collect()
+}
+
+/// Holds the rows with byte strings of some sorts.
+fn hold(rows: &[Row<Judges>], is_compared: impl Fn(&str) -> bool + Sync) {
+    hold_table(&right(), rows, |judges| {
+        let sorts = INPUTS.iter().filter(|(name, ..)| is_compared(name));
+        sorts.flat_map(|(name, inputs, _)| both(judges, name, inputs)).collect()
+    });
+}
+
+// Judges that read rightly and answer wrongly.
+
+type Place = fn(Option<u64>) -> Option<u64>;
+
+/// What is wrong, with which numbers, the place in an answer with these, and the smallest input.
+const WRONG_PLACES: [(&str, &[u64], Place, &str); 7] = [
+    ("sections are counted from 0", &[1, 2], |section| Some(section? - 1), "0 bytes: nothing"),
+    ("sections are not named", &[2], |_| None, "4 bytes: 00 (4 times)"),
+    ("the offset counts as an element", &[8], |place| Some(place? + 1), "56 bytes: 03"),
+    ("the count of queries has a section", &[9], |_| Some(4), "72 bytes: 03"),
+    ("bytes behind have a section", &[3], |_| Some(8), "145 bytes: 03"),
+    ("queries out of range count from 1", &[10], |query| Some(query? + 1), "104 bytes: 03"),
+    ("queries that fail count from 1", &[11], |query| Some(query? + 1), "128 bytes: 03"),
+];
+
+fn wrong_answers() -> Vec<Row<Judges>> {
+    let mut rows = Vec::new();
+    for (what, numbers, place, smallest) in WRONG_PLACES {
+        let numbers = || numbers.iter().copied();
+        let judges = instead_of(numbers(), move |_, a| Answer { place: place(a.place), ..a });
+        let names = with_numbers("", numbers());
+        rows.push(row(what, judges).differs(&names).smallest(&names[0], smallest));
     }
-    assert_eq!(library, HashSet::from_iter(0..=11));
-    assert_eq!(program, HashSet::from_iter((0..=11).chain([14])));
+    for number in 1..=11 {
+        let accepting = instead_of([number], |_, _| accepted(0));
+        let names = with_numbers("", [number]);
+        rows.push(row(format!("{number} is left out"), accepting).differs(&names));
+    }
+    for place in 0..5 {
+        // What is printed has no value.
+        let of = if place == 4 { "transcript" } else { "" };
+        let names = with_numbers(of, 0..=11);
+        let changed = judging(move |bytes| changed_at(place, judge(bytes)));
+        rows.push(row(format!("number {place} of five is wrong"), changed).differs(&names));
+    }
+    let taken_for_2 = instead_of([1], |_, answer| Answer { number: 2, ..answer });
+    rows.push(row("1 is taken for 2", taken_for_2).differs(&with_numbers("", [1])));
+    rows
+}
+
+// Programs that are wrong by themselves.
+
+/// What is wrong, the text that is printed, and the numbers that it shows with.
+const WRONG_TEXTS: [(&str, fn(&str) -> String, RangeInclusive<u64>); 13] = [
+    ("no header", |text| text.split_inclusive('\n').skip(1).collect(), 0..=11),
+    ("the header alone", |text| text.split_inclusive('\n').take(1).collect(), 0..=11),
+    ("no end of the last line", |text| text.trim_end().to_string(), 0..=11),
+    ("a blank line behind", |text| format!("{text}\n"), 0..=11),
+    ("returns", |text| text.replace('\n', "\r\n"), 0..=11),
+    ("tabs", |text| text.replace(' ', "\t"), 0..=11),
+    ("all twice", |text| text.repeat(2), 0..=11),
+    ("nothing", |_| String::new(), 0..=11),
+    ("another word for accepted", |text| text.replace("accepted", "accept"), 0..=0),
+    ("another word for refused", |text| text.replace("refused", "rejected"), 1..=11),
+    ("all refused", |text| text.replace("accepted 0", "refused 0"), 0..=0),
+    ("zero for no place", |text| text.replace('-', "0"), 0..=10),
+    ("a hyphen for no reads", |text| text.replace(" 0\n", " -\n"), 1..=10),
+];
+
+/// All numbers of a text in hexadecimal.
+fn hexadecimal(text: &str) -> String {
+    let shown = |word: &str| match word.parse::<u64>() {
+        Ok(number) => format!("{number:x}"),
+        Err(_) => word.to_string(),
+    };
+    let line = |line: &str| line.split(' ').map(shown).collect::<Vec<String>>().join(" ") + "\n";
+    text.lines().map(line).collect()
+}
+
+fn wrong_programs() -> Vec<Row<Judges>> {
+    let texts = WRONG_TEXTS.into_iter();
+    let mut rows: Vec<Row<Judges>> = texts
+        .map(|(what, change, numbers)| {
+            row(what, printing(change)).differs(&with_numbers("program", numbers))
+        })
+        .collect();
+    rows.push(
+        row("numbers are hexadecimal", printing(hexadecimal))
+            .differs(&with_numbers("program", [10, 11]))
+            .differs(&[format!("program, {HONEST}")])
+            .agrees(&[CUT, BASES]),
+    );
+    rows
 }
 
 #[test]
-fn the_same_byte_strings_come_each_time() {
-    for sort in SORTS.iter().filter(|sort| !sort.names[0].contains(LIMIT)) {
-        assert!(sort.inputs(&FEW) == sort.inputs(&FEW));
-    }
+fn wrong_judges_differ_as_they_should() {
+    let rows = [wrong_answers(), readers::rows(), wrong_programs()];
+    let rows: Vec<Row<Judges>> = rows.into_iter().flatten().collect();
+    hold(&rows, is_compared);
+}
+
+// How much is taken.
+
+fn with_limit(limit: usize) -> Judges {
+    with_program(move |bytes| match bytes.len() > limit {
+        true => lines(&refused(14)).into_bytes(),
+        false => lines(&judge(bytes)).into_bytes(),
+    })
+}
+
+#[test]
+fn the_limit_is_that_of_the_program() {
+    let cut = with_program(|bytes| right_program(&bytes[..bytes.len().min(LARGEST_INPUT)]));
+    let last = with_program(|bytes| match judge(bytes).number {
+        0 | 3 | 11 => right_program(bytes),
+        _ => lines(&judge(bytes)).into_bytes(),
+    });
+    let placed = printing(|text| text.replace("refused 14 -", "refused 14 65536"));
+    let programs = [
+        row("the limit is one less", with_limit(LARGEST_INPUT - 1)),
+        row("the limit is one more", with_limit(LARGEST_INPUT + 1)),
+        row("there is no limit", with_limit(usize::MAX)),
+        row("what is over the limit is not read, and the rest is judged", cut),
+        row("the limit does not come first", last),
+        row("the limit has a place", placed),
+    ];
+    let programs = programs.map(|row| row.differs(&[format!("program, {LIMIT}")]));
+    let raw_judge =
+        Box::new(|bytes: &[u8], answer: &mut [u64]| into_five(answer, || judge_of_program(bytes)));
+    let library = row("the library has the limit", Judges { raw_judge, ..right() })
+        .differs(&[format!("transcript, {LIMIT}")])
+        .smallest(LIMIT, "65537 bytes: 00 (65537 times)");
+    let both = row("bytes behind are taken", instead_of([3], readers::taking_behind));
+    let rows = programs.into_iter().chain([library, both.differs(&[LIMIT])]);
+    hold(&rows.collect::<Vec<Row<Judges>>>(), |name| name == LIMIT);
+}
+
+// All comparisons.
+
+/// Those of the program fail for a wrong program, and those of the library for a wrong library.
+/// Neither hides the other.
+#[test]
+fn every_comparison_fails_for_some_wrong_judge() {
+    let all = comparisons(&right(), &FEW).comparisons;
+    let names = all.iter().map(|comparison| comparison.name);
+    let (library, program): (Vec<&str>, Vec<&str>) =
+        names.partition(|name| name.starts_with("transcript"));
+    let refusing = Judges {
+        raw_judge: Box::new(|_, answer| write_what_fits(refused(17), answer)),
+        judge: Box::new(|_| refused(17)),
+        ..right()
+    };
+    let any_length =
+        Box::new(|bytes: &[u8], answer: &mut [u64]| write_what_fits(judge(bytes), answer));
+    let other_length = "transcript with an answer list of another length";
+    let rows = [
+        row("nothing is printed", with_program(|_| Vec::new())).differs(&program),
+        row("all is refused", refusing).differs(&library),
+        row("the length of the answer does not count", Judges { raw_judge: any_length, ..right() })
+            .differs(&[other_length])
+            .smallest(other_length, "0 bytes: nothing; answer of length 1,"),
+    ];
+    hold_table(&right(), &rows, |judges| comparisons(judges, &FEW).comparisons);
+}
+
+/// What is printed is shown.
+#[test]
+fn what_is_printed_is_shown() {
+    assert_eq!(Printed(b"no\tlines\n".to_vec()).show(), r#""no\tlines\n""#);
+    let long = Printed(vec![b'a'; 1_000]).show();
+    assert_eq!(long, format!("\"{}\" and 800 more bytes", "a".repeat(200)));
 }

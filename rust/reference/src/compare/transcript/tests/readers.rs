@@ -1,298 +1,182 @@
-//! Judges that read wrongly.
-//!
-//! They read slices at computed places, so that what the reference does is done here
-//! once more in another way.
+//! Judges that read wrongly. The right judge is given the bytes as a wrong reader takes them, or is
+//! passed over for some numbers.
 
 use super::*;
-use crate::answer::refused_at;
-use crate::fold::Coset;
-use crate::protocol::{self, queries_in_range, right_query_count, Run};
-use crate::refusal::independent;
+use crate::transcript::{written, Section};
 
-/// What a reader does wrong.
-#[derive(Clone, Copy, PartialEq)]
-enum Mistake {
-    Nothing,
-    /// Only so many of the lowest bits of a count.
-    CountBits(u32),
-    /// Only so many of the lowest bits of a parameter.
-    ParameterBits(u32),
-    /// Only so many of the lowest bits of a query.
-    QueryBits(u32),
-    /// Only so many of the lowest bits of every entry.
-    EntryBits(u32),
-    /// Numbers with their highest byte first.
-    HighestFirst,
-    /// The bytes of the entries before the value of their count.
-    EntriesBeforeCount,
-    /// The bytes of the entries are not counted: those that are not there are zeros.
-    MissingAreZeros,
-    /// Bases and queries behind all sections.
-    ValuesAtTheEnd,
-    /// The count of queries behind all sections.
-    QueryCountAtTheEnd,
-    /// All layers count as the section of the first.
-    OneSectionOfLayers,
-    /// Challenges behind the queries.
-    QueriesFirst,
-    /// Bytes behind the last section.
-    TakesBytesBehind,
-    /// A round check before bytes behind.
-    JudgesBeforeTheEnd,
-}
+/// What is answered in place of a refusal.
+type Other = fn(&[u8], Answer) -> Answer;
 
-use Mistake::*;
-
-struct Slices<'a> {
-    bytes: &'a [u8],
-    place: usize,
-    section: u64,
-    mistake: Mistake,
-}
-
-fn lowest(bits: u32, number: u64) -> u64 {
-    number & (u64::MAX >> (u64::BITS - bits))
-}
-
-impl Slices<'_> {
-    fn part(&mut self, length: usize) -> Result<Vec<u8>, Answer> {
-        let end = self.place.saturating_add(length);
-        let part = match self.bytes.get(self.place..end) {
-            Some(part) => part.to_vec(),
-            None if self.mistake == MissingAreZeros && length <= 8 << 20 => {
-                let start = self.place.min(self.bytes.len());
-                let mut part = self.bytes[start..].to_vec();
-                part.resize(length, 0);
-                part
-            }
-            None => return Err(refused_at(1, self.section)),
+/// The sections that are there as a whole, by what their counts are taken for, and the bytes
+/// behind them.
+fn split(bytes: &[u8], taken: impl Fn(u32) -> u32) -> (Vec<Section>, &[u8]) {
+    let (mut sections, mut rest) = (Vec::new(), bytes);
+    while let Some((count, behind)) = rest.split_first_chunk() {
+        let count = taken(u32::from_le_bytes(*count));
+        let Some((entries, behind)) = behind.split_at_checked(8 * count as usize) else {
+            break;
         };
-        self.place = end;
-        Ok(part)
+        let (entries, _) = entries.as_chunks();
+        let entries = entries.iter().map(|entry| u64::from_le_bytes(*entry)).collect();
+        sections.push(Section { count, entries });
+        rest = behind;
     }
+    (sections, rest)
+}
 
-    fn number(&self, bytes: &[u8]) -> u64 {
-        let mut eight = [0; 8];
-        eight[..bytes.len()].copy_from_slice(bytes);
-        if self.mistake == HighestFirst {
-            eight[..bytes.len()].reverse();
-        }
-        u64::from_le_bytes(eight)
-    }
+fn sections_of(bytes: &[u8]) -> Vec<Section> {
+    split(bytes, |count| count).0
+}
 
-    fn entries(&mut self, count: u64) -> Result<Vec<u64>, Answer> {
-        let part = self.part(8 * count as usize)?;
-        let entries = part.chunks(8).map(|entry| self.number(entry));
-        Ok(match self.mistake {
-            EntryBits(bits) => entries.map(|entry| lowest(bits, entry)).collect(),
-            _ => entries.collect(),
+/// The right verdict on other sections.
+fn judged_with(bytes: &[u8], change: impl Fn(&mut Vec<Section>)) -> Answer {
+    let (mut sections, rest) = split(bytes, |count| count);
+    change(&mut sections);
+    judge(&[&written(&sections), rest].concat())
+}
+
+/// The right verdict on the transcript without the bytes behind it.
+pub fn taking_behind(bytes: &[u8], _: Answer) -> Answer {
+    let sections = sections_of(bytes);
+    judge(&written(&sections[..5 + sections[2].entries.len()]))
+}
+
+/// Only so many bits of a count are read.
+fn cut_counts(bits: u32) -> Judges {
+    judging(move |bytes| {
+        let (sections, rest) = split(bytes, |count| count & (u32::MAX >> (u32::BITS - bits)));
+        judge(&[&written(&sections), rest].concat())
+    })
+}
+
+/// Only so many bits of the entries of some sections are read.
+fn cut_entries(places: RangeInclusive<usize>, bits: u32) -> Judges {
+    judging(move |bytes| {
+        judged_with(bytes, |sections| {
+            let cut = sections.iter_mut().enumerate().filter(|(place, _)| places.contains(place));
+            let entries = cut.flat_map(|(_, section)| &mut section.entries);
+            entries.for_each(|entry| *entry &= u64::MAX >> (u64::BITS - bits));
         })
-    }
+    })
+}
 
-    fn section(
-        &mut self,
-        may_be: impl FnOnce(u64) -> Result<(), Answer>,
-    ) -> Result<Vec<u64>, Answer> {
-        let count = self.part(4)?;
-        let count = match self.mistake {
-            CountBits(bits) => lowest(bits, self.number(&count)),
-            _ => self.number(&count),
-        };
-        if self.mistake == EntriesBeforeCount {
-            let entries = self.entries(count)?;
-            may_be(count)?;
-            return Ok(entries);
-        }
-        may_be(count)?;
-        self.entries(count)
-    }
+/// With the highest byte first not even the first count is right.
+fn highest_first(bytes: &[u8]) -> Answer {
+    let mut taken = bytes.to_vec();
+    let (count, entries) = taken.split_at_mut(bytes.len().min(4));
+    count.reverse();
+    entries.chunks_mut(8).take(3).for_each(|entry| entry.reverse());
+    judge(&taken)
+}
 
-    fn section_of(&mut self, section: u64, due: u64) -> Result<Vec<u64>, Answer> {
-        self.section = section;
-        self.section(|count| match count == due {
-            true => Ok(()),
-            false => Err(refused_at(2, section)),
-        })
-    }
-
-    fn queries(&mut self, parameters: Parameters) -> Result<Vec<u64>, Answer> {
-        self.section = 4;
-        let later = self.mistake == QueryCountAtTheEnd;
-        let queries = self.section(|count| match later {
-            true => Ok(()),
-            false => right_query_count(count as usize),
-        })?;
-        let queries = match self.mistake {
-            QueryBits(bits) => queries.iter().map(|&query| lowest(bits, query)).collect(),
-            _ => queries,
-        };
-        if self.mistake != ValuesAtTheEnd {
-            queries_in_range(parameters, &queries)?;
-        }
-        Ok(queries)
-    }
-
-    fn parameters(&mut self) -> Result<Parameters, Answer> {
-        let entries = self.section_of(1, 3)?;
-        let cut = |&entry: &u64| match self.mistake {
-            ParameterBits(bits) => lowest(bits, entry),
-            _ => entry,
-        };
-        let entries: Vec<u64> = entries.iter().map(cut).collect();
-        let parameters = with(entries[0], entries[1], entries[2]);
-        parameters.may_use()?;
-        Ok(parameters)
-    }
-
-    fn coset(&mut self, parameters: Parameters) -> Result<Coset, Answer> {
-        let entries = self.section_of(2, parameters.k + 1)?;
-        let basis = entries[1..].to_vec();
-        if self.mistake != ValuesAtTheEnd {
-            independent(&basis)?;
-        }
-        let offset = entries[0];
-        Ok(Coset { offset, basis })
-    }
-
-    /// Layers 0 to r - 1, joined.
-    fn layers(&mut self, parameters: Parameters) -> Result<Vec<u64>, Answer> {
-        let mut all = Vec::new();
-        for i in 0..parameters.rounds() {
-            let section = match self.mistake {
-                OneSectionOfLayers => 5,
-                _ => 5 + i,
-            };
-            all.extend(self.section_of(section, parameters.layer_length(i) as u64)?);
-        }
-        Ok(all)
-    }
-
-    fn challenges_and_queries(
-        &mut self,
-        parameters: Parameters,
-    ) -> Result<(Vec<u64>, Vec<u64>), Answer> {
-        if self.mistake == QueriesFirst {
-            let queries = self.queries(parameters)?;
-            return Ok((self.section_of(3, parameters.rounds())?, queries));
-        }
-        let challenges = self.section_of(3, parameters.rounds())?;
-        Ok((challenges, self.queries(parameters)?))
-    }
-
-    fn judge(&mut self) -> Result<Answer, Answer> {
-        let parameters = self.parameters()?;
-        let Coset { offset, basis } = self.coset(parameters)?;
-        let (challenges, queries) = self.challenges_and_queries(parameters)?;
-        let mut word = self.layers(parameters)?;
-        let store = word.split_off(parameters.layer_length(0));
-        let last = self.section_of(5 + parameters.rounds(), parameters.last_count() as u64)?;
-        let run = Run { parameters, offset, basis, challenges, word, store, last };
-        let verdict = || protocol::judge(&run, &queries);
-        let behind = self.place < self.bytes.len() && self.mistake != TakesBytesBehind;
-        if behind && !(self.mistake == JudgesBeforeTheEnd && verdict().number == 11) {
-            return Err(refused(3));
-        }
-        Ok(verdict())
+fn entries_before_count(bytes: &[u8], refusal: Answer) -> Answer {
+    let section = refusal.place.unwrap_or(4);
+    match sections_of(bytes).len() as u64 {
+        whole if whole < section => refused_at(1, section),
+        _ => refusal,
     }
 }
 
-fn judge_with(mistake: Mistake, bytes: &[u8]) -> Answer {
-    let mut slices = Slices { bytes, place: 0, section: 1, mistake };
-    slices.judge().unwrap_or_else(|refusal| refusal)
+/// The refusal of other bytes before any round, or the one at hand.
+fn first_of(other: Answer, at_hand: Answer) -> Answer {
+    match other.number {
+        0 | 11 => at_hand,
+        _ => other,
+    }
 }
 
-macro_rules! reading {
-    ($mistake:expr) => {
-        with_judge!(|bytes| judge_with($mistake, bytes))
+fn values_at_the_end(bytes: &[u8], refusal: Answer) -> Answer {
+    let with_right_values = judged_with(bytes, |sections| {
+        let basis = sections[1].entries[1..].iter_mut();
+        basis.zip(0..).for_each(|(element, bit)| *element = 1 << bit);
+        sections.iter_mut().skip(3).take(1).for_each(|queries| queries.entries.fill(0));
+    });
+    first_of(with_right_values, refusal)
+}
+
+fn query_count_at_the_end(bytes: &[u8], refusal: Answer) -> Answer {
+    match sections_of(bytes).len() {
+        ..4 => refused_at(1, 4),
+        _ => first_of(judged_with(bytes, |all| all[3] = Section::of(&[0])), refusal),
+    }
+}
+
+fn rounds_before_the_end(bytes: &[u8], refusal: Answer) -> Answer {
+    match taking_behind(bytes, refusal) {
+        failed if failed.number == 11 => failed,
+        _ => refusal,
+    }
+}
+
+fn queries_before_challenges(bytes: &[u8]) -> Answer {
+    let swapped = judged_with(bytes, |sections| {
+        if sections.len() >= 4 {
+            sections.swap(2, 3);
+        }
+    });
+    match swapped {
+        Answer { number: 1 | 2, place: Some(section @ 3..=4), .. } => {
+            refused_at(swapped.number, 7 - section)
+        }
+        _ => swapped,
+    }
+}
+
+fn missing_are_zeros(bytes: &[u8], _: Answer) -> Answer {
+    let mut longer = bytes.to_vec();
+    while judge(&longer).number == 1 {
+        longer.resize(2 * longer.len() + 4, 0);
+    }
+    match judge(&longer) {
+        answer if answer.number == 3 => taking_behind(&longer, answer),
+        answer => answer,
+    }
+}
+
+fn one_section(bytes: &[u8], refusal: Answer) -> Answer {
+    let rounds = sections_of(bytes).get(2).map_or(0, |challenges| challenges.count as u64);
+    match refusal.place {
+        Some(section) if (5..5 + rounds).contains(&section) => refused_at(refusal.number, 5),
+        _ => refusal,
+    }
+}
+
+/// Sorts that agree where it is not said that they differ.
+const WATCHED: [&str; 7] = [HONEST, EACH, CUT, BEHIND, BASES, OUTSIDE, PARAMETERS];
+
+pub fn rows() -> Vec<Row<Judges>> {
+    let wrong = |what: &str, judges, differ: &[&str]| {
+        let agree: Vec<&str> = WATCHED.into_iter().filter(|name| !differ.contains(name)).collect();
+        row(what, judges).differs(differ).agrees(&agree)
     };
-}
-
-#[test]
-fn the_reader_of_these_tests_is_right() {
-    let [_, differing] = all_and_differing(&reading!(Nothing));
-    assert_eq!(differing, [""; 0]);
-}
-
-// Numbers.
-
-#[test]
-fn counts_have_fewer_bits() {
-    for wrong in [
-        reading!(CountBits(8)),
-        reading!(CountBits(16)),
-        reading!(CountBits(29)),
-        reading!(CountBits(31)),
-    ] {
-        assert_judge(&wrong, &[COUNTS], &[HONEST, CUT, BEHIND, BASES]);
-    }
-    assert_judge(&reading!(CountBits(8)), &[QUERIES], &[]);
-}
-
-#[test]
-fn values_have_fewer_bits() {
-    for wrong in [reading!(ParameterBits(8)), reading!(ParameterBits(32))] {
-        assert_judge(&wrong, &[PARAMETERS], &[HONEST, CUT, BASES]);
-    }
-    for wrong in [reading!(QueryBits(32)), reading!(QueryBits(63))] {
-        assert_judge(&wrong, &[OUTSIDE, POWERS], &[HONEST, CUT, BASES]);
-    }
-    assert_judge(&reading!(EntryBits(63)), &[HONEST, EACH], &[ALL_PARAMETERS]);
-}
-
-#[test]
-fn the_highest_byte_comes_first() {
-    let wrong = reading!(HighestFirst);
-    assert_judge(&wrong, &[HONEST, CUT, BASES], &[]);
-    assert_smallest(&wrong, HONEST, "4 bytes: 03, 00 (3 times)");
-}
-
-// The order of the causes.
-
-#[test]
-fn entries_come_before_their_count() {
-    let wrong = reading!(EntriesBeforeCount);
-    assert_judge(&wrong, &[COUNTS, SEVERAL], &[HONEST, CUT, BASES]);
-    assert_smallest(&wrong, COUNTS, "4 bytes: 00 (3 times), 01");
-}
-
-/// It shows where something else is wrong as well.
-#[test]
-fn values_are_looked_at_behind_all_sections() {
-    let wrong = reading!(ValuesAtTheEnd);
-    assert_judge(&wrong, &[SEVERAL, FRONT], &[HONEST, CUT, BASES, OUTSIDE]);
-    let wrong = reading!(QueryCountAtTheEnd);
-    assert_judge(&wrong, &[SEVERAL, COUNTS], &[HONEST, CUT, BASES, QUERIES]);
-}
-
-#[test]
-fn the_rounds_come_before_the_end() {
-    let wrong = reading!(JudgesBeforeTheEnd);
-    assert_judge(&wrong, &[SEVERAL], &[HONEST, CUT, COUNTS, BEHIND, EACH]);
-}
-
-#[test]
-fn queries_come_before_challenges() {
-    let wrong = reading!(QueriesFirst);
-    assert_judge(&wrong, &[HONEST, CUT, COUNTS], &[BASES, PARAMETERS]);
-}
-
-// What is not looked at.
-
-#[test]
-fn bytes_that_are_missing_are_zeros() {
-    let wrong = reading!(MissingAreZeros);
-    assert_judge(&wrong, &[CUT, CUT_NEAR, FRONT], &[HONEST, BASES, BEHIND]);
-    assert_smallest(&wrong, CUT, "0 bytes: nothing");
-}
-
-#[test]
-fn bytes_behind_are_not_looked_at() {
-    let wrong = reading!(TakesBytesBehind);
-    assert_judge(&wrong, &[BEHIND, SEVERAL, LIMIT], &[HONEST, CUT, COUNTS]);
-}
-
-#[test]
-fn all_layers_have_one_section() {
-    let wrong = reading!(OneSectionOfLayers);
-    assert_judge(&wrong, &[CUT, CUT_NEAR, COUNTS], &[HONEST, BASES, BEHIND]);
+    let refused = |what: &str, numbers: &[u64], other: Other, differ: &[&str]| {
+        wrong(what, instead_of(numbers.to_vec(), other), differ)
+    };
+    vec![
+        wrong("counts have 8 bits", cut_counts(8), &[COUNTS, QUERIES, OUTSIDE]),
+        wrong("counts have 16 bits", cut_counts(16), &[COUNTS]),
+        wrong("counts have 29 bits", cut_counts(29), &[COUNTS]),
+        wrong("counts have 31 bits", cut_counts(31), &[COUNTS]),
+        wrong("parameters have 8 bits", cut_entries(0..=0, 8), &[PARAMETERS]),
+        wrong("parameters have 32 bits", cut_entries(0..=0, 32), &[PARAMETERS]),
+        wrong("queries have 32 bits", cut_entries(3..=3, 32), &[OUTSIDE, POWERS]),
+        wrong("queries have 63 bits", cut_entries(3..=3, 63), &[OUTSIDE, POWERS]),
+        wrong("entries have 63 bits", cut_entries(0..=9, 63), &[HONEST, EACH, OUTSIDE, PARAMETERS]),
+        wrong("the highest byte comes first", judging(highest_first), &WATCHED)
+            .smallest(HONEST, "4 bytes: 03, 00 (3 times)"),
+        wrong(
+            "queries come before challenges",
+            judging(queries_before_challenges),
+            &[HONEST, EACH, CUT, BEHIND, OUTSIDE, COUNTS],
+        ),
+        refused("entries before their count", &[2, 9], entries_before_count, &[COUNTS, SEVERAL])
+            .smallest(COUNTS, "4 bytes: 00 (3 times), 01"),
+        refused("values after all sections", &[8, 10], values_at_the_end, &[SEVERAL, FRONT]),
+        refused("query count after all", &[9], query_count_at_the_end, &[SEVERAL, COUNTS]),
+        refused("rounds before bytes behind", &[3], rounds_before_the_end, &[SEVERAL]),
+        refused("missing bytes are zeros", &[1], missing_are_zeros, &[CUT, CUT_NEAR, FRONT])
+            .smallest(CUT, "0 bytes: nothing"),
+        refused("bytes behind are taken", &[3], taking_behind, &[BEHIND, SEVERAL]),
+        refused("layers have one section", &[1, 2], one_section, &[CUT, CUT_NEAR, COUNTS]),
+    ]
 }
