@@ -36,6 +36,18 @@ pub struct Run {
 }
 
 impl Run {
+    /// The honest run whose word has the values of a polynomial over a coset.
+    pub fn honest(
+        parameters: Parameters,
+        Coset { offset, basis }: Coset,
+        polynomial: &[u64],
+        challenges: Vec<u64>,
+    ) -> Run {
+        let word = points(offset, &basis).iter().map(|&x| value(polynomial, x)).collect();
+        let (store, last) = (Vec::new(), Vec::new());
+        Run { parameters, offset, basis, challenges, word, store, last }.made_honest()
+    }
+
     /// The run with the honest store and the honest last coefficients in place of its own.
     pub fn made_honest(self) -> Run {
         Run { store: honest_store(&self), last: honest_last(&self), ..self }

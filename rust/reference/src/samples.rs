@@ -6,67 +6,37 @@
 //! indices, cosets, lookups and refusals alone.
 
 mod bases;
-mod cosets;
 mod judged;
-mod layouts;
-mod lookups;
+mod layers;
 mod proved;
 mod runs;
 mod table;
 
-use crate::parameters::Parameters;
 use table::Group;
 
 /// The whole table, the same each time.
 pub fn text() -> String {
-    table::text(&groups())
-}
-
-/// The groups, in the order of the text.
-fn groups() -> Vec<Group> {
-    let mut groups =
-        vec![layouts::layout_group(), layouts::index_group(), cosets::group(), lookups::group()];
-    groups.extend(judged::groups());
-    groups.extend(proved::groups());
-    groups
-}
-
-fn parameters(k: u64, rate: u64, step: u64) -> Parameters {
-    Parameters { k, rate, step }
-}
-
-#[cfg(test)]
-mod tests {
-    use super::*;
-    use std::collections::BTreeSet;
-
-    #[test]
-    fn the_groups_in_order() {
-        let due = [
-            ("layouts", "LayoutSample", 31),
-            ("indices", "IndexSample", 2 * 31),
-            ("cosets", "CosetSample", 4),
-            ("lookups", "LookupSample", 10 + 3 + 3 + 8 + 2),
-            ("judgedOfTableA", "JudgedSample", 4),
-            ("judgedAccepted", "JudgedSample", 2),
-            ("judgedFailingInTwoRounds", "JudgedSample", 2),
-            ("judgedFailingInThreeRounds", "JudgedSample", 2),
-            ("judgedAtHighDegree", "JudgedSample", 1),
-            ("judgedRefused", "JudgedSample", 5 + 6 + 2 + 4),
-            ("provedWell", "ProvedSample", 1),
-            ("provedAtHighDegree", "ProvedSample", 1),
-            ("provedRefused", "ProvedSample", 5 + 5 + 1),
-        ];
-        let groups = groups();
-        let found = groups.iter().map(|g| (g.name, g.row_type, g.rows.len()));
-        assert_eq!(found.collect::<Vec<_>>(), due);
-    }
-
-    #[test]
-    fn no_row_comes_twice() {
-        let groups = groups();
-        let rows: Vec<&String> = groups.iter().flat_map(|group| &group.rows).collect();
-        let different: BTreeSet<&String> = rows.iter().copied().collect();
-        assert_eq!(different.len(), rows.len());
-    }
+    let [in_two_rounds, in_three_rounds, at_high_degree] = judged::failing();
+    let of_layers = [
+        Group::of("layouts", "LayoutSample", &layers::layouts(), layers::layout_row),
+        Group::of("indices", "IndexSample", &layers::queries(), layers::index_row),
+        Group::of("cosets", "CosetSample", &layers::first_cosets(), layers::coset_row),
+        Group::of("lookups", "LookupSample", &layers::lookups(), layers::lookup_row),
+    ];
+    let judged = [
+        ("judgedOfTableA", judged::cases_of_table_a()),
+        ("judgedAccepted", judged::accepted()),
+        ("judgedFailingInTwoRounds", in_two_rounds),
+        ("judgedFailingInThreeRounds", in_three_rounds),
+        ("judgedAtHighDegree", at_high_degree),
+        ("judgedRefused", judged::refused()),
+    ];
+    let proved = [
+        ("provedWell", proved::well()),
+        ("provedAtHighDegree", proved::at_high_degree()),
+        ("provedRefused", proved::refused()),
+    ];
+    let judged = judged.map(|(name, rows)| Group::of(name, "JudgedSample", &rows, judged::row));
+    let proved = proved.map(|(name, rows)| Group::of(name, "ProvedSample", &rows, proved::row));
+    table::text(&of_layers.into_iter().chain(judged).chain(proved).collect::<Vec<_>>())
 }

@@ -5,16 +5,12 @@ use crate::answer::refused_in_round;
 use crate::cases::{judgings, of_case_f, of_case_j, of_case_k};
 use crate::parameters::all_up_to;
 use crate::random::Random;
-use crate::reed_solomon;
 
 /// An honest run, drawn but for its parameters, whose word has so many coefficients.
 fn drawn(random: &mut Random, parameters: Parameters, coefficients: usize) -> Run {
-    let (offset, basis) = (random.number(), random.list(parameters.k as usize));
-    let polynomial = random.list(coefficients);
-    let word = reed_solomon::encode(offset, &basis, &polynomial, 1 << parameters.k).unwrap();
+    let first = Coset { offset: random.number(), basis: random.list(parameters.k as usize) };
     let challenges = random.list(parameters.rounds() as usize);
-    let (store, last) = (Vec::new(), Vec::new());
-    Run { parameters, offset, basis, challenges, word, store, last }.made_honest()
+    Run::honest(parameters, first, &random.list(coefficients), challenges)
 }
 
 /// One whose word has a degree below the bound.

@@ -54,45 +54,21 @@ fn reduced((image, element): (u64, u64), leading: &[(u64, u64)]) -> (u64, u64) {
     (rest, element)
 }
 
-/// By how much the two points of a coset differ, in layer 0 and in those that so many rounds
-/// with step 1 lead to.
-#[cfg(test)]
-pub(super) fn differences(basis: &[u64], rounds: u64) -> Vec<u64> {
-    let mut basis = basis.to_vec();
-    let mut differences = vec![basis[0]];
-    for _ in 0..rounds {
-        basis = crate::fold::following(1, 0, &basis).basis;
-        differences.push(basis[0]);
-    }
-    differences
-}
-
 #[cfg(test)]
 mod tests {
     use super::*;
     use crate::coset::first_dependent;
+    use crate::fold::following;
 
     #[test]
-    fn a_preimage_has_its_image() {
-        let of_1 = preimage(1);
-        assert_eq!(field::sum(field::product(of_1, of_1), of_1), 1);
-        for element in cheap_elements(10) {
-            assert_eq!(image(&[1], preimage(element)), element);
-        }
-    }
-
-    #[test]
-    fn differences_by_hand() {
-        // The rounds of case K.
-        assert_eq!(differences(&[1, 2, 4], 2), [1, 6, 0x168]);
-    }
-
-    #[test]
-    fn cheap_elements_keep_their_property() {
+    fn the_points_of_a_coset_differ_by_one_in_every_round() {
         let random = &mut Random::named("cheap elements keep their property");
-        let basis = basis(random, 8, 10);
+        let mut basis = basis(random, 8, 10);
         assert_eq!(basis.len(), 10);
         assert_eq!(first_dependent(&basis), None);
-        assert_eq!(differences(&basis, 7), [1; 8]);
+        for _ in 0..8 {
+            assert_eq!(basis[0], 1);
+            basis = following(1, 0, &basis).basis;
+        }
     }
 }
