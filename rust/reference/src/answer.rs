@@ -103,19 +103,3 @@ pub fn raw(answer: &Answer) -> [u64; ANSWER_LENGTH] {
         answer.value.unwrap_or(NONE),
     ]
 }
-
-#[cfg(test)]
-mod tests {
-    use super::*;
-
-    #[test]
-    fn the_raw_numbers_are_in_order() {
-        assert_eq!(raw(&failed(1, 0, 4)), [11, 1, 0, 4, NONE]);
-        assert_eq!(raw(&accepted(4)), [0, NONE, NONE, 4, NONE]);
-        assert_eq!(raw(&went_well(7)), [0, NONE, NONE, 0, 7]);
-        assert_eq!(raw(&done()), [0, NONE, NONE, 0, NONE]);
-        assert_eq!(raw(&refused(15)), [15, NONE, NONE, 0, NONE]);
-        assert_eq!(raw(&refused_at(8, 2)), [8, 2, NONE, 0, NONE]);
-        assert_eq!(raw(&refused_in_round(16, 0)), [16, NONE, 0, 0, NONE]);
-    }
-}

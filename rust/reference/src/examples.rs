@@ -157,48 +157,12 @@ fn challenges(random: &mut Random, cosets: &[Coset]) -> Vec<u64> {
 mod tests {
     use super::*;
 
-    /// The second line of each, by hand.
-    const LINES: [(&str, &str); 21] = [
-        ("g", "accepted 0 - - 4"),
-        ("h", "refused 11 1 0 4"),
-        ("i", "accepted 0 - - 2"),
-        ("k", "accepted 0 - - 4"),
-        ("l_query_0", "refused 11 0 0 4"),
-        ("l_query_7", "accepted 0 - - 4"),
-        ("n_empty", "refused 1 1 - 0"),
-        ("p_256_queries", "accepted 0 - - 2560"),
-        ("number_01", "refused 1 5 - 0"),
-        ("number_02", "refused 2 6 - 0"),
-        ("number_03", "refused 3 - - 0"),
-        ("number_04", "refused 4 - - 0"),
-        ("number_05", "refused 5 - - 0"),
-        ("number_06", "refused 6 - - 0"),
-        ("number_07", "refused 7 - - 0"),
-        ("number_08", "refused 8 2 - 0"),
-        ("number_09", "refused 9 - - 0"),
-        ("number_10", "refused 10 1 - 0"),
-        ("number_11", "refused 11 0 1 4"),
-        ("number_14", "refused 14 - - 0"),
-        // 34 queries, 7 rounds, 2 entries.
-        ("largest", "accepted 0 - - 476"),
-    ];
-
     #[test]
-    fn the_lines_by_hand() {
-        let all = all();
-        assert!(all.iter().map(|example| example.name).eq(LINES.map(|(name, _)| name)));
-        for (example, (name, line)) in all.iter().zip(LINES) {
-            let due = format!("answer number place round reads\n{line}\n");
-            assert_eq!(example.lines(), due, "{name}");
-        }
-    }
-
-    #[test]
-    fn the_lengths_by_hand() {
-        let due = [("g", 136), ("n_empty", 0), ("largest", 65_536), ("number_14", 65_537)];
-        let all = all();
-        for (name, length) in due {
-            assert!(all.iter().any(|one| one.name == name && one.bytes.len() == length));
+    fn each_number_is_that_of_the_name() {
+        for Example { name, bytes } in all() {
+            if let Some(number) = name.strip_prefix("number_") {
+                assert_eq!(format!("{:02}", judge_of_program(&bytes).number), number);
+            }
         }
     }
 }

@@ -126,7 +126,6 @@ pub fn later_independent(basis: &[u64], round: u64) -> Result<(), Answer> {
 mod tests {
     use super::*;
     use crate::answer::refused_at;
-    use crate::field;
 
     const PLAIN: Fold = Fold { k: 2, step: 1, offset: 0, basis: &[1, 2], word: &[], challenge: 0 };
 
@@ -163,22 +162,5 @@ mod tests {
         let second = Fold { basis: &[6, 0x14], word: &layer_1, challenge: 3, ..PLAIN };
         assert_folded(second, &[1, 1], 0, &[0x168]);
         assert_eq!(fold_of(Fold { basis: &[1, 2, 3], ..three }), Err(refused_at(8, 2)));
-    }
-
-    /// With step 2 and with step 3, by the factors of q one by one.
-    #[test]
-    fn an_image_is_the_product_over_the_span() {
-        let [a, b, c, x] = [5, 1 << 63, 0x77, 0x1234];
-        let product =
-            |span: &[u64]| span.iter().fold(1, |product, y| field::product(product, x ^ y));
-        assert_eq!(image(&[a, b], x), product(&[0, a, b, a ^ b]));
-        let eight = [0, a, b, c, a ^ b, a ^ c, b ^ c, a ^ b ^ c];
-        assert_eq!(image(&[a, b, c], x), product(&eight));
-    }
-
-    #[test]
-    fn a_dependent_next_basis_has_its_round() {
-        assert_eq!(later_independent(&[1, 2, 3], ROUND), Err(refused_in_round(16, 0)));
-        assert_eq!(later_independent(&[1, 2, 4], ROUND), Ok(()));
     }
 }

@@ -102,33 +102,13 @@ impl Parameters {
 mod tests {
     use super::*;
 
-    fn parameters(k: u64, rate: u64, step: u64) -> Parameters {
-        Parameters { k, rate, step }
-    }
-
-    /// Rounds, last coefficients, dimensions of layers 0 to r, and starts of layers 1 to r - 1.
-    type Layout = (u64, usize, &'static [u64], &'static [usize]);
-
-    /// The fourth is case O.
     #[test]
-    fn layouts_by_hand() {
-        let due: [(Parameters, Layout); 5] = [
-            (parameters(6, 1, 1), (5, 1, &[6, 5, 4, 3, 2, 1], &[0, 32, 48, 56])),
-            (parameters(7, 1, 2), (3, 1, &[7, 5, 3, 1], &[0, 32])),
-            (parameters(9, 1, 3), (2, 4, &[9, 6, 3], &[0])),
-            (
-                parameters(20, 6, 3),
-                (4, 4, &[20, 17, 14, 11, 8], &[0, 1 << 17, (1 << 17) + (1 << 14)]),
-            ),
-            (parameters(4, 1, 3), (1, 1, &[4, 1], &[])),
-        ];
-        for (parameters, (r, d, dimensions, starts)) in due {
-            assert_eq!((parameters.rounds(), parameters.last_count()), (r, d));
-            assert!((0..=r).map(|i| parameters.dimension(i)).eq(dimensions.iter().copied()));
-            assert!((1..r).map(|i| parameters.layer_start(i)).eq(starts.iter().copied()));
-        }
-        assert_eq!(parameters(6, 1, 1).store_length(), 60);
-        assert_eq!(parameters(4, 1, 3).store_length(), 0);
+    fn case_o() {
+        let parameters = Parameters { k: 20, rate: 6, step: 3 };
+        assert_eq!(parameters.rounds(), 4);
+        assert_eq!(parameters.layer_length(4), 256);
+        assert_eq!(parameters.last_count(), 4);
+        assert_eq!(Parameters { k: 21, ..parameters }.may_use(), Err(refused(4)));
     }
 
     /// The paper has at most 256 points and 1, 2 or 4 coefficients, and so that the last layer
@@ -144,41 +124,5 @@ mod tests {
             // Another round would not fit.
             assert!(parameters.dimension(r) < parameters.rate + parameters.step);
         }
-    }
-
-    #[test]
-    fn parts_of_a_store_by_hand() {
-        let six = parameters(6, 1, 1);
-        let parts = [1, 2, 3, 4].map(|i| six.layer_of_store(60, i));
-        assert_eq!(parts, [0..32, 32..48, 48..56, 56..60].map(Some));
-        for i in [0, 5, 6, u64::MAX] {
-            assert_eq!(six.layer_of_store(60, i), None);
-        }
-        for length in [0, 48, 59, 61, usize::MAX] {
-            assert_eq!(six.layer_of_store(length, 2), None);
-        }
-        assert_eq!(parameters(6, 0, 1).layer_of_store(60, 2), None);
-        assert_eq!(parameters(4, 1, 3).layer_of_store(0, 1), None);
-    }
-
-    #[test]
-    fn an_index_goes_down_the_layers() {
-        let nine = parameters(9, 1, 1);
-        let down = [0, 1, 2, 3, 8].map(|i| nine.index(0b1_0110_1101, i));
-        assert_eq!(down, [0b1_0110_1101, 0b1011_0110, 0b101_1011, 0b10_1101, 1]);
-        let nine = parameters(9, 1, 3);
-        let down = [0, 1, 2].map(|i| nine.index(0b1_0110_1101, i));
-        assert_eq!(down, [0b1_0110_1101, 0b10_1101, 0b101]);
-        assert_eq!([0, 1].map(|i| nine.coset_used(0b1_0110_1101, i)), down[1..]);
-    }
-
-    #[test]
-    fn all_are_counted() {
-        // Rate plus step is at most k.
-        assert_eq!(all_up_to(2), [parameters(2, 1, 1)]);
-        let counts = [3, 4, 5, 6].map(|k| all_up_to(k).len());
-        assert_eq!(counts, [1 + 3, 1 + 3 + 6, 1 + 3 + 6 + 9, 1 + 3 + 6 + 9 + 12]);
-        // From 9 on every rate goes with every step.
-        assert_eq!(all_up_to(20).len() - all_up_to(8).len(), 12 * 18);
     }
 }

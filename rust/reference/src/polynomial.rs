@@ -105,7 +105,6 @@ impl Factor {
 #[cfg(test)]
 mod tests {
     use super::*;
-    use crate::coset::points;
     use crate::random::Random;
 
     /// The sum of the terms, each with a power made of as many products.
@@ -117,19 +116,6 @@ mod tests {
     }
 
     #[test]
-    fn a_factor_gives_the_product() {
-        let mut random = Random::named("a factor gives the product");
-        let edges = [0, 1, 2, 0x1b, 1 << 63, u64::MAX];
-        let numbers = [random.list(20), edges.to_vec()].concat();
-        for &a in &numbers {
-            let factor = Factor::of(a);
-            for &b in &numbers {
-                assert_eq!(factor.times(b), field::product(a, b));
-            }
-        }
-    }
-
-    #[test]
     fn a_value_is_the_sum_of_the_terms() {
         let mut random = Random::named("a value is the sum of the terms");
         for length in 0..20 {
@@ -138,17 +124,6 @@ mod tests {
                 assert_eq!(value(&polynomial, point), sum_of_terms(&polynomial, point));
             }
         }
-    }
-
-    #[test]
-    fn the_vanishing_polynomial_vanishes() {
-        // X (X - 1) (X - 2) (X - 3) by hand.
-        assert_eq!(vanishing(&points(0, &[1, 2])), [0, 6, 7, 0, 1]);
-        let points = [3, 0x77, 1 << 63, u64::MAX];
-        let polynomial = vanishing(&points);
-        assert_eq!(polynomial.len(), 5);
-        assert_eq!(polynomial[4], 1);
-        assert!(points.iter().all(|&x| sum_of_terms(&polynomial, x) == 0));
     }
 
     /// The points need not form a coset.

@@ -62,22 +62,4 @@ mod tests {
         assert_eq!(random.number(), 3203168211198807973);
         assert_eq!(random.number(), 9817491932198370423);
     }
-
-    #[test]
-    fn the_same_name_gives_the_same_numbers() {
-        let first: [u64; 4] = Random::named("sum").numbers();
-        assert_eq!(first, Random::named("sum").numbers());
-        assert_ne!(first, Random::named("product").numbers());
-        assert_eq!(first.to_vec(), Random::named("sum").list(4));
-    }
-
-    #[test]
-    fn numbers_below_a_bound_are_all_met() {
-        let mut random = Random::named("bound");
-        let mut met = [0; 5];
-        for _ in 0..1_000 {
-            met[random.below(5)] += 1;
-        }
-        assert!(met.iter().all(|&times| times > 100));
-    }
 }

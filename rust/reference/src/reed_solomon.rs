@@ -70,13 +70,4 @@ mod tests {
         assert_eq!(encode(0, &[1, 2, 3], &[7, 3], 8), refusal);
         assert_eq!(interpolate(0, &[1, 2, 3], &[0; 8], 8), refusal);
     }
-
-    #[test]
-    fn x_has_the_points_for_values() {
-        let basis = [0x1234, 1 << 40, 7];
-        let points = points(0xff, &basis);
-        assert_eq!(encode(0xff, &basis, &[0, 1], 8), Ok(points.clone()));
-        let back = interpolate(0xff, &basis, &points, 8).unwrap();
-        assert_eq!(back, [0, 1, 0, 0, 0, 0, 0, 0]);
-    }
 }

@@ -6,18 +6,6 @@ use crate::cases::{judgings, of_case_f, of_case_j, of_case_k};
 use crate::parameters::all_up_to;
 use crate::random::Random;
 
-/// An honest run, drawn but for its parameters, whose word has so many coefficients.
-fn drawn(random: &mut Random, parameters: Parameters, coefficients: usize) -> Run {
-    let first = Coset { offset: random.number(), basis: random.list(parameters.k as usize) };
-    let challenges = random.list(parameters.rounds() as usize);
-    Run::honest(parameters, first, &random.list(coefficients), challenges)
-}
-
-/// One whose word has a degree below the bound.
-fn drawn_low(random: &mut Random, parameters: Parameters) -> Run {
-    drawn(random, parameters, 1 << (parameters.k - parameters.rate))
-}
-
 /// The run with numbers in its lent lists that no prover would write.
 fn lent(run: &Run) -> Run {
     Run { store: vec![0xabc; run.store.len()], last: vec![0xdef; run.last.len()], ..run.clone() }
@@ -47,80 +35,45 @@ fn cases_g_to_p_are_judged() {
     }
 }
 
-// The prover.
-
-/// With N coefficients the fold has N / 2^step, rounded up.
-#[test]
-fn the_degree_of_the_last_layer_is_given() {
-    let random = &mut Random::named("the degree of the last layer is given");
-    for parameters in all_up_to(6) {
-        let folded = 1 << (parameters.step * parameters.rounds());
-        for too_high in parameters.last_count()..parameters.layer_length(parameters.rounds()) {
-            let run = drawn(random, parameters, too_high * folded + 1);
-            let lent = lent(&run);
-            let refusal = refused_at(12, too_high as u64);
-            assert_eq!(prove(&lent), proved(refusal, &run.store, &lent.last));
-        }
-    }
-}
-
 // The judge.
 
-/// What the paper has for the reads of such an answer.
-fn reads_due(parameters: Parameters, queries: usize, answer: Answer) -> u64 {
+/// What the paper has for the reads of such an answer to six queries.
+fn reads_due(parameters: Parameters, answer: Answer) -> u64 {
     let r = parameters.rounds();
     let cosets = match (answer.place, answer.round) {
         (Some(query), Some(round)) => query * r + r.min(round + 2),
-        _ => queries as u64 * r,
+        _ => 6 * r,
     };
     cosets << parameters.step
 }
 
-/// Any entry of the word, of the store or of the last coefficients, in turn.
-fn damage(random: &mut Random, run: &mut Run, turn: usize) {
-    let lists = [&mut run.word, &mut run.store, &mut run.last].into_iter();
-    let mut lists: Vec<_> = lists.filter(|list| !list.is_empty()).collect();
-    let count = lists.len();
-    let list = &mut lists[turn % count];
-    let place = random.below(list.len());
-    list[place] ^= 1;
-}
-
+/// Of honest runs, and with each entry damaged in turn.
 #[test]
 fn the_reads_are_those_of_the_formulas() {
     let random = &mut Random::named("the reads are those of the formulas");
+    let lists: [fn(&mut Run) -> &mut Vec<u64>; 3] =
+        [|run| &mut run.word, |run| &mut run.store, |run| &mut run.last];
     let mut met = BTreeSet::new();
-    for parameters in all_up_to(8) {
-        let honest = drawn_low(random, parameters);
-        for turn in 0..40 {
-            let count = 1 + random.below(6);
-            let any_query = |_| random.below(honest.word.len()) as u64;
-            let queries: Vec<u64> = (0..count).map(any_query).collect();
-            let reads = reads_due(parameters, count, accepted(0));
-            assert_eq!(judge(&honest, &queries), accepted(reads));
-            let mut damaged = honest.clone();
-            damage(random, &mut damaged, turn);
-            let answer = judge(&damaged, &queries);
-            assert_eq!(answer.reads, reads_due(parameters, count, answer));
-            met.insert((answer.place, answer.round));
+    for parameters in all_up_to(6) {
+        let first = Coset { offset: random.number(), basis: random.list(parameters.k as usize) };
+        let polynomial = random.list(1 << (parameters.k - parameters.rate));
+        let challenges = random.list(parameters.rounds() as usize);
+        let mut honest = Run::honest(parameters, first, &polynomial, challenges);
+        let queries = [(); 6].map(|()| random.below(honest.word.len()) as u64);
+        assert_eq!(judge(&honest, &queries), accepted(reads_due(parameters, done())));
+        for list in lists {
+            for place in 0..list(&mut honest).len() {
+                let mut damaged = honest.clone();
+                list(&mut damaged)[place] ^= 1;
+                let answer = judge(&damaged, &queries);
+                assert_eq!(answer.reads, reads_due(parameters, answer));
+                met.insert((answer.place, answer.round));
+            }
         }
     }
     for (query, round) in [(0, 0), (0, 1), (0, 4), (1, 2), (2, 3), (3, 1), (5, 0)] {
-        assert!(met.contains(&(Some(query), Some(round))));
+        assert!(met.contains(&(Some(query), Some(round))), "query {query}, round {round}");
     }
-}
-
-/// Even if a later query fails in a lower round.
-#[test]
-fn the_lowest_query_comes_before_the_lowest_round() {
-    let random = &mut Random::named("the lowest query comes before the lowest round");
-    let mut run = drawn_low(random, Parameters { k: 4, rate: 1, step: 1 });
-    // Layer 1, that query 8 folds in round 1, and the word at query 6.
-    run.store[5] ^= 1;
-    run.word[6] ^= 1;
-    assert_eq!(judge(&run, &[6, 8]), failed(0, 0, 4));
-    assert_eq!(judge(&run, &[8, 6]), failed(0, 1, 6));
-    assert_eq!(judge(&run, &[0, 6, 8]), failed(1, 0, 6 + 4));
 }
 
 // Refusals.
