@@ -50,7 +50,16 @@ impl Run {
 
     /// The run with the honest store and the honest last coefficients in place of its own.
     pub fn made_honest(self) -> Run {
-        Run { store: honest_store(&self), last: honest_last(&self), ..self }
+        Run { store: joined(&honest_layers(&self)), last: honest_last(&self), ..self }
+    }
+
+    /// Layer i, below r, as it was sent, where the store has the right length.
+    pub fn layer(&self, i: u64) -> &[u64] {
+        if i == 0 {
+            return &self.word;
+        }
+        let part = self.parameters.layer_of_store(self.store.len(), i);
+        &self.store[part.expect("a layer of the store")]
     }
 }
 
@@ -97,11 +106,6 @@ pub fn honest_layers(run: &Run) -> Vec<Vec<u64>> {
         all.push(layer.clone());
     }
     all
-}
-
-/// The honest layers 1 to r - 1, joined.
-pub fn honest_store(run: &Run) -> Vec<u64> {
-    joined(&honest_layers(run))
 }
 
 /// The first d coefficients of the honest layer r.
@@ -207,24 +211,13 @@ struct Sent<'a> {
 }
 
 impl Sent<'_> {
-    /// Layer i, below r, as it was sent.
-    fn layer(&self, i: u64) -> &[u64] {
-        let Run { word, store, .. } = self.run;
-        if i == 0 {
-            return word;
-        }
-        let part = self.run.parameters.layer_of_store(store.len(), i);
-        &store[part.expect("a layer of the store")]
-    }
-
     /// The fold of the coset that a query uses in a round.
     fn fold(&self, query: u64, round: u64) -> u64 {
-        let Parameters { step, .. } = self.run.parameters;
+        let Run { parameters, challenges, .. } = self.run;
         let coset = &self.cosets[round as usize];
-        let challenge = self.run.challenges[round as usize];
-        let given = given(step, coset, self.layer(round), challenge);
-        let used = self.run.parameters.coset_used(query, round);
-        fold::entry(given, used as usize)
+        let layer = self.run.layer(round);
+        let given = given(parameters.step, coset, layer, challenges[round as usize]);
+        fold::entry(given, parameters.coset_used(query, round) as usize)
     }
 
     /// What that fold must equal: the entry of the next layer, or the value of the last
@@ -233,7 +226,7 @@ impl Sent<'_> {
         let next = round + 1;
         let index = self.run.parameters.index(query, next);
         if next < self.run.parameters.rounds() {
-            return self.layer(next)[index as usize];
+            return self.run.layer(next)[index as usize];
         }
         let Coset { offset, basis } = &self.cosets[next as usize];
         value(&self.run.last, point(*offset, basis, index))

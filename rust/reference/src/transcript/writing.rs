@@ -26,15 +26,10 @@ impl Section {
 pub fn sections(run: &Run, queries: &[u64]) -> Vec<Section> {
     let Parameters { k, rate, step } = run.parameters;
     let offset_and_basis = [&[run.offset], &run.basis[..]].concat();
-    let first = [&[k, rate, step], &offset_and_basis[..], &run.challenges, queries, &run.word];
-    let stored = (1..run.parameters.rounds()).map(|i| stored_layer(run, i));
-    let all = first.into_iter().chain(stored).chain([&run.last[..]]);
+    let first = [&[k, rate, step], &offset_and_basis[..], &run.challenges, queries];
+    let layers = (0..run.parameters.rounds()).map(|i| run.layer(i));
+    let all = first.into_iter().chain(layers).chain([&run.last[..]]);
     all.map(Section::of).collect()
-}
-
-fn stored_layer(run: &Run, i: u64) -> &[u64] {
-    let part = run.parameters.layer_of_store(run.store.len(), i);
-    &run.store[part.expect("a layer of the store")]
 }
 
 pub fn written(sections: &[Section]) -> Vec<u8> {
