@@ -1,5 +1,5 @@
-//! The field's operations as the methods in Rust are given them: by the library's product, by
-//! carry-less multiply hardware, or counted.
+//! The field's operations as the methods in Rust are given them: by the library's product, or
+//! counted.
 
 use crate::field;
 use std::cell::Cell;
@@ -28,53 +28,6 @@ impl Arithmetic for Windowed {
     fn product(self, a: u64, b: u64) -> u64 {
         field::windowed(a, b)
     }
-}
-
-/// A method with what it is given, for any arithmetic.
-pub trait Method {
-    type Result;
-
-    fn by(self, arithmetic: impl Arithmetic) -> Self::Result;
-}
-
-/// The result by carry-less multiply hardware, which the processor must have.
-#[cfg(target_arch = "x86_64")]
-pub fn with_hardware<M: Method>(method: M) -> M::Result {
-    #[derive(Clone, Copy)]
-    struct Hardware;
-
-    impl Arithmetic for Hardware {
-        #[inline(always)]
-        fn product(self, a: u64, b: u64) -> u64 {
-            // SAFETY: made only below, where the processor has the instruction.
-            unsafe { field::carryless_multiply(a, b) }
-        }
-    }
-
-    // The product is inlined only into what is compiled for the instruction too.
-    #[target_feature(enable = "pclmulqdq", enable = "sse2")]
-    unsafe fn with_instruction<M: Method>(method: M) -> M::Result {
-        method.by(Hardware)
-    }
-
-    assert!(field::hardware().is_some());
-    // SAFETY: the processor has the instruction.
-    unsafe { with_instruction(method) }
-}
-
-#[cfg(not(target_arch = "x86_64"))]
-pub fn with_hardware<M: Method>(_: M) -> M::Result {
-    unreachable!("timed only where there is such hardware")
-}
-
-/// The sides to time, the library's first; that of the hardware is left off where there is
-/// none.
-pub fn sides<F>(library: F, window: F, hardware: F) -> Vec<(&'static str, F)> {
-    let mut sides = vec![("the library", library), ("the same method in Rust", window)];
-    if field::hardware().is_some() {
-        sides.push(("carry-less multiply hardware in Rust", hardware));
-    }
-    sides
 }
 
 /// How many operations of the field; the products that an inverse takes are not among them.

@@ -1,25 +1,14 @@
 //! The fold of a word beside the same method in Rust, with the library's product and with
 //! carry-less multiply hardware, over the largest coset.
 
-use crate::arithmetic::{sides, with_hardware, Arithmetic, Method, Windowed};
-use crate::clock::{table, Work};
+use crate::arithmetic::Arithmetic;
+use crate::beside::{checked, compare, Operation};
 use crate::coset::{composed_maps, inputs, numbers, point, prefix_sums, step_elements, stepped};
 use razgwilh::Fold;
-use std::hint::black_box;
 
 const DIMENSION: usize = 20;
 const SIZE: usize = 1 << DIMENSION;
 const TURNS: usize = 10;
-
-/// A fold, and the lists for the values and the next basis.
-struct Folding<'a> {
-    given: Fold<'a>,
-    values: &'a mut [u64],
-    next_basis: &'a mut [u64],
-}
-
-/// Fills in both lists, and gives the next offset.
-type Operation = fn(Folding) -> u64;
 
 pub fn report() {
     let mut next = numbers();
@@ -27,63 +16,39 @@ pub fn report() {
     let challenge = next();
     println!("\nfold of {SIZE} entries, wanted at most 1.30 of the same method:");
     for step in 1..=3 {
-        compare(Fold { k: DIMENSION, step, offset, basis: &basis, word: &word, challenge });
+        let given = Fold { k: DIMENSION, step, offset, basis: &basis, word: &word, challenge };
+        checked(given);
+        let size = 1 << step;
+        let products = (3 * (size - 1) - 1) as f64 / size as f64;
+        println!("  step {step}, {products:.1} products for each entry read:");
+        compare(given, TURNS, "ms", 1e6);
     }
 }
 
-fn compare(given: Fold) {
-    let sides = sides(by_library as Operation, |all| all.by(Windowed), |all| with_hardware(all));
-    let expected = result(by_library, given);
-    for (name, operation) in &sides[1..] {
-        let same = result(*operation, given) == expected;
-        assert!(same, "step {}: {name} and the library differ", given.step);
+impl Operation for Fold<'_> {
+    /// The values and the next basis.
+    type Room = (Vec<u64>, Vec<u64>);
+    /// The next offset.
+    type Answer = u64;
+
+    fn room(self) -> Self::Room {
+        let dimension = self.k - self.step;
+        (vec![0; 1 << dimension], vec![0; dimension])
     }
-    let size = 1 << given.step;
-    let products = (3 * (size - 1) - 1) as f64 / size as f64;
-    println!("  step {}, {products:.1} products for each entry read:", given.step);
-    let works = sides.iter().map(|(name, operation)| work(name, *operation, given));
-    table(works, TURNS, "ms", 1e6);
-}
 
-fn result(operation: Operation, given: Fold) -> (u64, Vec<u64>, Vec<u64>) {
-    let (mut values, mut next_basis) = room(given);
-    let folding = Folding { given, values: &mut values, next_basis: &mut next_basis };
-    (operation(folding), values, next_basis)
-}
-
-/// The room is made once, so that each turn but the first finds its memory in place.
-fn work<'a>(name: &'a str, operation: Operation, given: Fold<'a>) -> Work<'a> {
-    let (mut values, mut next_basis) = room(given);
-    let run = move || {
-        let given = black_box(given);
-        operation(Folding { given, values: &mut values, next_basis: &mut next_basis })
-    };
-    Work { name, run: Box::new(run) }
-}
-
-fn room(given: Fold) -> (Vec<u64>, Vec<u64>) {
-    let dimension = given.k - given.step;
-    (vec![0; 1 << dimension], vec![0; dimension])
-}
-
-fn by_library(Folding { given, values, next_basis }: Folding) -> u64 {
-    razgwilh::fold(given, values, next_basis).expect("nothing to refuse")
-}
-
-/// The library's method.
-impl Method for Folding<'_> {
-    type Result = u64;
+    fn by_library(self, (values, next_basis): &mut Self::Room) -> u64 {
+        razgwilh::fold(self, values, next_basis).expect("nothing to refuse")
+    }
 
     #[inline(always)]
-    fn by(self, arithmetic: impl Arithmetic) -> u64 {
-        let Folding { given, values, next_basis } = self;
-        let elements = step_elements(arithmetic, given.basis, given.step);
-        let elements = &elements[..given.step];
-        fill_values(arithmetic, elements, given, values);
-        for (image, b) in next_basis.iter_mut().zip(&given.basis[given.step..]) {
+    fn by(self, arithmetic: impl Arithmetic, (values, next_basis): &mut Self::Room) -> u64 {
+        let elements = step_elements(arithmetic, self.basis, self.step);
+        let elements = &elements[..self.step];
+        fill_values(arithmetic, elements, self, values);
+        for (image, b) in next_basis.iter_mut().zip(&self.basis[self.step..]) {
             *image = composed_maps(arithmetic, elements, *b);
         }
-        composed_maps(arithmetic, elements, given.offset)
+        composed_maps(arithmetic, elements, self.offset)
     }
 }
 

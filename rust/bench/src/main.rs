@@ -1,6 +1,7 @@
 //! How long the proved library takes, as ratios to Rust in the same run. It tests nothing.
 
 mod arithmetic;
+mod beside;
 mod clock;
 mod codes;
 mod coset;

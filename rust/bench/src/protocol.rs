@@ -5,6 +5,7 @@ mod judge;
 mod layers;
 mod prover;
 
+use crate::beside::{work, Operation};
 use crate::clock::{least, Work};
 use inputs::Inputs;
 use judge::Proof;
@@ -25,12 +26,12 @@ fn report_growth(growing: &[Inputs]) {
     let runs = || growing.iter().map(|inputs| inputs.run(GROWTH_STEP));
     let dimensions: Vec<usize> = runs().map(|run| run.k).collect();
     println!("\ngrowth with k = {dimensions:?} at step {GROWTH_STEP}, in µs:");
-    let provers = runs().map(|run| prover::work("prove", prover::by_library, run));
+    let provers = runs().map(|run| work(run, ("prove", Operation::by_library)));
     print_times("prove", provers.collect(), 20);
     let proved: Vec<_> = runs().map(prover::proved).collect();
     let judges = growing.iter().zip(&proved).map(|(inputs, (store, last))| {
         let (run, queries) = (inputs.run(GROWTH_STEP), &inputs.queries[..]);
-        judge::work("judge", judge::by_library, Proof { run, queries, store, last })
+        work(Proof { run, queries, store, last }, ("judge", Operation::by_library))
     });
     print_times("judge", judges.collect(), judge::TURNS);
 }

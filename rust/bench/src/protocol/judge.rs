@@ -3,13 +3,12 @@
 use super::inputs::{Inputs, RATE};
 use super::layers::{check_bases, layer_start};
 use super::prover::proved;
-use crate::arithmetic::{counted, sides, with_hardware, Arithmetic, Counts, Method, Windowed};
-use crate::clock::{table, Work};
+use crate::arithmetic::{counted, Arithmetic, Counts};
+use crate::beside::{checked, compare, Operation};
 use crate::codes::evaluate;
 use crate::coset::{composed_maps, point, step_elements, LayerCoset};
 use crate::fold::{inverses_of, span_of, Coset};
 use razgwilh::{Accepted, Cause, Refusal, Run};
-use std::hint::black_box;
 
 pub const TURNS: usize = 200;
 
@@ -22,41 +21,27 @@ pub struct Proof<'a> {
     pub last: &'a [u64],
 }
 
-pub type Verdict = Result<Accepted, Refusal>;
-pub type Judge = fn(Proof) -> Verdict;
-
 pub fn report(inputs: &Inputs) {
     let (entries, queries) = (inputs.word.len(), inputs.queries.len());
     println!("\njudge of {entries} entries with rate {RATE} at {queries} queries:");
     for step in 1..=3 {
         let run = inputs.run(step);
         let (store, last) = proved(run);
-        compare(Proof { run, queries: &inputs.queries, store: &store, last: &last });
+        let proof = Proof { run, queries: &inputs.queries, store: &store, last: &last };
+        check(proof);
+        print_counts(proof);
+        compare(proof, TURNS, "µs", 1e3);
     }
-}
-
-fn compare(proof: Proof) {
-    let sides = sides(by_library as Judge, |all| all.by(Windowed), |all| with_hardware(all));
-    check(proof, &sides);
-    print_counts(proof);
-    let works = sides.iter().map(|(name, judge)| work(name, *judge, proof));
-    table(works, TURNS, "µs", 1e3);
 }
 
 /// The answers to what was proved, and to a store with another entry where the last query finds
 /// one.
-fn check(proof: Proof, sides: &[(&str, Judge)]) {
-    let step = proof.run.step;
+fn check(proof: Proof) {
+    assert!(checked(proof).is_ok(), "what was proved is accepted");
     let mut damaged = proof.store.to_vec();
-    damaged[proof.queries[proof.queries.len() - 1] as usize >> step] ^= 1;
-    let refused = Proof { store: &damaged, ..proof };
-    for (given, cause) in [(proof, None), (refused, Some(Cause::RoundCheckFails))] {
-        let expected = by_library(given);
-        assert_eq!(expected.err().map(|refusal| refusal.cause), cause, "step {step}: the library");
-        for (name, judge) in &sides[1..] {
-            assert_eq!(judge(given), expected, "step {step}: {name}");
-        }
-    }
+    damaged[proof.queries[proof.queries.len() - 1] as usize >> proof.run.step] ^= 1;
+    let refusal = checked(Proof { store: &damaged, ..proof }).expect_err("a damaged entry");
+    assert_eq!(refusal.cause, Cause::RoundCheckFails);
 }
 
 fn print_counts(proof: Proof) {
@@ -86,7 +71,7 @@ fn print_counts(proof: Proof) {
 fn print_round_counts(proof: Proof, once: &Counts, queried: &Counts) {
     let step = proof.run.step;
     let listed = (1 << step) + 1;
-    let all = counted(|arithmetic| proof.by(arithmetic));
+    let all = counted(|arithmetic| proof.by(arithmetic, &mut ()));
     let checks = proof.queries.len() * proof.run.challenges.len();
     let each = |of: fn(&Counts) -> u64| (of(&all) - of(once) - of(queried)) as f64 / checks as f64;
     println!(
@@ -98,24 +83,20 @@ fn print_round_counts(proof: Proof, once: &Counts, queried: &Counts) {
     println!("    {:.1} sums and {products:.1} products;", sums - listed as f64);
 }
 
-pub fn work<'a>(name: &'a str, judge: Judge, proof: Proof<'a>) -> Work<'a> {
-    Work {
-        name,
-        run: Box::new(move || judge(black_box(proof)).map_or(0, |accepted| accepted.reads)),
-    }
-}
-
-pub fn by_library(proof: Proof) -> Verdict {
-    razgwilh::judge(proof.run, proof.queries, proof.store, proof.last)
-}
-
 /// The library's method: what a round has for all queries is found once, then query after query
 /// is checked.
-impl Method for Proof<'_> {
-    type Result = Verdict;
+impl Operation for Proof<'_> {
+    type Room = ();
+    type Answer = Result<Accepted, Refusal>;
+
+    fn room(self) {}
+
+    fn by_library(self, (): &mut ()) -> Self::Answer {
+        razgwilh::judge(self.run, self.queries, self.store, self.last)
+    }
 
     #[inline(always)]
-    fn by(self, arithmetic: impl Arithmetic) -> Verdict {
+    fn by(self, arithmetic: impl Arithmetic, (): &mut ()) -> Self::Answer {
         check_bases(arithmetic, &self.run);
         let rounds = set_up(arithmetic, &self.run);
         let mut cosets = 0;

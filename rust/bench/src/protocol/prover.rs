@@ -2,25 +2,14 @@
 
 use super::inputs::{Inputs, RATE};
 use super::layers::{check_bases, dimension, layer_start};
-use crate::arithmetic::{counted, sides, with_hardware, Arithmetic, Method, Windowed};
-use crate::clock::{table, Work};
+use crate::arithmetic::{counted, Arithmetic};
+use crate::beside::{checked, compare, Operation};
 use crate::codes::interpolate_in_place;
 use crate::coset::{step_elements, LayerCoset};
 use crate::fold::fill_values;
 use razgwilh::{Cause, Fold, Refusal, Run};
-use std::hint::black_box;
 
 const TURNS: usize = 10;
-
-/// A run, and the lists for the store and the last coefficients.
-pub struct Proving<'a> {
-    run: Run<'a>,
-    store: &'a mut [u64],
-    last: &'a mut [u64],
-}
-
-/// Fills in both lists.
-pub type Prover = fn(Proving) -> Result<(), Refusal>;
 
 pub fn report(inputs: &Inputs) {
     println!(
@@ -28,27 +17,15 @@ pub fn report(inputs: &Inputs) {
         inputs.word.len()
     );
     for step in 1..=3 {
-        compare(inputs.run(step));
+        let run = inputs.run(step);
+        assert_eq!(checked(run), Ok(()), "a word of low degree is proved");
+        print_counts(run);
+        compare(run, TURNS, "ms", 1e6);
     }
-}
-
-fn compare(run: Run) {
-    let sides = sides(by_library as Prover, |all| all.by(Windowed), |all| with_hardware(all));
-    let expected = result(by_library, run);
-    assert_eq!(expected.0, Ok(()), "a word of low degree is proved");
-    for (name, prover) in &sides[1..] {
-        let same = result(*prover, run) == expected;
-        assert!(same, "step {}: {name} and the library differ", run.step);
-    }
-    print_counts(run);
-    let works = sides.iter().map(|(name, prover)| work(name, *prover, run));
-    table(works, TURNS, "ms", 1e6);
 }
 
 fn print_counts(run: Run) {
-    let (mut store, mut last) = room(run);
-    let proving = Proving { run, store: &mut store, last: &mut last };
-    let counts = counted(|arithmetic| proving.by(arithmetic));
+    let counts = counted(|arithmetic| run.by(arithmetic, &mut run.room()));
     let each = |count: u64| count as f64 / run.word.len() as f64;
     println!(
         "  step {}, {:.2} products for each entry of the word, {:.2} operations with {:.2} sums and {} inverses in all:",
@@ -60,47 +37,34 @@ fn print_counts(run: Run) {
     );
 }
 
-fn result(prover: Prover, run: Run) -> (Result<(), Refusal>, Vec<u64>, Vec<u64>) {
-    let (mut store, mut last) = room(run);
-    (prover(Proving { run, store: &mut store, last: &mut last }), store, last)
-}
-
-fn room(run: Run) -> (Vec<u64>, Vec<u64>) {
-    (vec![0; run.store_length()], vec![0; run.last_length()])
-}
-
 /// The store and the last coefficients, by the library.
 pub fn proved(run: Run) -> (Vec<u64>, Vec<u64>) {
-    let (_, store, last) = result(by_library, run);
-    (store, last)
-}
-
-/// The room is made once, so that each turn but the first finds its memory in place.
-pub fn work<'a>(name: &'a str, prover: Prover, run: Run<'a>) -> Work<'a> {
-    let (mut store, mut last) = room(run);
-    let run = move || {
-        let proving = Proving { run: black_box(run), store: &mut store, last: &mut last };
-        prover(proving).is_ok().into()
-    };
-    Work { name, run: Box::new(run) }
-}
-
-pub fn by_library(Proving { run, store, last }: Proving) -> Result<(), Refusal> {
-    razgwilh::prove(run, store, last)
+    let mut proved = run.room();
+    run.by_library(&mut proved).expect("a word of low degree is proved");
+    proved
 }
 
 /// The library's method: layer after layer, and the last one's coefficients in the place of its
 /// values.
-impl Method for Proving<'_> {
-    type Result = Result<(), Refusal>;
+impl Operation for Run<'_> {
+    /// The store and the last coefficients.
+    type Room = (Vec<u64>, Vec<u64>);
+    type Answer = Result<(), Refusal>;
+
+    fn room(self) -> Self::Room {
+        (vec![0; self.store_length()], vec![0; self.last_length()])
+    }
+
+    fn by_library(self, (store, last): &mut Self::Room) -> Self::Answer {
+        razgwilh::prove(self, store, last)
+    }
 
     #[inline(always)]
-    fn by(self, arithmetic: impl Arithmetic) -> Self::Result {
-        let Proving { run, store, last } = self;
-        check_bases(arithmetic, &run);
+    fn by(self, arithmetic: impl Arithmetic, (store, last): &mut Self::Room) -> Self::Answer {
+        check_bases(arithmetic, &self);
         let mut room = [0; 256];
-        let room = &mut room[..1 << dimension(&run, run.challenges.len())];
-        let coset = fold_layers(arithmetic, &run, store, room);
+        let room = &mut room[..1 << dimension(&self, self.challenges.len())];
+        let coset = fold_layers(arithmetic, &self, store, room);
         interpolate_in_place(arithmetic, coset.offset, coset.basis(), room);
         let (first, others) = room.split_at(last.len());
         if let Some(place) = others.iter().rposition(|c| *c != 0) {
