@@ -52,29 +52,10 @@ mod tests {
     }
 
     #[test]
-    fn the_points_are_in_order() {
-        assert_eq!(points(8, &[1, 2]), [8, 9, 0xa, 0xb]);
-        assert_eq!(points(1, &[6, 5]), [1, 7, 4, 2]);
-        assert_eq!(points(0x30, &[1, 4, 2])[5], 0x33);
-        assert_eq!(points(9, &[]), [9]);
-    }
-
-    #[test]
     fn elimination_finds_what_trying_finds() {
         for code in 0..1 << 12 {
             let basis = [0, 3, 6, 9].map(|shift| (code >> shift) & 7);
             assert_eq!(first_dependent(&basis), first_dependent_by_trying(&basis));
         }
-    }
-
-    #[test]
-    fn elimination_goes_by_all_bits() {
-        assert_eq!(first_dependent(&[]), None);
-        assert_eq!(first_dependent(&[0]), Some(0));
-        assert_eq!(first_dependent(&[1 << 63, 1 << 63]), Some(1));
-        let powers: Vec<u64> = (0..64).map(|place| 1 << place).collect();
-        assert_eq!(first_dependent(&powers), None);
-        let and_another = [&powers[..], &[u64::MAX]].concat();
-        assert_eq!(first_dependent(&and_another), Some(64));
     }
 }

@@ -125,42 +125,10 @@ pub fn later_independent(basis: &[u64], round: u64) -> Result<(), Answer> {
 #[cfg(test)]
 mod tests {
     use super::*;
-    use crate::answer::refused_at;
 
-    const PLAIN: Fold = Fold { k: 2, step: 1, offset: 0, basis: &[1, 2], word: &[], challenge: 0 };
-
-    /// With lists of the right lengths lent.
-    fn fold_of(given: Fold) -> Result<Folded, Answer> {
-        let left = given.k - given.step;
-        fold(given, 1 << left, left)
-    }
-
-    #[track_caller]
-    fn assert_folded(given: Fold, values: &[u64], offset: u64, basis: &[u64]) {
-        let next = Coset { offset, basis: basis.to_vec() };
-        assert_eq!(fold_of(given), Ok(Folded { values: values.to_vec(), next }));
-    }
-
+    /// The folds of table A are those of its runs, which `protocol` proves.
     #[test]
-    fn cases_d_f_and_j() {
-        assert_folded(Fold { offset: 8, word: &[5; 4], ..PLAIN }, &[5, 5], 0x48, &[6]);
-        let of_case_f = Fold { word: &[7, 4, 1, 2], challenge: 4, ..PLAIN };
-        assert_folded(of_case_f, &[0xb, 0xb], 0, &[6]);
-        // The interpolant of the second coset is X - 2.
-        for challenge in [2, 4, 0, 1, 999, 1 << 63, u64::MAX] {
-            let of_case_j = Fold { word: &[0, 0, 0, 1], challenge, ..PLAIN };
-            assert_folded(of_case_j, &[0, challenge ^ 2], 0, &[6]);
-        }
-    }
-
-    #[test]
-    fn cases_k_and_m() {
-        let three = Fold { k: 3, basis: &[1, 2, 4], word: &[0; 8], ..PLAIN };
-        let word = [0, 1, 4, 5, 0x10, 0x11, 0x14, 0x15];
-        let layer_1 = [2, 4, 0x16, 0x10];
-        assert_folded(Fold { word: &word, challenge: 2, ..three }, &layer_1, 0, &[6, 0x14]);
-        let second = Fold { basis: &[6, 0x14], word: &layer_1, challenge: 3, ..PLAIN };
-        assert_folded(second, &[1, 1], 0, &[0x168]);
-        assert_eq!(fold_of(Fold { basis: &[1, 2, 3], ..three }), Err(refused_at(8, 2)));
+    fn case_d() {
+        assert_eq!(following(1, 8, &[1, 2]), Coset { offset: 0x48, basis: vec![6] });
     }
 }

@@ -102,15 +102,6 @@ impl Parameters {
 mod tests {
     use super::*;
 
-    #[test]
-    fn case_o() {
-        let parameters = Parameters { k: 20, rate: 6, step: 3 };
-        assert_eq!(parameters.rounds(), 4);
-        assert_eq!(parameters.layer_length(4), 256);
-        assert_eq!(parameters.last_count(), 4);
-        assert_eq!(Parameters { k: 21, ..parameters }.may_use(), Err(refused(4)));
-    }
-
     /// The paper has at most 256 points and 1, 2 or 4 coefficients, and so that the last layer
     /// has its rate: 2^R points for a coefficient.
     #[test]

@@ -12,31 +12,29 @@ mod proved;
 mod runs;
 mod table;
 
-use table::Group;
+use crate::protocol::Run;
+use crate::transcript::Judging;
+use table::{group, HEADER};
 
 /// The whole table, the same each time.
 pub fn text() -> String {
+    let judged = |name, samples: &[Judging]| group(name, "JudgedSample", samples, judged::row);
+    let proved = |name, samples: &[Run]| group(name, "ProvedSample", samples, proved::row);
     let [in_two_rounds, in_three_rounds, at_high_degree] = judged::failing();
-    let of_layers = [
-        Group::of("layouts", "LayoutSample", &layers::layouts(), layers::layout_row),
-        Group::of("indices", "IndexSample", &layers::queries(), layers::index_row),
-        Group::of("cosets", "CosetSample", &layers::first_cosets(), layers::coset_row),
-        Group::of("lookups", "LookupSample", &layers::lookups(), layers::lookup_row),
+    let groups = [
+        group("layouts", "LayoutSample", &layers::layouts(), layers::layout_row),
+        group("indices", "IndexSample", &layers::queries(), layers::index_row),
+        group("cosets", "CosetSample", &layers::first_cosets(), layers::coset_row),
+        group("lookups", "LookupSample", &layers::lookups(), layers::lookup_row),
+        judged("judgedOfTableA", &judged::cases_of_table_a()),
+        judged("judgedAccepted", &judged::accepted()),
+        judged("judgedFailingInTwoRounds", &in_two_rounds),
+        judged("judgedFailingInThreeRounds", &in_three_rounds),
+        judged("judgedAtHighDegree", &at_high_degree),
+        judged("judgedRefused", &judged::refused()),
+        proved("provedWell", &proved::well()),
+        proved("provedAtHighDegree", &proved::at_high_degree()),
+        proved("provedRefused", &proved::refused()),
     ];
-    let judged = [
-        ("judgedOfTableA", judged::cases_of_table_a()),
-        ("judgedAccepted", judged::accepted()),
-        ("judgedFailingInTwoRounds", in_two_rounds),
-        ("judgedFailingInThreeRounds", in_three_rounds),
-        ("judgedAtHighDegree", at_high_degree),
-        ("judgedRefused", judged::refused()),
-    ];
-    let proved = [
-        ("provedWell", proved::well()),
-        ("provedAtHighDegree", proved::at_high_degree()),
-        ("provedRefused", proved::refused()),
-    ];
-    let judged = judged.map(|(name, rows)| Group::of(name, "JudgedSample", &rows, judged::row));
-    let proved = proved.map(|(name, rows)| Group::of(name, "ProvedSample", &rows, proved::row));
-    table::text(&of_layers.into_iter().chain(judged).chain(proved).collect::<Vec<_>>())
+    format!("{HEADER}{}", groups.concat())
 }

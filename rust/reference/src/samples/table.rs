@@ -4,7 +4,7 @@
 use crate::parameters::Parameters;
 use std::fmt::{self, Display, Formatter};
 
-const HEADER: &str = "\
+pub(super) const HEADER: &str = "\
 -- The samples, as the reference prints them.
 use mathlib.Core.List.{List, [], _∷_}
 use Rattle.refusal.specs.declared.Position.the-variants.{At, Absent}
@@ -12,36 +12,15 @@ use Rattle.samples.specs.Samples.{LayoutSample, IndexSample, CosetSample
 use Rattle.samples.specs.Samples.{JudgedSample, ProvedSample}
 ";
 
-/// The header and then the groups.
-pub(super) fn text(groups: &[Group]) -> String {
-    let groups: String = groups.iter().map(Group::text).collect();
-    format!("{HEADER}{groups}")
-}
-
-/// A named list of rows of one type.
-pub(super) struct Group {
-    name: &'static str,
-    row_type: &'static str,
-    rows: Vec<Value>,
-}
-
-impl Group {
-    /// The group of these samples, each of which gives a row.
-    pub(super) fn of<Sample>(
-        name: &'static str,
-        row_type: &'static str,
-        samples: &[Sample],
-        row: fn(&Sample) -> Value,
-    ) -> Group {
-        Group { name, row_type, rows: samples.iter().map(row).collect() }
-    }
-
-    /// A blank line, the type of the list and the list.
-    fn text(&self) -> String {
-        let Group { name, row_type, rows } = self;
-        let rows: String = rows.iter().map(row_text).collect();
-        format!("\nabbrev pub {name} : List {row_type}\n{name} =\n{rows}    []\n")
-    }
+/// A named list of rows of one type, one row for each sample, behind a blank line.
+pub(super) fn group<Sample>(
+    name: &str,
+    row_type: &str,
+    samples: &[Sample],
+    row: fn(&Sample) -> Value,
+) -> String {
+    let rows: String = samples.iter().map(|sample| row_text(&row(sample))).collect();
+    format!("\nabbrev pub {name} : List {row_type}\n{name} =\n{rows}    []\n")
 }
 
 // What stands in a row.
