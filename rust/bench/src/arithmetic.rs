@@ -44,39 +44,26 @@ impl Counts {
     }
 }
 
-#[derive(Clone, Copy)]
-pub struct Counting<'a> {
-    counts: &'a Cell<Counts>,
-}
-
-impl Counting<'_> {
-    fn add(self, more: impl FnOnce(&mut Counts)) {
-        let mut counts = self.counts.get();
-        more(&mut counts);
-        self.counts.set(counts);
-    }
-}
-
-impl Arithmetic for Counting<'_> {
+impl Arithmetic for &Cell<Counts> {
     fn sum(self, a: u64, b: u64) -> u64 {
-        self.add(|counts| counts.sums += 1);
+        self.set(Counts { sums: self.get().sums + 1, ..self.get() });
         Windowed.sum(a, b)
     }
 
     fn product(self, a: u64, b: u64) -> u64 {
-        self.add(|counts| counts.products += 1);
+        self.set(Counts { products: self.get().products + 1, ..self.get() });
         Windowed.product(a, b)
     }
 
     fn inverse(self, a: u64) -> u64 {
-        self.add(|counts| counts.inverses += 1);
+        self.set(Counts { inverses: self.get().inverses + 1, ..self.get() });
         Windowed.inverse(a)
     }
 }
 
 /// The operations that the work makes.
-pub fn counted<R>(work: impl FnOnce(Counting) -> R) -> Counts {
+pub fn counted<R>(work: impl FnOnce(&Cell<Counts>) -> R) -> Counts {
     let counts = Cell::default();
-    work(Counting { counts: &counts });
+    work(&counts);
     counts.get()
 }
