@@ -80,8 +80,7 @@ pub fn encode(
     values: &mut [u64],
     answer: &mut [u64],
 ) {
-    // SAFETY: each pointer and length are those of one slice, and the exclusive ones overlap no
-    // other.
+    // SAFETY: each pointer and length are one slice's; what is exclusive overlaps no other.
     unsafe {
         rz_encode(
             offset,
@@ -105,8 +104,7 @@ pub fn interpolate(
     coefficients: &mut [u64],
     answer: &mut [u64],
 ) {
-    // SAFETY: each pointer and length are those of one slice, and the exclusive ones overlap no
-    // other.
+    // SAFETY: each pointer and length are one slice's; what is exclusive overlaps no other.
     unsafe {
         rz_interpolate(
             offset,
@@ -124,8 +122,7 @@ pub fn interpolate(
 
 /// The five numbers of [`crate::fold`]; the value is the next offset.
 pub fn fold(given: Fold, values: &mut [u64], next_basis: &mut [u64], answer: &mut [u64]) {
-    // SAFETY: each pointer and length are those of one slice, and the exclusive ones overlap no
-    // other.
+    // SAFETY: each pointer and length are one slice's; what is exclusive overlaps no other.
     unsafe {
         rz_fold(
             given.k,
@@ -148,8 +145,7 @@ pub fn fold(given: Fold, values: &mut [u64], next_basis: &mut [u64], answer: &mu
 
 /// The five numbers of [`crate::prove`].
 pub fn prove(run: Run, store: &mut [u64], last: &mut [u64], answer: &mut [u64]) {
-    // SAFETY: each pointer and length are those of one slice, and the exclusive ones overlap no
-    // other.
+    // SAFETY: each pointer and length are one slice's; what is exclusive overlaps no other.
     unsafe {
         rz_prove(
             run.k,
@@ -175,8 +171,7 @@ pub fn prove(run: Run, store: &mut [u64], last: &mut [u64], answer: &mut [u64]) 
 /// The five numbers of [`crate::layer`]: the place is where the layer begins and the value is
 /// its length.
 pub fn layer(k: usize, rate: usize, step: usize, store: &[u64], i: usize, answer: &mut [u64]) {
-    // SAFETY: each pointer and length are those of one slice, and the exclusive one overlaps no
-    // other.
+    // SAFETY: each pointer and length are one slice's; what is exclusive overlaps no other.
     unsafe {
         rz_layer(k, rate, step, store.as_ptr(), store.len(), i, answer.as_mut_ptr(), answer.len())
     }
@@ -184,8 +179,7 @@ pub fn layer(k: usize, rate: usize, step: usize, store: &[u64], i: usize, answer
 
 /// The five numbers of [`crate::judge`].
 pub fn judge(run: Run, queries: &[u64], store: &[u64], last: &[u64], answer: &mut [u64]) {
-    // SAFETY: each pointer and length are those of one slice, and the exclusive one overlaps no
-    // other.
+    // SAFETY: each pointer and length are one slice's; what is exclusive overlaps no other.
     unsafe {
         rz_judge(
             run.k,
@@ -212,8 +206,7 @@ pub fn judge(run: Run, queries: &[u64], store: &[u64], last: &[u64], answer: &mu
 
 /// The five numbers of [`crate::judge_transcript`].
 pub fn judge_transcript(bytes: &[u8], answer: &mut [u64]) {
-    // SAFETY: each pointer and length are those of one slice, and the exclusive one overlaps no
-    // other.
+    // SAFETY: each pointer and length are one slice's; what is exclusive overlaps no other.
     unsafe { rz_judge_transcript(bytes.as_ptr(), bytes.len(), answer.as_mut_ptr(), answer.len()) }
 }
 

@@ -1,11 +1,7 @@
 //! The causes are those of docs/NUMBERS.md, and no answer reads as accepted but number 0.
 
 use razgwilh::raw::{Answer, NONE};
-use razgwilh::{inverse, Cause, Refusal, Run};
-
-fn refusal(cause: Cause) -> Refusal {
-    Refusal { cause, place: None, round: None, reads: 0 }
-}
+use razgwilh::{Cause, Run};
 
 /// Number and cause of each row of the table of docs/NUMBERS.md.
 fn documented() -> Vec<(u64, &'static str)> {
@@ -25,27 +21,7 @@ fn documented() -> Vec<(u64, &'static str)> {
 fn causes_are_those_of_the_table() {
     let named: Vec<_> = Cause::ALL.iter().map(|cause| (cause.number(), cause.words())).collect();
     assert_eq!(named, documented());
-}
-
-#[test]
-fn every_number_has_its_own_cause() {
-    for &cause in Cause::ALL {
-        assert_eq!(Cause::of(cause.number()), Some(cause));
-    }
-    for number in [0, Cause::ALL.len() as u64 + 1, NONE] {
-        assert_eq!(Cause::of(number), None);
-    }
-}
-
-#[test]
-fn a_refusal_shows_number_cause_place_and_round() {
-    let dependent = Refusal { place: Some(2), ..refusal(Cause::BasisDependent) };
-    let shown = "number 8: a basis element lies in the span of earlier ones, place 2";
-    assert_eq!(dependent.to_string(), shown);
-
-    let failed = Refusal { place: Some(1), round: Some(0), ..refusal(Cause::RoundCheckFails) };
-    assert_eq!(failed.to_string(), "number 11: a round check fails, place 1, round 0");
-    assert_eq!(refusal(Cause::InverseOfZero).to_string(), "number 15: the inverse of zero");
+    assert!(Cause::ALL.iter().all(|cause| Cause::of(cause.number()) == Some(*cause)));
 }
 
 #[test]
@@ -58,13 +34,6 @@ fn a_call_that_writes_nothing_is_not_accepted() {
 #[should_panic(expected = "number 17")]
 fn a_number_without_a_cause_is_not_accepted() {
     let _ = Answer::of(|answer| answer.copy_from_slice(&[17, NONE, NONE, 0, NONE])).result();
-}
-
-#[test]
-fn elements_are_given_whatever_they_are() {
-    assert_eq!(inverse(2), Ok(0x8000_0000_0000_000d));
-    assert_eq!(inverse(inverse(NONE).unwrap()), Ok(NONE));
-    assert_eq!(inverse(0), Err(refusal(Cause::InverseOfZero)));
 }
 
 #[test]

@@ -143,4 +143,25 @@ fn decimal_or_hyphen(number: Option<u64>) -> String {
 }
 
 #[cfg(test)]
-mod tests;
+mod tests {
+    use super::*;
+    use crate::answer::{accepted, failed};
+    use crate::cases::{judgings, of_case_f};
+
+    /// Case O has no transcript that the program takes.
+    #[test]
+    fn cases_g_to_p() {
+        for (run, queries, due) in judgings() {
+            assert_eq!(judge_of_program(&transcript(&run, &queries)), due);
+        }
+        assert_eq!(judge_of_program(&[]), refused_at(1, 1));
+    }
+
+    #[test]
+    fn the_length_and_the_lines_of_the_paper() {
+        assert_eq!(transcript(&of_case_f(), &[0, 3]).len(), 136);
+        let header = "answer number place round reads\n";
+        assert_eq!(lines(&accepted(4)), format!("{header}accepted 0 - - 4\n"));
+        assert_eq!(lines(&failed(1, 0, 4)), format!("{header}refused 11 1 0 4\n"));
+    }
+}

@@ -45,20 +45,7 @@ pub fn shown(name: &OsStr) -> String {
 #[cfg(test)]
 mod tests {
     use super::*;
-    use razgwilh::Cause;
     use std::os::unix::ffi::OsStrExt;
-
-    #[test]
-    fn verdicts_in_the_form_of_judge() {
-        let refusal =
-            Refusal { cause: Cause::BasisDependent, place: Some(2), round: None, reads: 0 };
-        let other =
-            Refusal { cause: Cause::LaterBasisDependent, place: None, round: Some(3), reads: 0 };
-        let line = |verdict| line(&verdict, OsStr::new("f"));
-        assert_eq!(line(Ok(Accepted { reads: 4 })), "accepted 0 - - 4 f");
-        assert_eq!(line(Err(refusal)), "refused 8 2 - 0 f");
-        assert_eq!(line(Err(other)), "refused 16 - 3 0 f");
-    }
 
     #[test]
     fn names_cannot_make_a_line() {

@@ -25,33 +25,19 @@ fn cheap_elements(count: u64) -> Vec<u64> {
     with_next.take(count as usize).collect()
 }
 
-/// An element x with x (x + 1) = y. The left side adds up, so that elimination over its values
-/// at all powers of t finds one.
+/// The even one of the two elements x with x (x + 1) = y. The sum over all i below 64 of
+/// (y + y^2 + y^4 .. + y^(2^(i - 1))) θ^(2^i) is one of them, where θ has trace 1.
 fn preimage(y: u64) -> u64 {
-    // At a bit: an image whose highest bit is that one, and an element of it.
-    let mut leading = [(0, 0); u64::BITS as usize];
-    for place in 0..u64::BITS {
-        let element = 1 << place;
-        let (rest, element) = reduced((image(&[1], element), element), &leading);
-        if rest != 0 {
-            leading[rest.ilog2() as usize] = (rest, element);
-        }
+    let (mut power, mut theta_power) = (y, 1 << 61);
+    let (mut x, mut sum) = (0, 0);
+    for _ in 1..64 {
+        sum = field::sum(sum, power);
+        power = field::product(power, power);
+        theta_power = field::product(theta_power, theta_power);
+        x = field::sum(x, field::product(sum, theta_power));
     }
-    let (rest, element) = reduced((y, 0), &leading);
-    assert_eq!(rest, 0, "{y:x} is no image");
-    element
-}
-
-/// The image without what the leading ones can take away, and the element with what was added
-/// for that.
-fn reduced((image, element): (u64, u64), leading: &[(u64, u64)]) -> (u64, u64) {
-    let (mut rest, mut element) = (image, element);
-    while rest != 0 && leading[rest.ilog2() as usize].0 != 0 {
-        let (taken, added) = leading[rest.ilog2() as usize];
-        rest = field::sum(rest, taken);
-        element = field::sum(element, added);
-    }
-    (rest, element)
+    assert_eq!(image(&[1], x), y, "{y:x} is no image");
+    x & !1
 }
 
 #[cfg(test)]
