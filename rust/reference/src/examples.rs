@@ -14,38 +14,23 @@ use crate::transcript::{judge_of_program, lines, sections, transcript, written, 
 use std::path::Path;
 use std::{fs, io};
 
-/// A transcript, or what is given for one.
-#[derive(Clone)]
-pub struct Example {
-    pub name: &'static str,
-    pub bytes: Vec<u8>,
-}
+/// A name, and a transcript or what is given for one.
+type Example = (&'static str, Vec<u8>);
 
-impl Example {
-    /// The two lines that the program prints.
-    pub fn lines(&self) -> String {
-        lines(&judge_of_program(&self.bytes))
-    }
-}
-
-/// Writes two files for each example: its bytes and its lines.
+/// Writes two files for each example: its bytes and the lines that the program prints.
 pub fn write_to(folder: &Path) -> io::Result<()> {
     fs::create_dir_all(folder)?;
-    for example in all() {
-        let file = |ending: &str| folder.join(format!("{}.{ending}", example.name));
-        fs::write(file("transcript"), &example.bytes)?;
-        fs::write(file("lines"), example.lines())?;
+    for (name, bytes) in all() {
+        let file = |ending: &str| folder.join(format!("{name}.{ending}"));
+        fs::write(file("transcript"), &bytes)?;
+        fs::write(file("lines"), lines(&judge_of_program(&bytes)))?;
     }
     Ok(())
 }
 
 /// The same ones each time.
-pub fn all() -> Vec<Example> {
+fn all() -> Vec<Example> {
     [of_table_a(), of_numbers(), of_limits()].concat()
-}
-
-fn example(name: &'static str, bytes: Vec<u8>) -> Example {
-    Example { name, bytes }
 }
 
 // Table A.
@@ -53,14 +38,14 @@ fn example(name: &'static str, bytes: Vec<u8>) -> Example {
 fn of_table_a() -> Vec<Example> {
     let (g, h, k, l) = (of_case_f(), of_case_h(), of_case_k(), of_case_l());
     vec![
-        example("g", transcript(&g, &[0, 3])),
-        example("h", transcript(&h, &[0, 3])),
-        example("i", transcript(&h, &[0])),
-        example("k", transcript(&k, &[5])),
-        example("l_query_0", transcript(&l, &[0])),
-        example("l_query_7", transcript(&l, &[7])),
-        example("n_empty", Vec::new()),
-        example("p_256_queries", of_case_p(&queries_of_case_p())),
+        ("g", transcript(&g, &[0, 3])),
+        ("h", transcript(&h, &[0, 3])),
+        ("i", transcript(&h, &[0])),
+        ("k", transcript(&k, &[5])),
+        ("l_query_0", transcript(&l, &[0])),
+        ("l_query_7", transcript(&l, &[7])),
+        ("n_empty", Vec::new()),
+        ("p_256_queries", of_case_p(&queries_of_case_p())),
     ]
 }
 
@@ -78,17 +63,17 @@ fn of_numbers() -> Vec<Example> {
     let in_the_word = &whole[..130];
     let one_behind = [&whole[..], &[0]].concat();
     vec![
-        example("number_01", in_the_word.to_vec()),
-        example("number_02", changed(|all| all[5].count = 3)),
-        example("number_03", one_behind),
-        example("number_04", with_parameters([21, 1, 1])),
-        example("number_05", with_parameters([3, 7, 1])),
-        example("number_06", with_parameters([3, 1, 4])),
-        example("number_07", with_parameters([3, 2, 2])),
-        example("number_08", transcript(&of_case_m(), &[5])),
-        example("number_09", of_case_p(&too_many_queries_of_case_p())),
-        example("number_10", transcript(&of_case_k(), &[5, 8])),
-        example("number_11", changed(|all| all[6].entries[0] = 2)),
+        ("number_01", in_the_word.to_vec()),
+        ("number_02", changed(|all| all[5].count = 3)),
+        ("number_03", one_behind),
+        ("number_04", with_parameters([21, 1, 1])),
+        ("number_05", with_parameters([3, 7, 1])),
+        ("number_06", with_parameters([3, 1, 4])),
+        ("number_07", with_parameters([3, 2, 2])),
+        ("number_08", transcript(&of_case_m(), &[5])),
+        ("number_09", of_case_p(&too_many_queries_of_case_p())),
+        ("number_10", transcript(&of_case_k(), &[5, 8])),
+        ("number_11", changed(|all| all[6].entries[0] = 2)),
     ]
 }
 
@@ -113,7 +98,7 @@ fn of_limits() -> Vec<Example> {
     let queries: Vec<u64> = (0..34).map(|_| random.below(run.word.len()) as u64).collect();
     let largest = transcript(&run, &queries);
     let one_more = [&largest[..], &[0]].concat();
-    vec![example("number_14", one_more), example("largest", largest)]
+    vec![("number_14", one_more), ("largest", largest)]
 }
 
 // Honest runs. They do not change with what is compared, and so the files stay.
@@ -159,7 +144,7 @@ mod tests {
 
     #[test]
     fn each_number_is_that_of_the_name() {
-        for Example { name, bytes } in all() {
+        for (name, bytes) in all() {
             if let Some(number) = name.strip_prefix("number_") {
                 assert_eq!(format!("{:02}", judge_of_program(&bytes).number), number);
             }
