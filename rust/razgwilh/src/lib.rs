@@ -52,15 +52,8 @@
 //! assert_eq!(verdict, Ok(Accepted { reads: 4 }));
 //!
 //! // Parameters; offset and basis; challenges; queries; layers 0 and 1; last coefficients.
-//! let sections: [&[u64]; 7] = [
-//!     &[3, 1, 1],
-//!     &[0, 1, 2, 4],
-//!     run.challenges,
-//!     &[5],
-//!     run.word,
-//!     &store,
-//!     &last,
-//! ];
+//! let sections: [&[u64]; 7] =
+//!     [&[3, 1, 1], &[0, 1, 2, 4], run.challenges, &[5], run.word, &store, &last];
 //! let mut bytes = Vec::new();
 //! for section in sections {
 //!     bytes.extend((section.len() as u32).to_le_bytes());
@@ -71,10 +64,8 @@
 //! // Without its last byte it ends in the entries of section 7.
 //! let refusal = judge_transcript(&bytes[..bytes.len() - 1]).unwrap_err();
 //! assert_eq!(refusal.cause, Cause::BytesEnd);
-//! assert_eq!(
-//!     refusal.to_string(),
-//!     "number 1: the bytes end in a count or its entries, place 7"
-//! );
+//! let shown = "number 1: the bytes end in a count or its entries, place 7";
+//! assert_eq!(refusal.to_string(), shown);
 //! # Ok::<(), razgwilh::Refusal>(())
 //! ```
 

@@ -56,13 +56,9 @@ impl Answer {
         let Some(cause) = Cause::of(self.number) else {
             panic!("the library answered with number {}, which has no cause here", self.number);
         };
-        let given = |number| (number != NONE).then_some(number);
-        Err(Refusal {
-            cause,
-            place: given(self.place),
-            round: given(self.round),
-            reads: self.reads,
-        })
+        let given = |number: u64| (number != NONE).then_some(number);
+        let [place, round] = [self.place, self.round].map(given);
+        Err(Refusal { cause, place, round, reads: self.reads })
     }
 }
 

@@ -126,11 +126,6 @@ fn last_interpolant(run: &Run, layers: &[Vec<u64>]) -> Vec<u64> {
     interpolant(&points(*offset, basis), &layers[r])
 }
 
-/// The place of the highest coefficient that is not zero.
-fn degree(polynomial: &[u64]) -> Option<usize> {
-    polynomial.iter().rposition(|&coefficient| coefficient != 0)
-}
-
 // The prover.
 
 /// What a prover answers, and what the lists lent to it hold afterwards.
@@ -153,7 +148,7 @@ pub fn prove(run: &Run) -> Proved {
     proved.store = joined(&layers);
     let polynomial = last_interpolant(run, &layers);
     let d = run.parameters.last_count();
-    match degree(&polynomial) {
+    match polynomial.iter().rposition(|&coefficient| coefficient != 0) {
         // The degree stands where other refusals have their place.
         Some(degree) if degree >= d => proved.answer = refused_at(DEGREE_TOO_HIGH, degree as u64),
         _ => proved.last = polynomial[..d].to_vec(),
