@@ -25,7 +25,7 @@ pub trait Operation: Copy {
 pub type Side<O> = (&'static str, fn(O, &mut <O as Operation>::Room) -> <O as Operation>::Answer);
 
 /// The sides to time, the library's first; that of the hardware is left off where there is none.
-pub fn sides<O: Operation>() -> Vec<Side<O>> {
+fn sides<O: Operation>() -> Vec<Side<O>> {
     let mut sides: Vec<Side<O>> = vec![
         ("the library", O::by_library),
         ("the same method in Rust", |operation, room| operation.by(Windowed, room)),
