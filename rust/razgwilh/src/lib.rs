@@ -64,7 +64,7 @@
 //! // Without its last byte it ends in the entries of section 7.
 //! let refusal = judge_transcript(&bytes[..bytes.len() - 1]).unwrap_err();
 //! assert_eq!(refusal.cause, Cause::BytesEnd);
-//! let shown = "number 1: the bytes end in a count or its entries, place 7";
+//! let shown = "number 1: the bytes end in a count or its entries; section 7";
 //! assert_eq!(refusal.to_string(), shown);
 //! # Ok::<(), razgwilh::Refusal>(())
 //! ```

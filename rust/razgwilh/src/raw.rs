@@ -15,7 +15,12 @@ pub const ANSWER_LENGTH: usize = 5;
 /// number.
 pub const NONE: u64 = u64::MAX;
 
-/// The five numbers of an answer, as the library wrote them.
+/// The five numbers of an answer, as the library wrote them. It must be used:
+///
+/// ```compile_fail
+/// #![deny(unused_must_use)]
+/// razgwilh::raw::Answer::of(|answer| razgwilh::raw::judge_transcript(&[], answer));
+/// ```
 #[derive(Clone, Copy, Debug, PartialEq, Eq)]
 #[must_use]
 pub struct Answer {

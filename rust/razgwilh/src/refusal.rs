@@ -5,7 +5,7 @@ use core::fmt::{self, Display, Formatter};
 
 /// The cause of a refusal, one for each number of `docs/NUMBERS.md`. A number, once given,
 /// keeps its cause for good; later versions may add some, and so whoever matches on a cause has
-/// an arm for the rest, which ought to hold.
+/// an arm for the rest, in which nothing is settled.
 #[derive(Clone, Copy, Debug, PartialEq, Eq, Hash)]
 #[non_exhaustive]
 pub enum Cause {
@@ -104,6 +104,18 @@ impl Cause {
             Cause::LaterBasisDependent => "a later layer's basis is dependent",
         }
     }
+
+    /// What a place is called with this cause.
+    fn place(self) -> &'static str {
+        match self {
+            Cause::BytesEnd | Cause::CountDiffers => "section",
+            Cause::BasisDependent => "basis place",
+            Cause::QueryOutOfRange | Cause::RoundCheckFails => "query",
+            Cause::DegreeTooLarge => "degree",
+            Cause::WrongLength => "list",
+            _ => "place",
+        }
+    }
 }
 
 /// Number and cause together: `number 3: bytes after the last section`.
@@ -128,12 +140,12 @@ pub struct Refusal {
     pub reads: u64,
 }
 
-/// Number, cause and place: `number 11: a round check fails, place 1, round 0`.
+/// Number, cause, place and round: `number 11: a round check fails; query 1, round 0`.
 impl Display for Refusal {
     fn fmt(&self, f: &mut Formatter) -> fmt::Result {
         write!(f, "{}", self.cause)?;
         if let Some(place) = self.place {
-            write!(f, ", place {place}")?;
+            write!(f, "; {} {place}", self.cause.place())?;
         }
         if let Some(round) = self.round {
             write!(f, ", round {round}")?;

@@ -1,7 +1,7 @@
 //! The causes are those of docs/NUMBERS.md, and no answer reads as accepted but number 0.
 
 use razgwilh::raw::{Answer, NONE};
-use razgwilh::{Cause, Run};
+use razgwilh::{Cause, Refusal, Run};
 
 #[test]
 fn causes_are_those_of_the_table() {
@@ -14,7 +14,17 @@ fn causes_are_those_of_the_table() {
         let front = format!("| {} | {} |", cause.number(), cause.words());
         assert!(row.starts_with(&front), "{cause} stands in the place of {row}");
         assert_eq!(Cause::of(cause.number()), Some(*cause));
+        let place = row.split('|').nth(3).and_then(|cell| cell.trim().split(',').next());
+        if let Some(place) = place.filter(|place| *place != "-") {
+            let refusal = Refusal { cause: *cause, place: Some(2), round: None, reads: 0 };
+            assert_eq!(refusal.to_string(), format!("{cause}; {place} 2"));
+        }
     }
+}
+
+#[test]
+fn the_crate_does_without_std() {
+    assert!(include_str!("../src/lib.rs").contains("\n#![no_std]\n"));
 }
 
 #[test]
