@@ -172,11 +172,8 @@ impl Call {
 
     /// The call without any list, but for a basis that the dimension is taken from.
     pub fn without_lists(mut self) -> Call {
-        let carries_k = |list| list == Basis && !self.operation.takes(K);
-        for list in self.operation.all_lists() {
-            if !carries_k(list) {
-                self.lists[list as usize].clear();
-            }
+        for list in self.operation.lists().into_iter().chain([Queries]) {
+            self[list].clear();
         }
         self
     }
@@ -211,11 +208,10 @@ impl Input for Call {
 
     /// Low parameters are small, then short lists, and among them those with few bits.
     fn size(&self) -> Self::Size {
-        let parameters = [self.k(), self[Rate], self[Step]];
         let others = &self.numbers[Offset as usize..];
         let numbers = others.iter().chain(self.lists.iter().flatten());
         (
-            parameters,
+            self.setting(),
             self.length_of_lists(),
             numbers.map(|number| number.count_ones()).sum(),
             self.numbers,

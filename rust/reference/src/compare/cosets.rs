@@ -103,23 +103,22 @@ pub fn any_dependent(random: &mut Random, k: usize) -> Vec<u64> {
     dependent(random, k, place, picked)
 }
 
+type Dimensions = RangeInclusive<usize>;
+
 /// All of the dimensions, each with all places of its basis.
-pub fn all_places(dimensions: RangeInclusive<usize>) -> impl Iterator<Item = (usize, usize)> {
+pub fn all_places(dimensions: Dimensions) -> impl Iterator<Item = (usize, usize)> {
     let places_of = |k| (0..k).map(move |place| (k, place));
     dimensions.flat_map(places_of)
 }
 
 /// Makes dependent bases of some dimensions.
-pub type Bases = fn(&mut Random, RangeInclusive<usize>) -> Vec<Vec<u64>>;
+pub type Bases = fn(&mut Random, Dimensions) -> Vec<Vec<u64>>;
 
-pub fn with_zero_elements(random: &mut Random, dimensions: RangeInclusive<usize>) -> Vec<Vec<u64>> {
+pub fn with_zero_elements(random: &mut Random, dimensions: Dimensions) -> Vec<Vec<u64>> {
     all_places(dimensions).map(|(k, place)| dependent(random, k, place, 0)).collect()
 }
 
-pub fn with_repeated_elements(
-    random: &mut Random,
-    dimensions: RangeInclusive<usize>,
-) -> Vec<Vec<u64>> {
+pub fn with_repeated_elements(random: &mut Random, dimensions: Dimensions) -> Vec<Vec<u64>> {
     let mut bases = Vec::new();
     for (k, place) in all_places(dimensions) {
         let earlier = 0..place;
@@ -129,10 +128,7 @@ pub fn with_repeated_elements(
 }
 
 /// Sums of two earlier elements or more: of any two next to each other, of all, and of any.
-pub fn with_sums_of_elements(
-    random: &mut Random,
-    dimensions: RangeInclusive<usize>,
-) -> Vec<Vec<u64>> {
+pub fn with_sums_of_elements(random: &mut Random, dimensions: Dimensions) -> Vec<Vec<u64>> {
     let mut bases = Vec::new();
     for (k, place) in all_places(dimensions) {
         for earlier in 1..place {
@@ -145,10 +141,7 @@ pub fn with_sums_of_elements(
     bases
 }
 
-pub fn dependent_at_two_places(
-    random: &mut Random,
-    dimensions: RangeInclusive<usize>,
-) -> Vec<Vec<u64>> {
+pub fn dependent_at_two_places(random: &mut Random, dimensions: Dimensions) -> Vec<Vec<u64>> {
     let mut bases = Vec::new();
     for (k, second) in all_places(dimensions) {
         for first in 0..second {

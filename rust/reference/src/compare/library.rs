@@ -6,6 +6,9 @@ use super::operation::Outputs;
 use crate::answer::{accepted, done, went_well, Answer, DEGREE_TOO_HIGH};
 use razgwilh::{raw, Fold, Refusal, Run};
 
+pub use razgwilh::raw::{inverse as raw_inverse, judge_transcript as raw_judge_transcript};
+pub use razgwilh::{product, sum};
+
 /// The refusal as an answer. A prover's degree is also the value of a raw answer.
 fn refusal(refusal: Refusal) -> Answer {
     let Refusal { cause, place, round, reads } = refusal;
@@ -21,23 +24,19 @@ fn answer_of(result: Result<(), Refusal>) -> Answer {
 // Encoding and interpolation.
 
 pub fn encode(call: &Call, outputs: &mut Outputs) -> Answer {
-    let (basis, given) = (&call[Basis], &call[Given]);
-    answer_of(razgwilh::encode(call[Offset], basis, given, outputs.first()))
+    answer_of(razgwilh::encode(call[Offset], &call[Basis], &call[Given], outputs.first()))
 }
 
 pub fn raw_encode(call: &Call, outputs: &mut Outputs, answer: &mut [u64]) {
-    let (basis, given) = (&call[Basis], &call[Given]);
-    raw::encode(call[Offset], basis, given, outputs.first(), answer)
+    raw::encode(call[Offset], &call[Basis], &call[Given], outputs.first(), answer)
 }
 
 pub fn interpolate(call: &Call, outputs: &mut Outputs) -> Answer {
-    let (basis, given) = (&call[Basis], &call[Given]);
-    answer_of(razgwilh::interpolate(call[Offset], basis, given, outputs.first()))
+    answer_of(razgwilh::interpolate(call[Offset], &call[Basis], &call[Given], outputs.first()))
 }
 
 pub fn raw_interpolate(call: &Call, outputs: &mut Outputs, answer: &mut [u64]) {
-    let (basis, given) = (&call[Basis], &call[Given]);
-    raw::interpolate(call[Offset], basis, given, outputs.first(), answer)
+    raw::interpolate(call[Offset], &call[Basis], &call[Given], outputs.first(), answer)
 }
 
 // The fold.
@@ -136,31 +135,13 @@ pub fn last_length(call: &Call, _: &mut Outputs) -> Answer {
     went_well(razgwilh::last_length(k, rate, step) as u64)
 }
 
-// The field.
-
-pub fn sum(a: u64, b: u64) -> u64 {
-    razgwilh::sum(a, b)
-}
-
-pub fn product(a: u64, b: u64) -> u64 {
-    razgwilh::product(a, b)
-}
+// The field and transcripts.
 
 pub fn inverse(a: u64) -> Answer {
     razgwilh::inverse(a).map_or_else(refusal, went_well)
 }
 
-pub fn raw_inverse(a: u64, answer: &mut [u64]) {
-    raw::inverse(a, answer)
-}
-
-// Transcripts.
-
 pub fn judge_transcript(bytes: &[u8]) -> Answer {
     let verdict = razgwilh::judge_transcript(bytes);
     verdict.map_or_else(refusal, |verdict| accepted(verdict.reads))
-}
-
-pub fn raw_judge_transcript(bytes: &[u8], answer: &mut [u64]) {
-    raw::judge_transcript(bytes, answer)
 }

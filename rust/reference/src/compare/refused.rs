@@ -152,7 +152,7 @@ fn some_of_each(random: &mut Random, operation: Op, setting: Setting, turn: usiz
     calls
 }
 
-pub fn of_every_sort(
+fn of_every_sort(
     random: &mut Random,
     operation: Op,
     dimensions: &[u64],
@@ -167,10 +167,9 @@ pub fn of_every_sort(
 
 /// Each with answer lists of other lengths.
 pub fn with_other_answers(calls: Vec<Call>) -> impl Iterator<Item = Call> {
-    let with = |call: Call, answer| Call { answer, ..call };
-    let with_each =
-        move |call: Call| other_answer_lengths().map(move |answer| with(call.clone(), answer));
-    calls.into_iter().flat_map(with_each)
+    calls
+        .into_iter()
+        .flat_map(|call| other_answer_lengths().map(move |answer| Call { answer, ..call.clone() }))
 }
 
 #[cfg(test)]
@@ -179,10 +178,13 @@ mod tests {
     use crate::answer::{done, refused, Answer};
     use crate::compare::fold::FOLD;
     use crate::compare::operation::{after_raw, after_safe, Reference};
+    use crate::compare::protocol::{JUDGE, PROVE};
     use crate::compare::reed_solomon::{ENCODE, INTERPOLATE};
     use crate::compare::wrong::{causes, first_of_all, refusing, right_library, Wrong};
     use crate::coset::first_dependent;
     use std::collections::HashSet;
+
+    const OPERATIONS: [Op; 5] = [&ENCODE, &INTERPOLATE, &FOLD, &PROVE, &JUDGE];
 
     const FEW: Amounts = Amounts {
         out_of_range: &[1 << 8, 37],
@@ -203,7 +205,7 @@ mod tests {
     /// The causes are found apart from the reference.
     #[test]
     fn calls_are_refused_for_what_their_comparison_names() {
-        for operation in [&ENCODE, &INTERPOLATE, &FOLD] {
+        for operation in OPERATIONS {
             for sort in Sort::all(operation) {
                 for call in calls(operation, sort) {
                     let causes = causes(&call);
@@ -235,7 +237,7 @@ mod tests {
     /// A call that is refused shows it as well, without the work of a right one.
     #[test]
     fn the_highest_dimension_is_in_range() {
-        for operation in [&ENCODE, &INTERPOLATE, &FOLD] {
+        for operation in OPERATIONS {
             let highest = *operation.dimensions.end();
             let plan = Plan::of((operation.settings)(highest)[0]).without_lists(operation);
             let call = plan.call(&mut Random::named("highest"), operation);
