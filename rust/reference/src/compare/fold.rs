@@ -5,7 +5,9 @@ mod properties;
 use super::call::*;
 use super::cosets::{self, basis, challenge, offset};
 use super::lent::FILLS;
-use super::operation::{after_raw, after_safe, case, raw_calls, Library, Operation, Outputs};
+use super::operation::{
+    after_raw, after_safe, case, raw_calls, Library, Operation, Outputs, Turns,
+};
 use super::{compare, library, refused, Comparison, Show};
 use super::{PAPER_AND_LIBRARY, REFERENCE_AND_LIBRARY};
 use crate::answer::{refused_at, went_well, Answer};
@@ -14,8 +16,6 @@ use crate::field;
 use crate::fold::{self, Fold, Folded, DIMENSIONS, STEPS};
 use crate::polynomial::value;
 use crate::random::Random;
-
-use std::ops::RangeInclusive;
 
 pub static FOLD: Operation = Operation {
     name: "fold",
@@ -103,14 +103,14 @@ fn right(random: &mut Random, k: u64, step: u64, turn: usize) -> Call {
 
 /// A call with lent lists of the right lengths.
 fn call_of([k, step]: [u64; 2], offset: u64, basis: Vec<u64>, word: Vec<u64>, x: u64) -> Call {
-    let call = Call::of(&FOLD).with_setting([k, 0, step]);
-    let [values, next_basis] = [Output, NextBasis].map(|list| call.due_length(list));
-    call.with(Offset, offset)
+    Call::of(&FOLD)
+        .with_setting([k, 0, step])
+        .with(Offset, offset)
         .with(Challenge, x)
         .with_list(Basis, basis)
         .with_list(Given, word)
-        .with_length(Output, values)
-        .with_length(NextBasis, next_basis)
+        .with_due_length(Output)
+        .with_due_length(NextBasis)
 }
 
 /// A word of one of the common sorts, or of a polynomial that folds to at most four coefficients.
@@ -134,28 +134,9 @@ fn to_all_ones(random: &mut Random, k: u64) -> Call {
     call
 }
 
-/// How many calls of each dimension, from 0 to 12, with each step that it takes.
-type Turns = [usize; 13];
-
-fn right_calls(
-    random: &mut Random,
-    steps: RangeInclusive<u64>,
-    dimensions: RangeInclusive<u64>,
-    amounts: &Turns,
-) -> Vec<Call> {
-    let mut calls = Vec::new();
-    for step in steps {
-        for k in dimensions.clone().filter(|&k| k >= step) {
-            let turns = 0..amounts[k as usize];
-            calls.extend(turns.map(|turn| right(random, k, step, turn)));
-        }
-    }
-    calls
-}
-
-/// The same with every step and all dimensions that there is an amount for.
-fn all_right_calls(random: &mut Random, amounts: &Turns) -> Vec<Call> {
-    right_calls(random, 1..=3, 2..=12, amounts)
+/// Right calls with every step and all dimensions that there are turns for.
+fn all_right_calls(random: &mut Random, turns: &Turns) -> Vec<Call> {
+    FOLD.right_calls(random, (2..=12).flat_map(FOLD.settings), turns)
 }
 
 /// One call of each dimension with each step, made when it is needed.
@@ -219,8 +200,8 @@ pub fn comparisons(library: &dyn Library, amounts: &Amounts) -> Vec<Comparison> 
         ("fold with step 2, k 7 to 12", 2, 7..=12),
         ("fold with step 3, k 7 to 12", 3, 7..=12),
     ] {
-        let random = &mut Random::named(name);
-        let inputs = right_calls(random, step..=step, dimensions, &amounts.folds);
+        let settings = dimensions.map(|k| [k, 0, step]);
+        let inputs = FOLD.right_calls(&mut Random::named(name), settings, &amounts.folds);
         all.push(raw_calls(library, name, inputs));
     }
     let name = "fold, k 13 to 16";

@@ -12,6 +12,9 @@ use std::ops::RangeInclusive;
 /// Dimension, rate and step; zero for those that an operation does not take.
 pub type Setting = [u64; 3];
 
+/// How many calls of each dimension, from 0 to 12.
+pub type Turns = [usize; 13];
+
 /// Writes to the lent lists and answers.
 pub type Behaviour = fn(&Call, &mut Outputs) -> Answer;
 
@@ -101,6 +104,21 @@ impl Operation {
         format!("{}, {what}", self.name).leak()
     }
 
+    /// Right calls with these settings, of each as many as its dimension has turns.
+    pub fn right_calls(
+        &self,
+        random: &mut Random,
+        settings: impl Iterator<Item = Setting>,
+        turns: &Turns,
+    ) -> Vec<Call> {
+        let mut calls = Vec::new();
+        for setting in settings {
+            let turns = 0..turns[setting[0] as usize];
+            calls.extend(turns.map(|turn| (self.right)(random, setting, turn)));
+        }
+        calls
+    }
+
     // Calls with any numbers.
 
     /// With a basis that is independent if it can be, and lists of the lengths that the setting
@@ -161,9 +179,14 @@ pub trait Library {
 
     /// By the C convention: an answer list of another length than five leaves all lists alone.
     fn raw(&self, call: &Call, outputs: &mut Outputs, answer: &mut [u64]) {
-        if answer.len() == ANSWER_LENGTH {
-            answer.copy_from_slice(&raw(&self.safe(call, outputs)));
-        }
+        into_five(answer, || self.safe(call, outputs))
+    }
+}
+
+/// Makes the call and writes its answer if there are five numbers for it.
+pub fn into_five(answer: &mut [u64], call: impl FnOnce() -> Answer) {
+    if answer.len() == ANSWER_LENGTH {
+        answer.copy_from_slice(&raw(&call()));
     }
 }
 

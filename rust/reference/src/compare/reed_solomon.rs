@@ -3,7 +3,7 @@
 use super::call::*;
 use super::cosets::{self, basis, offset};
 use super::lent::FILLS;
-use super::operation::{after_safe, case, raw_calls, Library, Op, Operation, Outputs};
+use super::operation::{after_safe, case, raw_calls, Library, Op, Operation, Outputs, Turns};
 use super::{compare, library, refused, Comparison, PAPER_AND_LIBRARY};
 use crate::answer::{done, raw, refused_at, Answer};
 use crate::coset::points;
@@ -106,21 +106,14 @@ fn word(random: &mut Random, offset: u64, basis: &[u64], turn: usize) -> Vec<u64
     }
 }
 
-/// How many calls of each dimension, from 0.
-type Turns = [usize; LARGEST_K + 1];
-
 fn right_calls(
-    random: &mut Random,
+    name: &str,
     operation: Op,
     dimensions: RangeInclusive<u64>,
-    amounts: &Turns,
+    turns: &Turns,
 ) -> Vec<Call> {
-    let mut calls = Vec::new();
-    for k in dimensions {
-        let turns = 0..amounts[k as usize];
-        calls.extend(turns.map(|turn| (operation.right)(random, [k, 0, 0], turn)));
-    }
-    calls
+    let settings = dimensions.map(|k| [k, 0, 0]);
+    operation.right_calls(&mut Random::named(name), settings, turns)
 }
 
 // The comparisons.
@@ -157,8 +150,7 @@ pub fn comparisons(library: &dyn Library, amounts: &Amounts) -> Vec<Comparison> 
     for (operation, turns) in operations {
         for (what, dimensions) in [("k 0 to 6", 0..=6), ("k 7 to 12", 7..=12)] {
             let name = operation.title(what);
-            let inputs = right_calls(&mut Random::named(name), operation, dimensions, turns);
-            all.push(raw_calls(library, name, inputs));
+            all.push(raw_calls(library, name, right_calls(name, operation, dimensions, turns)));
         }
         all.extend(refused::comparisons(library, operation, &amounts.refused));
     }
@@ -177,7 +169,7 @@ fn round_trips(library: &dyn Library, amounts: &Turns) -> [Comparison; 2] {
     trips.map(|(name, there, back)| {
         compare(
             name,
-            right_calls(&mut Random::named(name), there, 0..=LARGEST_K as u64, amounts),
+            right_calls(name, there, CODE.dimensions, amounts),
             PAPER_AND_LIBRARY,
             trip_due,
             |call| trip_of_library(library, call, back),

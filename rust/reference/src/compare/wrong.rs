@@ -2,10 +2,11 @@
 
 mod shared;
 
+pub use super::operation::into_five;
 pub use shared::{causes, shared_rows, Others};
 
 use super::call::*;
-use super::operation::{after, Library, Op, Outputs, Reference};
+use super::operation::{after_safe, Library, Op, Outputs, Reference};
 use super::Comparison;
 use crate::answer::{raw, refused_at, Answer, ANSWER_LENGTH};
 use crate::coset::first_dependent;
@@ -96,7 +97,7 @@ pub fn differing(comparisons: &[Comparison]) -> Vec<&'static str> {
 }
 
 /// The smallest input of the comparison of this name, if it differs.
-pub fn smallest(comparisons: &[Comparison], name: &str) -> String {
+fn smallest(comparisons: &[Comparison], name: &str) -> String {
     let mut named = comparisons.iter().filter(|one| one.name.ends_with(name));
     let difference = named.next().and_then(|comparison| comparison.difference.as_ref());
     difference.map_or("nothing".to_string(), |difference| difference.smallest.clone())
@@ -181,11 +182,6 @@ pub fn raw_alone(behaviour: impl Fn(&Call, &mut Outputs, &mut [u64]) + 'static) 
     Wrong { raw: Rc::new(behaviour), ..right_library() }
 }
 
-/// Only the safe call is wrong.
-pub fn safe_alone(wrong: Wrong) -> Wrong {
-    Wrong { safe: wrong.safe, ..right_library() }
-}
-
 pub fn right(call: &Call, outputs: &mut Outputs) -> Answer {
     Reference.safe(call, outputs)
 }
@@ -194,33 +190,36 @@ pub fn is_refused(call: &Call) -> bool {
     call.refusal().is_some()
 }
 
-/// Does what is right for another call, whose lent lists may be shorter.
-pub fn as_if(other: Call, outputs: &mut Outputs) -> Answer {
-    let mut done = after(&other, |outputs| right(&other, outputs));
-    for (lent, written) in outputs.lent.iter_mut().zip(&mut done.outputs.lent) {
-        for (number, written) in lent.list().iter_mut().zip(written.list()) {
-            *number = *written;
-        }
-    }
-    done.answer
-}
-
-/// Does what is right for another call unless this one is to be refused.
-pub fn instead(other: impl Fn(Call) -> Call + 'static) -> Wrong {
-    always_instead(move |call| if is_refused(&call) { call } else { other(call) })
-}
-
-/// The same for the call with something changed.
+/// Does what is right for the call with something changed, unless it is to be refused.
 pub fn changing(change: impl Fn(&mut Call) + 'static) -> Wrong {
-    instead(move |mut call| {
-        change(&mut call);
+    always_instead(move |mut call| {
+        if !is_refused(&call) {
+            change(&mut call);
+        }
         call
     })
 }
 
-/// Does what is right for another call, whether or not this one is to be refused.
+/// Does what is right for another call, whose lent lists may be shorter, whether or not this one
+/// is to be refused.
 pub fn always_instead(other: impl Fn(Call) -> Call + 'static) -> Wrong {
-    alike(move |call, outputs| as_if(other(call.clone()), outputs))
+    alike(move |call, outputs| {
+        let mut done = after_safe(&Reference, &other(call.clone()));
+        for (lent, written) in outputs.lent.iter_mut().zip(&mut done.outputs.lent) {
+            for (number, written) in lent.list().iter_mut().zip(written.list()) {
+                *number = *written;
+            }
+        }
+        done.answer
+    })
+}
+
+/// Takes the points 0, 1, 2 and so on for those of the coset.
+pub fn with_points_from_0() -> Wrong {
+    changing(|call| {
+        call[Offset] = 0;
+        call[Basis] = (0..call.k()).map(|place| 1 << place).collect();
+    })
 }
 
 /// Does what is right, and then something to the lists if that went well.
@@ -279,13 +278,6 @@ pub fn first_of_all(cause: impl Fn(&Call) -> Option<Answer> + 'static) -> Wrong 
 }
 
 // Answers.
-
-/// Makes the call and writes its answer if there are five numbers for it.
-pub fn into_five(answer: &mut [u64], call: impl FnOnce() -> Answer) {
-    if answer.len() == ANSWER_LENGTH {
-        answer.copy_from_slice(&raw(&call()));
-    }
-}
 
 /// Writes an answer to a list of any length.
 pub fn write_what_fits(due: Answer, answer: &mut [u64]) {

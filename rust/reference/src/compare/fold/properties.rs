@@ -1,10 +1,10 @@
 //! Properties that a fold has, with the library alone.
 
-use super::{all_right_calls, right_calls, Amounts, Turns};
+use super::{all_right_calls, Amounts, FOLD};
 use crate::answer::{raw, Answer, NONE};
 use crate::compare::call::*;
 use crate::compare::cosets;
-use crate::compare::operation::{after_safe, After, Library};
+use crate::compare::operation::{after_safe, After, Library, Turns};
 use crate::compare::reed_solomon::{ENCODE, INTERPOLATE};
 use crate::compare::{compare, Comparison, LEFT_AND_RIGHT, PAPER_AND_LIBRARY};
 use crate::coset::{point, points};
@@ -140,8 +140,8 @@ fn in_two(library: &dyn Library, amounts: &Turns) -> [Comparison; 3] {
         ("step 3 is step 2, then step 1", 3, 2),
     ];
     ways.map(|(name, step, first)| {
-        let random = &mut Random::named(name);
-        let inputs = right_calls(random, step..=step, 2..=12, amounts);
+        let settings = (3..=12).map(|k| [k, 0, step]);
+        let inputs = FOLD.right_calls(&mut Random::named(name), settings, amounts);
         compare(
             name,
             inputs.into_iter().filter(|call| can_be_in_two(call, first)),

@@ -1,7 +1,7 @@
 use super::*;
 use crate::compare::wrong::{
     alike, and_then, changing, first_of_all, hold_table, is_refused, not_writing, refusing, right,
-    right_library, row, shared_rows, Others, Row, Wrong,
+    right_library, row, shared_rows, with_points_from_0, Others, Row, Wrong,
 };
 use crate::coset::first_dependent;
 
@@ -51,10 +51,6 @@ const OF_INTERPOLATE: Others = Others {
 
 /// Round trips stay silent where both directions are wrong alike.
 fn rows() -> Vec<Row<Wrong>> {
-    let points_from_0 = changing(|call| {
-        call[Offset] = 0;
-        call[Basis] = (0..call.k()).map(|place| 1 << place).collect();
-    });
     let without_the_last = changing(|call| {
         call[Given].pop();
     });
@@ -79,7 +75,8 @@ fn rows() -> Vec<Row<Wrong>> {
         row("the offset is ignored", changing(|call| call[Offset] = 0))
             .differs(&[SMALL, LARGE, SAFE])
             .smallest(SMALL, "offset 1; basis: 1; list 3: 0, 1; list 6 of length 2;"),
-        row("the points are 0, 1, 2 and so on", points_from_0).differs(&[SMALL, LARGE, SAFE]),
+        row("the points are 0, 1, 2 and so on", with_points_from_0())
+            .differs(&[SMALL, LARGE, SAFE]),
         row("the points go by the bits from above", changing(|call| call[Basis].reverse()))
             .differs(all)
             .smallest(SMALL, "offset 0; basis: 1, 2; list 3: 0, 1; list 6 of length 4;"),

@@ -107,7 +107,8 @@ fn wrong_answers(names: &Names, others: &Others) -> Vec<Row<Wrong>> {
         let due = right(call, outputs);
         into_five(answer, || due);
     });
-    let only_safe = safe_alone(answering(|_, answer| changed_at(4, answer)));
+    let value_wrong = answering(|_, answer| changed_at(4, answer));
+    let only_safe = Wrong { safe: value_wrong.safe, ..right_library() };
     let safely = [others.safely, others.dependent, &[names.safe]].concat();
     let other = &[names.other_answer];
     let mut rows = vec![
@@ -222,23 +223,11 @@ fn wrong_order(names: &Names) -> Vec<Row<Wrong>> {
     rows
 }
 
-/// The place at which a basis would be found dependent from behind.
-fn last_dependent(basis: &[u64]) -> Option<usize> {
-    let dependent = |&place: &usize| first_dependent(&without_dependent(&basis[..=place], place));
-    (0..basis.len()).rev().find(|place| dependent(place).is_some())
-}
-
-/// The independent ones before a place, and the element there.
-fn without_dependent(basis: &[u64], place: usize) -> Vec<u64> {
-    let mut kept = Vec::new();
-    for &element in &basis[..place] {
-        kept.push(element);
-        if first_dependent(&kept).is_some() {
-            kept.pop();
-        }
-    }
-    kept.push(basis[place]);
-    kept
+/// The places of the elements that are sums of so many earlier ones at most.
+fn sums_of(most: u32, basis: &[u64]) -> impl Iterator<Item = usize> + '_ {
+    let picks = move |place: usize| (0..1 << place).filter(move |p: &u64| p.count_ones() <= most);
+    let is_sum = |place: usize, pick| point(0, &basis[..place], pick) == basis[place];
+    (0..basis.len()).filter(move |&place| picks(place).any(|pick| is_sum(place, pick)))
 }
 
 /// A test of a basis: the first place that it finds dependent.
@@ -252,27 +241,16 @@ fn but_the_first(basis: &[u64]) -> Option<usize> {
     first_dependent(&basis[1..]).map(|place| place + 1)
 }
 
-fn only_zero(basis: &[u64]) -> Option<usize> {
-    basis.iter().position(|&element| element == 0)
-}
-
-fn only_zero_and_repeated(basis: &[u64]) -> Option<usize> {
-    let met = |place: &usize| basis[..*place].contains(&basis[*place]);
-    (0..basis.len()).find(|place| basis[*place] == 0 || met(place))
-}
-
-fn only_sums_of_two(basis: &[u64]) -> Option<usize> {
-    let picks = |place: usize| (0..1 << place).filter(|pick: &u64| pick.count_ones() <= 2);
-    let is_sum = |place, pick| point(0, &basis[..place], pick) == basis[place];
-    (0..basis.len()).find(|&place| picks(place).any(|pick| is_sum(place, pick)))
-}
-
 fn wrong_bases(names: &Names, others: &Others) -> Vec<Row<Wrong>> {
     let testing = |test: BasisTest| {
         refusing(8, move |call, _| {
             test(&call[Basis]).map_or(done(), |place| refused_at(8, place as u64))
         })
     };
+    let last_dependent = testing(|basis| sums_of(u32::MAX, basis).last());
+    let only_zero = testing(|basis| sums_of(0, basis).next());
+    let zero_and_repeated = testing(|basis| sums_of(1, basis).next());
+    let sums_of_two = testing(|basis| sums_of(2, basis).next());
     let from_1 = refusing(8, |_, answer| refused_at(8, answer.place.unwrap_or(0) + 1));
     // Bases that a single bit keeps from being dependent show it.
     let lower_half = first_of_all(|call| {
@@ -284,19 +262,17 @@ fn wrong_bases(names: &Names, others: &Others) -> Vec<Row<Wrong>> {
     let safely = [&[names.safe], others.dependent].concat();
     vec![
         row("the place is counted from 1", from_1).differs(&[bases, &safely].concat()),
-        row("the last dependent place is given", testing(last_dependent)).differs(&[two_places]),
+        row("the last dependent place is given", last_dependent).differs(&[two_places]),
         row("the last element is not tested", testing(but_the_last))
             .differs(&[&bases[..3], &safely].concat()),
         row("the first element is not tested", testing(but_the_first))
             .differs(&[zero, repeated, sums])
             .among_others(),
-        row("only zero is found dependent", testing(only_zero))
-            .differs(&[repeated, sums])
-            .agrees(&[zero]),
-        row("only zero and repeated elements are found dependent", testing(only_zero_and_repeated))
+        row("only zero is found dependent", only_zero).differs(&[repeated, sums]).agrees(&[zero]),
+        row("only zero and repeated elements are found dependent", zero_and_repeated)
             .differs(&[&[sums], others.dependent].concat())
             .agrees(&[zero, repeated]),
-        row("only sums of two are found dependent", testing(only_sums_of_two))
+        row("only sums of two are found dependent", sums_of_two)
             .differs(&[sums])
             .agrees(&[&[zero, repeated], others.dependent].concat()),
         row("only the lower half of an element is tested", lower_half)
