@@ -1,8 +1,6 @@
 //! A call of an operation over lists, how it is shown, and how it is made smaller.
 
-use super::lists::{
-    fitted, is_small, left_out, show_elements, simpler_bases, simpler_lists, simpler_numbers,
-};
+use super::lists::{fitted, is_small, left_out, simpler_bases, simpler_lists, simpler_numbers};
 use super::operation::Operation;
 use super::{Input, Show};
 use crate::answer::{Answer, ANSWER_LENGTH};
@@ -187,15 +185,10 @@ impl Show for Call {
     fn show(&self) -> String {
         let operation = self.operation;
         let numbers = operation.numbers.iter().map(|&number| number.show(self[number]));
-        let given = operation.given.iter().map(|&list| {
-            let elements = show_elements(&self[list]);
-            format!("{}: {elements}", list.name())
-        });
-        let lent = operation.lent.iter().map(|&list| {
-            let length = self[list].len();
-            format!("{} of length {length}", list.name())
-        });
-        let shown: Vec<String> = numbers.chain(given).chain(lent).collect();
+        let given = |&list: &List| format!("{}: {}", list.name(), self[list].show());
+        let lent = |&list: &List| format!("{} of length {}", list.name(), self[list].len());
+        let lists = operation.given.iter().map(given).chain(operation.lent.iter().map(lent));
+        let shown: Vec<String> = numbers.chain(lists).collect();
         let Call { answer, fill, .. } = self;
         format!("{}; answer of length {answer}, filled from {fill:x}", shown.join("; "))
     }

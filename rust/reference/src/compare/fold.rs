@@ -13,7 +13,7 @@ use super::{PAPER_AND_LIBRARY, REFERENCE_AND_LIBRARY};
 use crate::answer::{refused_at, went_well, Answer};
 use crate::coset::points;
 use crate::field;
-use crate::fold::{self, Fold, Folded, DIMENSIONS, STEPS};
+use crate::fold::{self, Fold, DIMENSIONS, STEPS};
 use crate::polynomial::value;
 use crate::random::Random;
 
@@ -30,10 +30,7 @@ pub static FOLD: Operation = Operation {
     due_length,
     fits: |_, length, due| length == due,
     refusal: |call| next_coset(call).err(),
-    due: |call, outputs| {
-        let [values, next_basis] = lent_lengths(call);
-        write_due(fold::fold(given(call), values, next_basis), outputs)
-    },
+    due,
     mended: |_| None,
     safe: library::fold,
     raw: library::raw_fold,
@@ -67,19 +64,15 @@ fn given(call: &Call) -> Fold<'_> {
     }
 }
 
-fn lent_lengths(call: &Call) -> [usize; 2] {
-    [Output, NextBasis].map(|list| call[list].len())
-}
-
 fn next_coset(call: &Call) -> Result<fold::Coset, Answer> {
-    let [values, next_basis] = lent_lengths(call);
+    let [values, next_basis] = [Output, NextBasis].map(|list| call[list].len());
     fold::next_coset(given(call), values, next_basis)
 }
 
-fn write_due(due: Result<Folded, Answer>, outputs: &mut Outputs) -> Answer {
-    match due {
+fn due(call: &Call, outputs: &mut Outputs) -> Answer {
+    let [values, next_basis] = outputs.lists();
+    match fold::fold(given(call), values.len(), next_basis.len()) {
         Ok(folded) => {
-            let [values, next_basis] = outputs.lists();
             values.copy_from_slice(&folded.values);
             next_basis.copy_from_slice(&folded.next.basis);
             went_well(folded.next.offset)
@@ -140,12 +133,36 @@ fn all_right_calls(random: &mut Random, turns: &Turns) -> Vec<Call> {
 }
 
 /// One call of each dimension with each step, made when it is needed.
-fn large_calls(mut random: Random, dimensions: &[u64]) -> impl Iterator<Item = Call> {
+fn large_calls(name: &str, dimensions: &[u64]) -> impl Iterator<Item = Call> {
+    let mut random = Random::named(name);
     let settings = FOLD.all_settings(dimensions).into_iter();
     settings.map(move |[k, _, step]| right(&mut random, k, step, 0))
 }
 
-// The comparisons.
+// The comparisons, and their names.
+
+const STEP_1: &str = "fold with step 1, k 2 to 6";
+const STEP_2: &str = "fold with step 2, k 2 to 6";
+const STEP_3: &str = "fold with step 3, k 3 to 6";
+const LARGE_1: &str = "fold with step 1, k 7 to 12";
+const LARGE_2: &str = "fold with step 2, k 7 to 12";
+const LARGE_3: &str = "fold with step 3, k 7 to 12";
+const WHOLE: &str = "fold, k 13 to 16";
+const SAMPLED: &str = "fold, k 20, some entries";
+const ALL_ONES: &str = "fold, the next offset all ones";
+const AT_POINTS: &str = "the fold at a point is the word there";
+const LOW_DEGREES: &str = "the fold of a low degree has a low degree";
+const TWICE: &str = "step 2 is step 1 twice";
+const ONE_THEN_TWO: &str = "step 3 is step 1, then step 2";
+const TWO_THEN_ONE: &str = "step 3 is step 2, then step 1";
+const SUMS: &str = "the fold of u + v is that of u + that of v";
+const CASE_D: &str = "case D of table A";
+const CASE_F: &str = "case F of table A, the fold";
+const CASE_J: &str = "case J of table A, the fold";
+const CASE_J_ALL: &str = "case J of table A, 2 alone is exceptional";
+const FIRST_OF_K: &str = "case K of table A, the first fold";
+const SECOND_OF_K: &str = "case K of table A, the second fold";
+const CASE_M: &str = "case M of table A, fold";
 
 /// How many inputs the comparisons take.
 pub struct Amounts {
@@ -193,22 +210,20 @@ pub const FULL: Amounts = Amounts {
 pub fn comparisons(library: &dyn Library, amounts: &Amounts) -> Vec<Comparison> {
     let mut all = Vec::new();
     for (name, step, dimensions) in [
-        ("fold with step 1, k 2 to 6", 1, 2..=6),
-        ("fold with step 2, k 2 to 6", 2, 2..=6),
-        ("fold with step 3, k 3 to 6", 3, 3..=6),
-        ("fold with step 1, k 7 to 12", 1, 7..=12),
-        ("fold with step 2, k 7 to 12", 2, 7..=12),
-        ("fold with step 3, k 7 to 12", 3, 7..=12),
+        (STEP_1, 1, 2..=6),
+        (STEP_2, 2, 2..=6),
+        (STEP_3, 3, 3..=6),
+        (LARGE_1, 1, 7..=12),
+        (LARGE_2, 2, 7..=12),
+        (LARGE_3, 3, 7..=12),
     ] {
         let settings = dimensions.map(|k| [k, 0, step]);
         let inputs = FOLD.right_calls(&mut Random::named(name), settings, &amounts.folds);
         all.push(raw_calls(library, name, inputs));
     }
-    let name = "fold, k 13 to 16";
-    all.push(raw_calls(library, name, large_calls(Random::named(name), amounts.whole)));
+    all.push(raw_calls(library, WHOLE, large_calls(WHOLE, amounts.whole)));
     all.push(sampled_folds(library, amounts.sampled));
-    let name = "fold, the next offset all ones";
-    all.push(raw_calls(library, name, all_to_all_ones(Random::named(name), &amounts.all_ones)));
+    all.push(raw_calls(library, ALL_ONES, all_to_all_ones(&amounts.all_ones)));
     all.extend(properties::comparisons(library, amounts));
     all.extend(refused::comparisons(library, &FOLD, &amounts.refused));
     all.extend(table_a(library));
@@ -216,9 +231,10 @@ pub fn comparisons(library: &dyn Library, amounts: &Amounts) -> Vec<Comparison> 
     all
 }
 
-fn all_to_all_ones(mut random: Random, amounts: &Turns) -> Vec<Call> {
+fn all_to_all_ones(amounts: &Turns) -> Vec<Call> {
+    let random = &mut Random::named(ALL_ONES);
     let turns = (0..).zip(amounts).flat_map(|(k, &amount)| vec![k; amount]);
-    turns.map(|k| to_all_ones(&mut random, k)).collect()
+    turns.map(|k| to_all_ones(random, k)).collect()
 }
 
 // Some entries of large folds.
@@ -237,24 +253,24 @@ struct Sampled;
 
 impl Library for Sampled {
     fn safe(&self, call: &Call, outputs: &mut Outputs) -> Answer {
-        let left = outputs.first().to_vec();
-        let entry_or_left = |(place, left)| match is_sampled(place, call[Output].len()) {
-            true => fold::entry(given(call), place),
-            false => left,
+        let next = match next_coset(call) {
+            Ok(next) => next,
+            Err(refusal) => return refusal,
         };
-        let folded = next_coset(call).map(|next| {
-            let values = left.into_iter().enumerate().map(entry_or_left).collect();
-            Folded { values, next }
-        });
-        write_due(folded, outputs)
+        let [values, next_basis] = outputs.lists();
+        let length = values.len();
+        for place in (0..length).filter(|&place| is_sampled(place, length)) {
+            values[place] = fold::entry(given(call), place);
+        }
+        next_basis.copy_from_slice(&next.basis);
+        went_well(next.offset)
     }
 }
 
 fn sampled_folds(library: &dyn Library, dimensions: &[u64]) -> Comparison {
-    let name = "fold, k 20, some entries";
     compare(
-        name,
-        large_calls(Random::named(name), dimensions),
+        SAMPLED,
+        large_calls(SAMPLED, dimensions),
         REFERENCE_AND_LIBRARY,
         |call| after_raw(&Sampled, call),
         |call| {
@@ -290,12 +306,12 @@ fn table_a(library: &dyn Library) -> Vec<Comparison> {
     let second = in_case(0, &[6, 0x14], &layer_1, 3);
     let m = in_case(4, &[1, 2, 3], &[1, 2, 3, 4, 5, 6, 7, 8], 9);
     vec![
-        gives("case D of table A", d, &[5, 5], 0x48, &[6]),
-        gives("case F of table A, the fold", f, &[0xb, 0xb], 0, &[6]),
-        gives("case J of table A, the fold", of_case_j(2), &[0, 0], 0, &[6]),
-        gives("case K of table A, the first fold", first, &layer_1, 0, &[6, 0x14]),
-        gives("case K of table A, the second fold", second, &[1, 1], 0, &[0x168]),
-        case(library, "case M of table A, fold", m, refused_at(8, 2), &[None, None]),
+        gives(CASE_D, d, &[5, 5], 0x48, &[6]),
+        gives(CASE_F, f, &[0xb, 0xb], 0, &[6]),
+        gives(CASE_J, of_case_j(2), &[0, 0], 0, &[6]),
+        gives(FIRST_OF_K, first, &layer_1, 0, &[6, 0x14]),
+        gives(SECOND_OF_K, second, &[1, 1], 0, &[0x168]),
+        case(library, CASE_M, m, refused_at(8, 2), &[None, None]),
     ]
 }
 
@@ -322,10 +338,9 @@ impl Show for Exceptional {
 /// The word has degree 3, and a challenge is exceptional if the fold has degree below 1, that is
 /// one value.
 fn case_j_for_all_challenges(library: &dyn Library, amount: usize) -> Comparison {
-    let name = "case J of table A, 2 alone is exceptional";
     compare(
-        name,
-        challenges_of_case_j(&mut Random::named(name), amount),
+        CASE_J_ALL,
+        challenges_of_case_j(&mut Random::named(CASE_J_ALL), amount),
         PAPER_AND_LIBRARY,
         |&challenge| Exceptional(challenge == 2),
         |&challenge| {

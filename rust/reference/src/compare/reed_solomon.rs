@@ -21,7 +21,7 @@ const CODE: Operation = Operation {
     settings: |k| vec![[k, 0, 0]],
     due_length,
     fits: |_, length, due| length == due,
-    refusal: |call| may_interpolate(&call[Basis], length_3(call), length_6(call)).err(),
+    refusal: |call| may_interpolate(&call[Basis], call[Given].len(), call[Output].len()).err(),
     due: |call, outputs| write_due(reed_solomon::interpolate, call, outputs),
     mended: |_| None,
     safe: library::interpolate,
@@ -38,7 +38,7 @@ pub static INTERPOLATE: Operation = Operation { name: "interpolate", ..CODE };
 pub static ENCODE: Operation = Operation {
     name: "encode",
     fits: |list, length, due| length == due || (list == Given && length < due),
-    refusal: |call| may_encode(&call[Basis], length_3(call), length_6(call)).err(),
+    refusal: |call| may_encode(&call[Basis], call[Given].len(), call[Output].len()).err(),
     due: |call, outputs| write_due(reed_solomon::encode, call, outputs),
     safe: library::encode,
     raw: library::raw_encode,
@@ -53,19 +53,11 @@ fn due_length(call: &Call, list: List) -> usize {
     }
 }
 
-fn length_3(call: &Call) -> usize {
-    call[Given].len()
-}
-
-fn length_6(call: &Call) -> usize {
-    call[Output].len()
-}
-
 /// Takes offset, basis, list 3 and the length of list 6.
 type Code = fn(u64, &[u64], &[u64], usize) -> Result<Vec<u64>, Answer>;
 
 fn write_due(code: Code, call: &Call, outputs: &mut Outputs) -> Answer {
-    match code(call[Offset], &call[Basis], &call[Given], length_6(call)) {
+    match code(call[Offset], &call[Basis], &call[Given], call[Output].len()) {
         Ok(list) => {
             outputs.first().copy_from_slice(&list);
             done()
@@ -116,7 +108,14 @@ fn right_calls(
     operation.right_calls(&mut Random::named(name), settings, turns)
 }
 
-// The comparisons.
+// The comparisons, and names of theirs.
+
+const TRIP: &str = "interpolate after encode gives the coefficients";
+const OTHER_TRIP: &str = "encode after interpolate gives the word";
+const E_ENCODE: &str = "case E of table A, encode";
+const E_INTERPOLATE: &str = "case E of table A, interpolate";
+const M_ENCODE: &str = "case M of table A, encode";
+const M_INTERPOLATE: &str = "case M of table A, interpolate";
 
 /// How many inputs the comparisons take.
 pub struct Amounts {
@@ -162,10 +161,7 @@ pub fn comparisons(library: &dyn Library, amounts: &Amounts) -> Vec<Comparison> 
 // There and back, with the library in both directions.
 
 fn round_trips(library: &dyn Library, amounts: &Turns) -> [Comparison; 2] {
-    let trips = [
-        ("interpolate after encode gives the coefficients", &ENCODE, &INTERPOLATE),
-        ("encode after interpolate gives the word", &INTERPOLATE, &ENCODE),
-    ];
+    let trips = [(TRIP, &ENCODE, &INTERPOLATE), (OTHER_TRIP, &INTERPOLATE, &ENCODE)];
     trips.map(|(name, there, back)| {
         compare(
             name,
@@ -181,7 +177,7 @@ fn round_trips(library: &dyn Library, amounts: &Turns) -> [Comparison; 2] {
 /// is refused, as smaller ones may be, gives nothing back.
 fn trip_due(call: &Call) -> Option<Vec<Vec<u64>>> {
     let mut list = call[Given].clone();
-    list.resize(length_6(call), 0);
+    list.resize(call[Output].len(), 0);
     let answer = raw(&done()).to_vec();
     call.refusal().is_none().then(|| vec![answer.clone(), answer, list])
 }
@@ -216,10 +212,10 @@ fn table_a(library: &dyn Library) -> Vec<Comparison> {
     let refusal = refused_at(8, 2);
     let case = |name, call, due, list| case(library, name, call, due, &[list]);
     vec![
-        case("case E of table A, encode", e(&ENCODE, &[7, 3]), done(), Some(&word)),
-        case("case E of table A, interpolate", e(&INTERPOLATE, &word), done(), Some(&coefficients)),
-        case("case M of table A, encode", m(&ENCODE), refusal, None),
-        case("case M of table A, interpolate", m(&INTERPOLATE), refusal, None),
+        case(E_ENCODE, e(&ENCODE, &[7, 3]), done(), Some(&word)),
+        case(E_INTERPOLATE, e(&INTERPOLATE, &word), done(), Some(&coefficients)),
+        case(M_ENCODE, m(&ENCODE), refusal, None),
+        case(M_INTERPOLATE, m(&INTERPOLATE), refusal, None),
     ]
 }
 

@@ -8,7 +8,7 @@ pub use shared::{causes, shared_rows, Others};
 use super::call::*;
 use super::operation::{after_safe, Library, Op, Outputs, Reference};
 use super::Comparison;
-use crate::answer::{raw, refused_at, Answer, ANSWER_LENGTH};
+use crate::answer::{done, raw, refused_at, Answer, ANSWER_LENGTH};
 use crate::coset::first_dependent;
 use std::collections::HashSet;
 use std::rc::Rc;
@@ -270,6 +270,11 @@ pub fn refusing(number: u64, other: impl Fn(&Call, Answer) -> Answer + 'static) 
         true => other(call, answer),
         false => answer,
     })
+}
+
+/// Takes some of the calls that are to be refused with a number.
+pub fn taking(number: u64, is_taken: impl Fn(&Call) -> bool + 'static) -> Wrong {
+    refusing(number, move |call, answer| if is_taken(call) { done() } else { answer })
 }
 
 /// Refuses for a cause before the reference looks for any.

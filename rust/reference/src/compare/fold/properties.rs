@@ -1,6 +1,7 @@
 //! Properties that a fold has, with the library alone.
 
 use super::{all_right_calls, Amounts, FOLD};
+use super::{AT_POINTS, LOW_DEGREES, ONE_THEN_TWO, SUMS, TWICE, TWO_THEN_ONE};
 use crate::answer::{raw, Answer, NONE};
 use crate::compare::call::*;
 use crate::compare::cosets;
@@ -34,10 +35,9 @@ fn contents(library: &dyn Library, call: &Call) -> Vec<Vec<u64>> {
 const POINTS: u64 = 32;
 
 fn at_points(library: &dyn Library, amounts: &Turns) -> Comparison {
-    let name = "the fold at a point is the word there";
     compare(
-        name,
-        calls_at_points(&mut Random::named(name), amounts),
+        AT_POINTS,
+        calls_at_points(&mut Random::named(AT_POINTS), amounts),
         PAPER_AND_LIBRARY,
         |call| index_of_challenge(call).map(|index| call[Given][index]),
         |call| {
@@ -75,10 +75,9 @@ fn index_of_challenge(call: &Call) -> Option<usize> {
 /// Here list 3 holds the coefficients that the word is encoded from. N × 2^step of them fold to
 /// N. Compared are the numbers of three answers, and the coefficients that are to be zero.
 fn low_degrees(library: &dyn Library, amounts: &Turns) -> Comparison {
-    let name = "the fold of a low degree has a low degree";
     compare(
-        name,
-        of_low_degrees(&mut Random::named(name), amounts),
+        LOW_DEGREES,
+        of_low_degrees(&mut Random::named(LOW_DEGREES), amounts),
         PAPER_AND_LIBRARY,
         |call| Some(vec![0; 3 + call[Output].len() - folded_coefficients(call)?]),
         |call| degree_of_library(library, call),
@@ -134,11 +133,7 @@ fn degree_of_library(library: &dyn Library, call: &Call) -> Option<Vec<u64>> {
 /// The fold at x, and the same in two: the first at x, and the second, over the next coset, at
 /// the image of x.
 fn in_two(library: &dyn Library, amounts: &Turns) -> [Comparison; 3] {
-    let ways = [
-        ("step 2 is step 1 twice", 2, 1),
-        ("step 3 is step 1, then step 2", 3, 1),
-        ("step 3 is step 2, then step 1", 3, 2),
-    ];
+    let ways = [(TWICE, 2, 1), (ONE_THEN_TWO, 3, 1), (TWO_THEN_ONE, 3, 2)];
     ways.map(|(name, step, first)| {
         let settings = (3..=12).map(|k| [k, 0, step]);
         let inputs = FOLD.right_calls(&mut Random::named(name), settings, amounts);
@@ -187,10 +182,9 @@ fn sum(one: &[u64], other: &[u64]) -> Vec<u64> {
 
 /// Both sides have all else that a fold gives as well.
 fn sums_of_words(library: &dyn Library, amounts: &Turns) -> Comparison {
-    let name = "the fold of u + v is that of u + that of v";
     compare(
-        name,
-        two_words(&mut Random::named(name), amounts),
+        SUMS,
+        two_words(&mut Random::named(SUMS), amounts),
         LEFT_AND_RIGHT,
         |(call, other)| {
             let sum = sum(&call[Given], other);

@@ -4,8 +4,8 @@ use crate::compare::operation::Reference;
 use crate::compare::reed_solomon::{ENCODE, INTERPOLATE};
 use crate::compare::wrong::{
     alike, and_then, answering, changing, dependent, differing, first_of_all, hold_table,
-    lower_halves, not_writing, raw_alone, refusing, right_library, row, shared_rows, when_refused,
-    with_points_from_0, Others, Row, Wrong,
+    lower_halves, not_writing, raw_alone, refusing, right_library, row, shared_rows, taking,
+    when_refused, with_points_from_0, Others, Row, Wrong,
 };
 use crate::coset::point;
 use crate::polynomial::interpolant;
@@ -34,33 +34,11 @@ const FEW: Amounts = Amounts {
 
 // The comparisons that a mistake of one sort shows in.
 
-const STEP_1: &str = "fold with step 1, k 2 to 6";
-const STEP_2: &str = "fold with step 2, k 2 to 6";
-const STEP_3: &str = "fold with step 3, k 3 to 6";
-const LARGE_1: &str = "fold with step 1, k 7 to 12";
-const LARGE_2: &str = "fold with step 2, k 7 to 12";
-const LARGE_3: &str = "fold with step 3, k 7 to 12";
-const WHOLE: &str = "fold, k 13 to 16";
-const SAMPLED: &str = "fold, k 20, some entries";
-const ALL_ONES: &str = "fold, the next offset all ones";
-const AT_POINTS: &str = "the fold at a point is the word there";
-const LOW_DEGREES: &str = "the fold of a low degree has a low degree";
-const TWICE: &str = "step 2 is step 1 twice";
-const ONE_THEN_TWO: &str = "step 3 is step 1, then step 2";
-const TWO_THEN_ONE: &str = "step 3 is step 2, then step 1";
-const SUMS: &str = "the fold of u + v is that of u + that of v";
 const BELOW: &str = "k below the step";
 const SAFE: &str = "fold, safe calls";
 const DAMAGED: &str = "k out of range and damaged";
 const K_OUT: &str = "fold, k out of range";
 const SEVERAL: &str = "several causes";
-const CASE_D: &str = "case D of table A";
-const CASE_F: &str = "case F of table A, the fold";
-const CASE_J: &str = "case J of table A, the fold";
-const CASE_J_ALL: &str = "case J of table A, 2 alone is exceptional";
-const FIRST_OF_K: &str = "case K of table A, the first fold";
-const SECOND_OF_K: &str = "case K of table A, the second fold";
-const CASE_M: &str = "case M of table A, fold";
 
 const RIGHT: &[&str] =
     &[STEP_1, STEP_2, STEP_3, LARGE_1, LARGE_2, LARGE_3, WHOLE, SAMPLED, ALL_ONES];
@@ -289,7 +267,7 @@ fn wrong_ranges() -> Vec<Row<Wrong>> {
             dependent(&call[Basis][..call[Step] as usize]).unwrap_or(otherwise)
         })
     };
-    let taking = |k| refusing(4, move |call, answer| if call.k() == k { done() } else { answer });
+    let taking = |k| taking(4, move |call| call.k() == k);
     vec![
         row("only the spanning elements are tested", testing_the_first(done())).differs(DEPENDENT),
         row("the next basis is tested instead", testing_the_first(refused_in_round(16, 0)))

@@ -1,7 +1,7 @@
 use super::*;
 use crate::compare::wrong::{
-    alike, and_then, changing, first_of_all, hold_table, is_refused, not_writing, refusing, right,
-    right_library, row, shared_rows, with_points_from_0, Others, Row, Wrong,
+    alike, and_then, changing, first_of_all, hold_table, is_refused, not_writing, right,
+    right_library, row, shared_rows, taking, with_points_from_0, Others, Row, Wrong,
 };
 use crate::coset::first_dependent;
 
@@ -25,11 +25,7 @@ const FEW: Amounts = Amounts {
 
 const SMALL: &str = "k 0 to 6";
 const LARGE: &str = "k 7 to 12";
-const TRIP: &str = "interpolate after encode gives the coefficients";
-const OTHER_TRIP: &str = "encode after interpolate gives the word";
 const SAFE: &str = "safe calls";
-const E_ENCODE: &str = "case E of table A, encode";
-const E_INTERPOLATE: &str = "case E of table A, interpolate";
 const ENCODE_SMALL: &str = "encode, k 0 to 6";
 const ENCODE_LARGE: &str = "encode, k 7 to 12";
 const ENCODE_SAFE: &str = "encode, safe calls";
@@ -38,14 +34,14 @@ const INTERPOLATE_SMALL: &str = "interpolate, k 0 to 6";
 const OF_ENCODE: Others = Others {
     right: &[ENCODE_SMALL, ENCODE_LARGE],
     safely: &[TRIP, OTHER_TRIP, E_ENCODE],
-    dependent: &["case M of table A, encode"],
+    dependent: &[M_ENCODE],
     unsaid: &[],
 };
 
 const OF_INTERPOLATE: Others = Others {
     right: &[INTERPOLATE_SMALL, "interpolate, k 7 to 12"],
     safely: &[TRIP, OTHER_TRIP, E_INTERPOLATE],
-    dependent: &["case M of table A, interpolate"],
+    dependent: &[M_INTERPOLATE],
     unsaid: &[],
 };
 
@@ -59,15 +55,10 @@ fn rows() -> Vec<Row<Wrong>> {
         call[Given].resize(points, 1)
     });
     let one_bit = and_then(|call, outputs| outputs.first()[0] ^= call[Given][0] >> 63);
-    let taking_right_calls = refusing(4, |call, answer| {
+    let taking_right_calls = taking(4, |call| {
         let independent = first_dependent(&call[Basis]).is_none();
         let [given, output] = [Given, Output].map(|list| call[list].len());
-        let taken = independent && given > 0 && given == output && call.k() > 13;
-        if taken {
-            done()
-        } else {
-            answer
-        }
+        independent && given > 0 && given == output && call.k() > 13
     });
     let all = &[SMALL, LARGE, SAFE, E_ENCODE, E_INTERPOLATE];
     vec![

@@ -2,7 +2,7 @@
 //! description.
 
 use super::*;
-use crate::answer::{done, refused};
+use crate::answer::refused;
 use crate::compare::refused::{all_causes, causes_of_setting, range, with_other_answer, Sort};
 use crate::coset::point;
 use crate::protocol::QUERY_COUNTS;
@@ -223,11 +223,13 @@ fn wrong_order(names: &Names) -> Vec<Row<Wrong>> {
     rows
 }
 
-/// The places of the elements that are sums of so many earlier ones at most.
+/// The places of the elements that are sums of so many earlier ones at most; zero is that of none.
 fn sums_of(most: u32, basis: &[u64]) -> impl Iterator<Item = usize> + '_ {
-    let picks = move |place: usize| (0..1 << place).filter(move |p: &u64| p.count_ones() <= most);
-    let is_sum = |place: usize, pick| point(0, &basis[..place], pick) == basis[place];
-    (0..basis.len()).filter(move |&place| picks(place).any(|pick| is_sum(place, pick)))
+    let is_sum = move |&place: &usize| {
+        let mut picks = (0..1u64 << place).filter(|pick| pick.count_ones() <= most);
+        picks.any(|pick| point(0, &basis[..place], pick) == basis[place])
+    };
+    (0..basis.len()).filter(is_sum)
 }
 
 /// A test of a basis: the first place that it finds dependent.
@@ -287,14 +289,13 @@ fn wrong_dimensions(names: &Names) -> Vec<Row<Wrong>> {
     let (lowest, highest) = (*operation.dimensions.start(), *operation.dimensions.end());
     let refusing_lowest = first_of_all(move |call| (call.k() == lowest).then(|| refused(4)));
     let near = highest + 1..=highest + 2;
-    let taking =
-        refusing(4, move |call, answer| if near.contains(&call.k()) { done() } else { answer });
+    let taking_near = taking(4, move |call| near.contains(&call.k()));
     let as_place = refusing(4, |call, _| refused_at(4, call.k()));
     let mut rows = vec![
         row("the lowest dimension is refused", refusing_lowest)
             .differs(&[&names.lists[..], &[safe]].concat())
             .among_others(),
-        row("dimensions just above the highest are taken", taking)
+        row("dimensions just above the highest are taken", taking_near)
             .differs(&[damaged, safe])
             .agrees(&names.lists),
         row("the dimension out of range is given as a place", as_place)
@@ -307,17 +308,13 @@ fn wrong_dimensions(names: &Names) -> Vec<Row<Wrong>> {
         false => (&[5, 6, 8][..], damaged),
     };
     for &bits in bits {
-        let cut = refusing(4, move |call, answer| {
+        let cut = taking(4, move |call| {
             let k = call.k() % (1 << bits);
             let mut cut = call.clone().with(K, k);
             if !call.operation.takes(K) {
                 cut[Basis].truncate(k as usize);
             }
-            if is_refused(&cut) {
-                answer
-            } else {
-                done()
-            }
+            !is_refused(&cut)
         });
         rows.push(row(format!("the dimension is cut to {bits} bits"), cut).differs(&[shown]));
     }
@@ -333,11 +330,9 @@ fn wrong_ranges(names: &Names) -> Vec<Row<Wrong>> {
         let far = &[name][..];
         let end = range.end();
         for (value, shown) in [(0, near), (end + 1, near), (end + 5, far), (u64::MAX, far)] {
-            let taking = refusing(cause, move |call, answer| match call[number] == value {
-                true => done(),
-                false => answer,
-            });
-            rows.push(row(format!("{} {value} is taken", number.name()), taking).differs(shown));
+            let what = format!("{} {value} is taken", number.name());
+            let taking = taking(cause, move |call| call[number] == value);
+            rows.push(row(what, taking).differs(shown));
         }
         for bits in [6, 8, 16, 32] {
             let cut = always_instead(move |mut call| {
