@@ -11,7 +11,7 @@ use crate::compare::protocol::inputs::{any_queries, damaged, known, queries, rig
 use crate::parameters::{all_up_to, Parameters};
 use crate::random::Random;
 use crate::transcript::{sections, transcript, written, Judging, Section};
-use Source::{EachSection, Lists, Made, Others, Turns};
+use Source::{EachSection, Lists, Made, OneSection, Others, Turns};
 
 /// Byte strings of one sort, which are given to the library and to the program: their name, and
 /// where they come from.
@@ -25,8 +25,10 @@ enum Source {
     Lists(u64, fn(Random, u64) -> Vec<Judging>),
     /// What is made of an honest transcript, for all parameters up to a dimension.
     Made(u64, fn(&mut Random, &[Section]) -> Vec<Bytes>),
-    /// Such a transcript with each section, by its place, made each of others.
-    EachSection(u64, fn(usize, &Section) -> Vec<Section>),
+    /// Such a transcript with each section made each of others.
+    EachSection(u64, fn(&Section) -> Vec<Section>),
+    /// The same of the section at one place.
+    OneSection(u64, usize, fn(&Section) -> Vec<Section>),
     Others(fn(&mut Random, &Amounts) -> Vec<Bytes>),
 }
 
@@ -62,8 +64,8 @@ pub const SORTS: [Sort; 27] = [
     Sort("any bytes", Others(any)),
     Sort("any bytes behind a right front", Made(4, any_behind_a_front)),
     Sort("any entries", Made(4, any_entries)),
-    Sort("a parameter out of range", EachSection(4, parameters_out_of_range)),
-    Sort("all parameters", EachSection(2, all_parameters)),
+    Sort("a parameter out of range", OneSection(4, PARAMETERS, parameters_out_of_range)),
+    Sort("all parameters", OneSection(2, PARAMETERS, all_parameters)),
     Sort("a dependent basis", Others(with_a_dependent_basis)),
     Sort(
         "counts of queries",
@@ -78,7 +80,7 @@ pub const SORTS: [Sort; 27] = [
                 .concat()
         }),
     ),
-    Sort("powers of two as queries", EachSection(4, powers_of_two_as_queries)),
+    Sort("powers of two as queries", OneSection(4, QUERIES, powers_of_two_as_queries)),
     Sort("several causes", Others(causes::several)),
     Sort("lengths near the limit and far longer", Others(limit::near_the_limit)),
 ];
@@ -91,8 +93,11 @@ impl Sort {
             Turns(turns, judgings) => of(judgings(random, &amounts.turns_of(turns))),
             Lists(k, judgings) => of(judgings(another(random), up_to(k))),
             Made(k, make) => of_each(random, up_to(k), make),
-            EachSection(k, others) => {
-                of_each(random, up_to(k), |_, sections| with_each_section(sections, others))
+            EachSection(k, others) => of_each(random, up_to(k), |_, sections| {
+                (0..sections.len()).flat_map(|place| with_others(sections, place, others)).collect()
+            }),
+            OneSection(k, place, others) => {
+                of_each(random, up_to(k), |_, sections| with_others(sections, place, others))
             }
             Others(inputs) => inputs(random, amounts),
         }
@@ -246,20 +251,18 @@ fn any_behind_a_front(random: &mut Random, sections: &[Section]) -> Vec<Bytes> {
 
 // What a section is made.
 
-fn with_each_section(
+fn with_others(
     sections: &[Section],
-    others: fn(usize, &Section) -> Vec<Section>,
+    place: usize,
+    others: fn(&Section) -> Vec<Section>,
 ) -> Vec<Bytes> {
-    let made = |place| {
-        let others = others(place, &sections[place]).into_iter();
-        others.map(move |other| changed(sections, |all| all[place] = other))
-    };
-    (0..sections.len()).flat_map(made).collect()
+    let with = |other| changed(sections, |all| all[place] = other);
+    others(&sections[place]).into_iter().map(with).collect()
 }
 
 /// With the entries left as they were. The counts are near, far too many, and such that only some
 /// of their bits are right. Where 32 bits hold the number of bytes, 2^29 more entries are none.
-fn other_counts(_: usize, section: &Section) -> Vec<Section> {
+fn other_counts(section: &Section) -> Vec<Section> {
     let count = section.count;
     let near = [0, 1, 2, 3, 4, count.wrapping_sub(1), count + 1, 2 * count];
     let with_bit = [8, 16, 24, 28, 29, 30, 31].map(|bit| count + (1 << bit));
@@ -271,7 +274,7 @@ fn other_counts(_: usize, section: &Section) -> Vec<Section> {
 }
 
 /// Fewer or more of them, with their count.
-fn other_entries(_: usize, section: &Section) -> Vec<Section> {
+fn other_entries(section: &Section) -> Vec<Section> {
     let entries = &section.entries[..];
     let twice = [entries, &vec![2; entries.len()]].concat();
     [&[], &entries[1..], &[entries, &[1]].concat(), &twice].map(Section::of).to_vec()
@@ -280,16 +283,15 @@ fn other_entries(_: usize, section: &Section) -> Vec<Section> {
 /// The largest dimension, rate and step.
 const LARGEST: [u64; 3] = [20, 6, 3];
 
-fn parameters_out_of_range(place: usize, section: &Section) -> Vec<Section> {
-    let mut all = Vec::new();
-    for which in (0..3).filter(|_| place == PARAMETERS) {
-        for number in out_of_range(which, section.entries[which]) {
+fn parameters_out_of_range(section: &Section) -> Vec<Section> {
+    let made = |which: usize| {
+        out_of_range(which, section.entries[which]).into_iter().map(move |number| {
             let mut other = section.clone();
             other.entries[which] = number;
-            all.push(other);
-        }
-    }
-    all
+            other
+        })
+    };
+    (0..3).flat_map(made).collect()
 }
 
 /// Zero, the least above the range, the most, and some that have a right one in some of their
@@ -303,21 +305,20 @@ fn out_of_range(which: usize, right: u64) -> Vec<u64> {
 }
 
 /// All in range, and those next to the ranges. What follows is right for its own ones alone.
-fn all_parameters(place: usize, _: &Section) -> Vec<Section> {
-    let [largest_k, largest_rate, largest_step] = LARGEST;
+fn all_parameters(_: &Section) -> Vec<Section> {
+    let [all_k, all_rates, all_steps] = LARGEST.map(|largest| 0..=largest + 1);
     let mut all = Vec::new();
-    for k in (0..=largest_k + 1).filter(|_| place == PARAMETERS) {
-        for rate in 0..=largest_rate + 1 {
-            all.extend((0..=largest_step + 1).map(|step| Section::of(&[k, rate, step])));
+    for k in all_k {
+        for rate in all_rates.clone() {
+            all.extend(all_steps.clone().map(|step| Section::of(&[k, rate, step])));
         }
     }
     all
 }
 
 /// Each alone.
-fn powers_of_two_as_queries(place: usize, _: &Section) -> Vec<Section> {
-    let bits = (0..u64::BITS).filter(|_| place == QUERIES);
-    bits.map(|bit| Section::of(&[1 << bit])).collect()
+fn powers_of_two_as_queries(_: &Section) -> Vec<Section> {
+    (0..u64::BITS).map(|bit| Section::of(&[1 << bit])).collect()
 }
 
 /// Zeros, repeated elements and sums of earlier ones, at every place, and two of these.

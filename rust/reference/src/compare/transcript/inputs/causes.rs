@@ -55,7 +55,7 @@ fn last(all: &mut [Section]) -> &mut Section {
 }
 
 fn miscount(random: &mut Random, section: &mut Section) {
-    let others = other_counts(0, section);
+    let others = other_counts(section);
     *section = others[random.below(others.len())].clone();
 }
 
