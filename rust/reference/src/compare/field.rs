@@ -53,28 +53,26 @@ pub fn comparisons(under_test: &Field, amount: usize) -> Vec<Comparison> {
 
 /// Values at which a mistake in a carry, a reduction or a width would show: with a single bit,
 /// and with ones from below and from above.
-fn edge_values() -> Vec<u64> {
+fn edge_values() -> BTreeSet<u64> {
     let of_place = |place| [1u64 << place, u64::MAX >> place, u64::MAX << place];
-    let values: BTreeSet<u64> = (0..64).flat_map(of_place).chain([0, 3, 7, 0x1b]).collect();
-    values.into_iter().collect()
+    (0..64).flat_map(of_place).chain([0, 3, 7, 0x1b]).collect()
 }
 
 /// The edge values and the elements that have one for an inverse. All ones is among the
 /// inverses, which as a raw number also stands for no value.
-fn edge_values_and_inverses() -> Vec<u64> {
+fn edge_values_and_inverses() -> BTreeSet<u64> {
     let inverses = edge_values().into_iter().filter_map(field::inverse);
-    let values: BTreeSet<u64> = edge_values().into_iter().chain(inverses).collect();
-    values.into_iter().collect()
+    inverses.chain(edge_values()).collect()
+}
+
+fn singly(values: BTreeSet<u64>) -> Vec<[u64; 1]> {
+    values.into_iter().map(|value| [value]).collect()
 }
 
 fn edge_pairs() -> Vec<[u64; 2]> {
     let values = edge_values();
-    let pairs_of = |a: u64| values.iter().map(move |&b| [a, b]);
-    values.iter().flat_map(|&a| pairs_of(a)).collect()
-}
-
-fn random_values(name: &str, amount: usize) -> Vec<u64> {
-    Random::named(name).list(amount)
+    let pairs_of = |&a| values.iter().map(move |&b| [a, b]);
+    values.iter().flat_map(pairs_of).collect()
 }
 
 fn random_lists<const N: usize>(name: &str, amount: usize) -> Vec<[u64; N]> {
@@ -82,14 +80,16 @@ fn random_lists<const N: usize>(name: &str, amount: usize) -> Vec<[u64; N]> {
     (0..amount).map(|_| random.numbers()).collect()
 }
 
-/// Compares edge inputs under the first name, and random ones under the second.
-fn both<I: Input, A: PartialEq + Show>(
+/// Compares edge inputs under the first name, and so many random ones under the second.
+fn both<const N: usize, A: PartialEq + Show>(
     names: [&'static str; 2],
-    [edge, random]: [Vec<I>; 2],
+    edge: Vec<[u64; N]>,
+    amount: usize,
     sides: Sides,
-    first: impl Fn(&I) -> A,
-    second: impl Fn(&I) -> A,
+    first: impl Fn(&[u64; N]) -> A,
+    second: impl Fn(&[u64; N]) -> A,
 ) -> Vec<Comparison> {
+    let random = random_lists(names[1], amount);
     let compared = |(name, inputs)| compare(name, inputs, sides, &first, &second);
     names.into_iter().zip([edge, random]).map(compared).collect()
 }
@@ -97,19 +97,13 @@ fn both<I: Input, A: PartialEq + Show>(
 // Against the reference.
 
 fn sums_and_products(Field { sum, product, .. }: &Field, amount: usize) -> Vec<Comparison> {
-    let pairs = |[_, random]: [&str; 2]| [edge_pairs(), random_lists(random, amount)];
-    let sums = ["sum, edge pairs", "sum, random pairs"];
-    let products = ["product, edge pairs", "product, random pairs"];
-    let sides = REFERENCE_AND_LIBRARY;
+    let compared = |names, due: fn(u64, u64) -> u64, library: &Operation| {
+        let sides = REFERENCE_AND_LIBRARY;
+        both(names, edge_pairs(), amount, sides, |&[a, b]| due(a, b), |&[a, b]| library(a, b))
+    };
     [
-        both(sums, pairs(sums), sides, |&[a, b]| field::sum(a, b), |&[a, b]| sum(a, b)),
-        both(
-            products,
-            pairs(products),
-            sides,
-            |&[a, b]| field::product(a, b),
-            |&[a, b]| product(a, b),
-        ),
+        compared(["sum, edge pairs", "sum, random pairs"], field::sum, sum),
+        compared(["product, edge pairs", "product, random pairs"], field::product, product),
     ]
     .concat()
 }
@@ -120,22 +114,21 @@ fn inverse_due(a: u64) -> Answer {
 }
 
 fn inverses(Field { product, inverse, .. }: &Field, amount: usize) -> Vec<Comparison> {
-    let values =
-        |[_, random]: [&str; 2]| [edge_values_and_inverses(), random_values(random, amount)];
     let inverses = ["inverse, edge values", "inverse, random values"];
     let products = [
         "product with the inverse is one, edge values",
         "product with the inverse is one, random values",
     ];
-    let one = |&a: &u64| (a != 0).then_some(1);
-    let their_product = |&a: &u64| inverse(a).value.map(|x| product(a, x));
-    let (due, sides) = (|&a: &u64| inverse_due(a), REFERENCE_AND_LIBRARY);
+    let edge = || singly(edge_values_and_inverses());
+    let due = |&[a]: &[u64; 1]| inverse_due(a);
+    let one = |&[a]: &[u64; 1]| (a != 0).then_some(1);
+    let their_product = |&[a]: &[u64; 1]| inverse(a).value.map(|x| product(a, x));
     [
         // Zero apart from the rest, with the answer as the paper gives it.
         vec![case("inverse, zero", 0, refused(15), |&a| inverse(a))],
-        both(inverses, values(inverses), sides, due, |&a| inverse(a)),
+        both(inverses, edge(), amount, REFERENCE_AND_LIBRARY, due, |&[a]| inverse(a)),
         // This needs no inverse of the reference: both functions are the library's.
-        both(products, values(products), PAPER_AND_LIBRARY, one, their_product),
+        both(products, edge(), amount, PAPER_AND_LIBRARY, one, their_product),
     ]
     .concat()
 }
@@ -172,8 +165,8 @@ fn law<const N: usize>(
 /// The reduction constant against NIST SP 800-38B.
 fn doublings(Field { product, .. }: &Field, amount: usize) -> Vec<Comparison> {
     let names = ["doubling of SP 800-38B, edge values", "doubling of SP 800-38B, random values"];
-    let values = [edge_values(), random_values(names[1], amount)];
-    both(names, values, ["SP 800-38B", "library"], |&a| field::doubling(a), |&a| product(2, a))
+    let (doubled, sides) = (|&[a]: &[u64; 1]| field::doubling(a), ["SP 800-38B", "library"]);
+    both(names, singly(edge_values()), amount, sides, doubled, |&[a]| product(2, a))
 }
 
 fn table_a(Field { product, inverse, .. }: &Field) -> Vec<Comparison> {
@@ -209,8 +202,8 @@ fn lent_lists(Field { raw_inverse, .. }: &Field, amount: usize) -> Vec<Compariso
     let random = "inverse into a list of five, random values";
     vec![
         compared("inverse into a list of another length", &few, &others),
-        compared(edge, &edge_values_and_inverses(), &five),
-        compared(random, &random_values(random, amount), &five),
+        compared(edge, &Vec::from_iter(edge_values_and_inverses()), &five),
+        compared(random, &Random::named(random).list(amount), &five),
     ]
 }
 
