@@ -65,6 +65,7 @@ fn edge_values_and_inverses() -> BTreeSet<u64> {
     inverses.chain(edge_values()).collect()
 }
 
+/// Each value as an input of its own.
 fn singly(values: BTreeSet<u64>) -> Vec<[u64; 1]> {
     values.into_iter().map(|value| [value]).collect()
 }

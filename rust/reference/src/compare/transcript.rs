@@ -85,7 +85,7 @@ pub struct Compared {
 /// Runs all comparisons. No byte string is compared twice, but for those of table A and for what
 /// else is asked of the library alone.
 pub fn comparisons(judges: &Judges, amounts: &Amounts) -> Compared {
-    let mut tally = Tally::new();
+    let mut tally = Tally::default();
     let (mut comparisons, mut some) = (Vec::new(), Vec::new());
     for sort in &SORTS {
         let inputs = tally.only_new(sort.byte_strings(amounts));

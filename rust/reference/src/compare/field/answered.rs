@@ -45,9 +45,9 @@ impl<I: Input> Input for Answered<I> {
 
 impl<I> Answered<I> {
     /// Lends the list, has it written to, and gives it with the numbers around it.
-    fn after(&self, write: impl FnOnce(&mut [u64])) -> Lent {
+    fn after(&self, write: impl Fn(&I, &mut [u64])) -> Lent {
         let mut answer = Lent::filled(self.length, self.fill);
-        write(answer.list());
+        write(&self.input, answer.list());
         answer
     }
 }
@@ -60,13 +60,11 @@ pub fn compare_answers<I: Input>(
     due: impl Fn(&I) -> Answer,
     write: impl Fn(&I, &mut [u64]),
 ) -> Comparison {
-    let after_reference = |call: &Answered<I>| {
-        call.after(|answer| {
-            if answer.len() == ANSWER_LENGTH {
-                answer.copy_from_slice(&raw(&due(&call.input)));
-            }
-        })
+    let write_due = |input: &I, answer: &mut [u64]| {
+        if answer.len() == ANSWER_LENGTH {
+            answer.copy_from_slice(&raw(&due(input)));
+        }
     };
-    let after_library = |call: &Answered<I>| call.after(|answer| write(&call.input, answer));
-    compare(name, inputs, REFERENCE_AND_LIBRARY, after_reference, after_library)
+    let sides = REFERENCE_AND_LIBRARY;
+    compare(name, inputs, sides, |call| call.after(&write_due), |call| call.after(&write))
 }

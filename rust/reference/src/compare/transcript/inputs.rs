@@ -11,7 +11,7 @@ use crate::compare::protocol::inputs::{any_queries, damaged, known, queries, rig
 use crate::parameters::{all_up_to, Parameters};
 use crate::random::Random;
 use crate::transcript::{sections, transcript, written, Judging, Section};
-use Source::{EachSection, Lists, Made, OneSection, Others, Turns};
+use Source::{EachSection, Honest, Lists, Made, OneSection, Others, Turns};
 
 /// Byte strings of one sort, which are given to the library and to the program: their name, and
 /// where they come from.
@@ -20,9 +20,11 @@ pub struct Sort(pub &'static str, Source);
 enum Source {
     /// What is judged over lists, so many times for the dimensions from 2 to 7, with all the rates
     /// and steps that each takes.
-    Turns([usize; 6], fn(&mut Random, &[usize]) -> Vec<Judging>),
+    Turns([usize; 6], &'static [fn(&mut Random, &[usize]) -> Vec<Judging>]),
     /// What is judged over lists, up to a dimension.
     Lists(u64, fn(Random, u64) -> Vec<Judging>),
+    /// An honest transcript of each of these parameters.
+    Honest(fn(&Amounts) -> Vec<Parameters>),
     /// What is made of an honest transcript, for all parameters up to a dimension.
     Made(u64, fn(&mut Random, &[Section]) -> Vec<Bytes>),
     /// Such a transcript with each section made each of others.
@@ -33,16 +35,13 @@ enum Source {
 }
 
 pub const SORTS: [Sort; 27] = [
-    Sort("honest runs", Turns([84, 42, 21, 12, 7, 5], right::honest_with_queries)),
+    Sort("honest runs", Turns([84, 42, 21, 12, 7, 5], &[right::honest_with_queries])),
+    Sort("honest runs of large parameters", Honest(Amounts::large)),
+    Sort("honest runs of the largest parameters", Honest(Amounts::largest)),
     Sort(
-        "honest runs of large parameters",
-        Others(|random, amounts| honest(random, &amounts.large())),
+        "honest folds of too high a degree",
+        Turns([42, 21, 12, 7, 4, 2], &[right::of_high_degrees]),
     ),
-    Sort(
-        "honest runs of the largest parameters",
-        Others(|random, amounts| honest(random, &amounts.largest())),
-    ),
-    Sort("honest folds of too high a degree", Turns([42, 21, 12, 7, 4, 2], right::of_high_degrees)),
     Sort(
         "each entry damaged, each query alone",
         Lists(4, |random, k| damaged::with_each_query(random, k).collect()),
@@ -51,9 +50,9 @@ pub const SORTS: [Sort; 27] = [
         "each entry damaged, all queries",
         Lists(5, |random, k| damaged::with_all_queries(random, k).collect()),
     ),
-    Sort("some entries damaged", Turns([12, 12, 7, 4, 2, 1], damaged::some)),
+    Sort("some entries damaged", Turns([12, 12, 7, 4, 2, 1], &[damaged::some])),
     Sort("some entries of large parameters damaged", Others(some_of_large)),
-    Sort("another challenge", Turns([42, 21, 12, 7, 4, 2], damaged::other_challenges)),
+    Sort("another challenge", Turns([42, 21, 12, 7, 4, 2], &[damaged::other_challenges])),
     Sort("cut at every byte", Made(4, cut_at_every_byte)),
     Sort("cut near every section", Made(6, cut_near_every_section)),
     Sort("bytes behind the last section", Made(4, with_bytes_behind)),
@@ -69,16 +68,11 @@ pub const SORTS: [Sort; 27] = [
     Sort("a dependent basis", Others(with_a_dependent_basis)),
     Sort(
         "counts of queries",
-        Turns([1, 1, 1, 0, 0, 0], |random, turns| {
-            [queries::of_all_counts(random, turns), queries::repeated(random, turns)].concat()
-        }),
+        Turns([1, 1, 1, 0, 0, 0], &[queries::of_all_counts, queries::repeated]),
     ),
     Sort(
         "queries out of range",
-        Turns([1, 1, 0, 0, 0, 0], |random, turns| {
-            [queries::out_of_range(random, turns), queries::several_out_of_range(random, turns)]
-                .concat()
-        }),
+        Turns([1, 1, 0, 0, 0, 0], &[queries::out_of_range, queries::several_out_of_range]),
     ),
     Sort("powers of two as queries", OneSection(4, QUERIES, powers_of_two_as_queries)),
     Sort("several causes", Others(causes::several)),
@@ -90,8 +84,12 @@ impl Sort {
         let random = &mut Random::named(self.0);
         let up_to = |k: u64| k.min(amounts.largest_k);
         match self.1 {
-            Turns(turns, judgings) => of(judgings(random, &amounts.turns_of(turns))),
+            Turns(turns, sources) => {
+                let turns = amounts.turns_of(turns);
+                of(sources.iter().flat_map(|judgings| judgings(random, &turns)))
+            }
             Lists(k, judgings) => of(judgings(another(random), up_to(k))),
+            Honest(parameters) => honest(random, &parameters(amounts)),
             Made(k, make) => of_each(random, up_to(k), make),
             EachSection(k, others) => of_each(random, up_to(k), |_, sections| {
                 (0..sections.len()).flat_map(|place| with_others(sections, place, others)).collect()

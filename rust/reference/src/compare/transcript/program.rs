@@ -35,8 +35,7 @@ fn started(program: PathBuf) -> Child {
     child.unwrap_or_else(|error| panic!("target/bin/judge at the root does not start: {error}"))
 }
 
-/// The program need not read all that it is given: it may stop where there is too
-/// much.
+/// The program need not read all that it is given: it may stop where there is too much.
 fn write(mut input: ChildStdin, bytes: &[u8]) {
     match input.write_all(bytes) {
         Err(error) if error.kind() != ErrorKind::BrokenPipe => {

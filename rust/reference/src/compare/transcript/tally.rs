@@ -9,16 +9,13 @@ const NUMBERS: usize = 17;
 
 /// All byte strings so far, and how often each number was due from the library and from the
 /// program.
+#[derive(Default)]
 pub struct Tally {
     met: HashSet<Bytes>,
     due: [[usize; NUMBERS]; 2],
 }
 
 impl Tally {
-    pub fn new() -> Tally {
-        Tally { met: HashSet::new(), due: [[0; NUMBERS]; 2] }
-    }
-
     /// Those that have not come before. Each of them counts from now on.
     pub fn only_new(&mut self, mut inputs: Vec<Bytes>) -> Vec<Bytes> {
         inputs.retain(|input| self.met.insert(input.clone()));
@@ -50,7 +47,7 @@ mod tests {
 
     #[test]
     fn each_byte_string_counts_once() {
-        let mut tally = Tally::new();
+        let mut tally = Tally::default();
         let all = |all: &[&[u8]]| all.iter().map(|bytes| bytes.to_vec()).collect();
         assert_eq!(tally.only_new(all(&[b"", b"abcd", b""])), [&b""[..], b"abcd"]);
         let long = [0; 65_537];

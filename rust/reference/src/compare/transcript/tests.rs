@@ -146,7 +146,7 @@ static INPUTS: LazyLock<Vec<(&str, Vec<Bytes>, BTreeSet<u64>)>> = LazyLock::new(
     sorts.map(with_numbers).collect()
 });
 
-/// Several times what three queries take here.
+/// Far more than a few queries take here.
 const MOST_READS: u64 = 100;
 
 /// The sorts in which some of the numbers are due, of the library, of the program, or of both.
