@@ -134,12 +134,15 @@ fn there_are_twenty_thousand_byte_strings() {
 }
 
 /// What wrong judges are compared with: the byte strings of each sort, and the numbers that are
-/// due for them. The sorts that cost much are left out, and so are long lists of queries.
+/// due for them. The sorts that cost much are left out, and so are long lists of queries; of many
+/// byte strings only some are taken.
 static INPUTS: LazyLock<Vec<(&str, Vec<Bytes>, BTreeSet<u64>)>> = LazyLock::new(|| {
     let sorts = SORTS.iter().filter(|sort| ![FLIPPED, LIMIT].contains(&sort.0));
     let with_numbers = |sort: &Sort| {
         let mut inputs = sort.byte_strings(&FEW);
         inputs.retain(|bytes| judge(bytes).reads <= MOST_READS);
+        let every = inputs.len().div_ceil(MOST_INPUTS);
+        let inputs: Vec<Bytes> = inputs.into_iter().step_by(every).collect();
         let numbers = numbers_due(&inputs);
         (sort.0, inputs, numbers)
     };
@@ -148,6 +151,8 @@ static INPUTS: LazyLock<Vec<(&str, Vec<Bytes>, BTreeSet<u64>)>> = LazyLock::new(
 
 /// Far more than a few queries take here.
 const MOST_READS: u64 = 100;
+
+const MOST_INPUTS: usize = 700;
 
 /// The sorts in which some of the numbers are due, of the library, of the program, or of both.
 fn with_numbers(of: &str, numbers: impl IntoIterator<Item = u64>) -> Vec<String> {
