@@ -252,14 +252,38 @@ const LARGE: &[Setting] = &[
 /// Runs all comparisons of this file and of those under it.
 pub fn comparisons(library: &dyn Library, amounts: &Amounts) -> Vec<Comparison> {
     [
-        proofs(library, amounts),
-        proving::comparisons(library, amounts),
-        judgings(library, amounts),
-        refused::comparisons(library, &PROVE, &amounts.refused),
-        refused::comparisons(library, &JUDGE, &amounts.refused),
-        lookup::comparisons(library, amounts.lookups),
+        of_prover(library, amounts),
+        of_judge(library, amounts),
+        of_lookup(library, amounts),
         lengths::comparisons(library, amounts.lengths),
-        table_a::comparisons(library, amounts.challenges),
+    ]
+    .concat()
+}
+
+fn of_prover(library: &dyn Library, amounts: &Amounts) -> Vec<Comparison> {
+    [
+        proofs(library, amounts),
+        vec![proving::known_layers(library, amounts.known)],
+        refused::comparisons(library, &PROVE, &amounts.refused),
+        table_a::of_prover(library, amounts.challenges),
+    ]
+    .concat()
+}
+
+fn of_judge(library: &dyn Library, amounts: &Amounts) -> Vec<Comparison> {
+    [
+        judgings(library, amounts),
+        vec![proving::accepted_by_judge(library, &amounts.turns)],
+        refused::comparisons(library, &JUDGE, &amounts.refused),
+        table_a::of_judge(library),
+    ]
+    .concat()
+}
+
+fn of_lookup(library: &dyn Library, amounts: &Amounts) -> Vec<Comparison> {
+    [
+        lookup::comparisons(library, amounts.lookups),
+        vec![proving::layer_by_layer(library, &amounts.turns), table_a::of_lookup(library)],
     ]
     .concat()
 }

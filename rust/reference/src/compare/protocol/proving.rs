@@ -4,7 +4,7 @@ use super::inputs::known::{self, Others};
 use super::inputs::{all_queries, right};
 use super::lookup::{layer_call, layer_of_library};
 use super::table_a::{cases, Case};
-use super::{degree_too_high, judge_call, prove_call, run_of, with, Amounts};
+use super::{degree_too_high, judge_call, prove_call, run_of, with};
 use crate::answer::{accepted, done, raw};
 use crate::compare::operation::{after_safe, Library, Setting};
 use crate::compare::{compare, Comparison, Fixed, PAPER_AND_LIBRARY};
@@ -13,28 +13,20 @@ use crate::protocol::{honest_layers, Run, QUERY_COUNTS};
 use crate::random::Random;
 use crate::transcript::Judging;
 
-pub fn comparisons(library: &dyn Library, amounts: &Amounts) -> Vec<Comparison> {
-    vec![
-        known_layers(library, amounts.known),
-        accepted_by_judge(library, &amounts.turns),
-        layer_by_layer(library, &amounts.turns),
-    ]
-}
-
 /// In turn the highest degree that is proved, and the highest there is.
-fn known_layers(library: &dyn Library, settings: &[Setting]) -> Comparison {
+pub fn known_layers(library: &dyn Library, settings: &[Setting]) -> Comparison {
     let name = "prove, k 16 to 20, known layers";
     let mut random = Random::named(name);
     let known = settings.iter().copied().map(with).map(|parameters| {
         if parameters.k % 2 == 0 {
             let run = known::honest(&mut random, parameters);
             let lists = vec![Some(run.store.clone()), Some(run.last.clone())];
-            return Case { call: prove_call(run), answer: done(), lists };
+            return Case::of(prove_call(run), done(), lists);
         }
         let degree = parameters.layer_length(parameters.rounds()) - 1;
         let run = known::known(&mut random, parameters, degree, Others::Any, 0);
         let lists = vec![Some(run.store.clone()), None];
-        Case { call: prove_call(run), answer: degree_too_high(degree as u64), lists }
+        Case::of(prove_call(run), degree_too_high(degree as u64), lists)
     });
     cases(library, name, ["known", "library"], known)
 }
@@ -71,7 +63,7 @@ fn query_lists(parameters: Parameters) -> Vec<Vec<u64>> {
 }
 
 /// The numbers of the verdicts, by the paper's formula for the reads.
-fn accepted_by_judge(library: &dyn Library, amounts: &[usize]) -> Comparison {
+pub fn accepted_by_judge(library: &dyn Library, amounts: &[usize]) -> Comparison {
     let due = |run: &Run| {
         let entries = run.parameters.rounds() << run.parameters.step;
         let lists = query_lists(run.parameters).into_iter();
@@ -86,7 +78,7 @@ fn accepted_by_judge(library: &dyn Library, amounts: &[usize]) -> Comparison {
 }
 
 /// Layers 0 to r, of which the first and the last are not in the store.
-fn layer_by_layer(library: &dyn Library, amounts: &[usize]) -> Comparison {
+pub fn layer_by_layer(library: &dyn Library, amounts: &[usize]) -> Comparison {
     let due = |run: &Run| {
         let mut layers = honest_layers(run);
         let r = layers.len() - 1;

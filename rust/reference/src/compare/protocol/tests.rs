@@ -1,17 +1,23 @@
 //! Wrong libraries, and the comparisons that they differ in.
+//!
+//! Each is wrong in one operation and the reference in the others, so it is compared in that
+//! operation alone.
 
 mod judges;
+mod lengths;
 mod lookups;
 mod provers;
 mod refusals;
 
 use super::*;
+use crate::compare::operation::Reference;
 use crate::compare::wrong::{
     alike, hold_table, right_library, row, shared_rows, Others, Row, Wrong,
 };
 use crate::coset::point;
 use crate::fold::Coset;
 use crate::polynomial::{interpolant, value};
+use std::collections::HashSet;
 
 /// Few and small, since every wrong library is compared with all of them.
 const FEW: Amounts = Amounts {
@@ -37,18 +43,20 @@ const FEW: Amounts = Amounts {
     },
 };
 
-#[test]
-fn the_table_holds() {
-    let rows = [
-        provers::rows(),
-        judges::rows(),
-        lookups::rows(),
-        refusals::rows(),
-        shared_rows(&PROVE, &provers::OTHERS),
-        shared_rows(&JUDGE, &judges::OTHERS),
-    ];
+/// Holds a table that has several parts.
+fn hold<const PARTS: usize>(
+    rows: [Vec<Row<Wrong>>; PARTS],
+    comparisons: impl Fn(&dyn Library) -> Vec<Comparison>,
+) {
     let rows: Vec<Row<Wrong>> = rows.into_iter().flatten().collect();
-    hold_table(&right_library(), &rows, |library| comparisons(library, &FEW));
+    hold_table(&right_library(), &rows, |library| comparisons(library));
+}
+
+#[test]
+fn no_two_comparisons_have_one_name() {
+    let all = comparisons(&Reference, &FEW);
+    let names: HashSet<&str> = all.iter().map(|comparison| comparison.name).collect();
+    assert_eq!(names.len(), all.len());
 }
 
 /// The program takes all rates and all dimensions up to nine.

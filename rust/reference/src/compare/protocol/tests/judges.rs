@@ -38,7 +38,7 @@ const FOLDED: [&str; 4] = [HONEST, DEGREES, ACCEPTED, SAFE];
 /// All in which a query is out of range.
 const OUT_OF_RANGE: [&str; 3] = [ONE_OUT, SOME_OUT, SAFE];
 
-pub const OTHERS: Others = Others {
+const OTHERS: Others = Others {
     right: &[
         HONEST, DEGREES, EACH_ALONE, EACH, SOME, LARGE, CHALLENGES, COUNTS, REPEATED, ONE_OUT,
         SOME_OUT,
@@ -48,8 +48,18 @@ pub const OTHERS: Others = Others {
     unsaid: &[SEVERAL, CASE_O],
 };
 
-pub fn rows() -> Vec<Row<Wrong>> {
-    [in_all(), checks(), stops(), queries(), reads()].into_iter().flatten().collect()
+#[test]
+fn the_table_holds() {
+    let rows = [
+        in_all(),
+        checks(),
+        stops(),
+        queries(),
+        reads(),
+        refusals::rows(&JUDGE, HONEST),
+        shared_rows(&JUDGE, &OTHERS),
+    ];
+    hold(rows, |library| of_judge(library, &FEW));
 }
 
 /// Makes another verdict of the run, the queries and the right verdict, if that has one of these

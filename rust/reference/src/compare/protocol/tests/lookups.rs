@@ -51,7 +51,12 @@ fn raw(what: impl Into<String>, other: impl Fn(Answer) -> Answer + 'static) -> R
     row(what, raw_alone(behaviour).of(&LAYER))
 }
 
-pub fn rows() -> Vec<Row<Wrong>> {
+#[test]
+fn the_table_holds() {
+    hold([rows()], |library| of_lookup(library, &FEW));
+}
+
+fn rows() -> Vec<Row<Wrong>> {
     let any_length =
         raw_alone(|call, outputs, answer| write_what_fits(right(call, outputs), answer));
     let mut rows = vec![

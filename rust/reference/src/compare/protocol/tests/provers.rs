@@ -33,15 +33,30 @@ const SENT: [&str; 9] =
 /// All in which the degree is too high, but for cases.
 const TOO_HIGH: [&str; 6] = [ANY_WORDS, DEGREES, NEAR_BOUNDS, LARGE, KNOWN, SAFE];
 
-pub const OTHERS: Others = Others {
+const OTHERS: Others = Others {
     right: &[ANY_WORDS, DEGREES, NEAR_BOUNDS, EXCEPTIONAL, LARGE],
     safely: &[KNOWN, CASE_F, CASE_J, CASE_K, CASE_O],
     dependent: &[],
     unsaid: &[CASE_O],
 };
 
-pub fn rows() -> Vec<Row<Wrong>> {
-    [in_all(), layers(), last_coefficients(), degrees()].into_iter().flatten().collect()
+/// The judge and the lookup, which are right, take what a wrong prover wrote.
+#[test]
+fn the_table_holds() {
+    let rows = [
+        in_all(),
+        layers(),
+        last_coefficients(),
+        degrees(),
+        refusals::rows(&PROVE, ANY_WORDS),
+        shared_rows(&PROVE, &OTHERS),
+    ];
+    hold(rows, |library| {
+        let mut all = of_prover(library, &FEW);
+        all.push(proving::accepted_by_judge(library, &FEW.turns));
+        all.push(proving::layer_by_layer(library, &FEW.turns));
+        all
+    });
 }
 
 /// Makes another proof of the run, with the lists as they were lent, and the right proof, if that
