@@ -4,7 +4,7 @@ use mathlib.Core.Logic.{⊎-elim}
 use mathlib.Core.List.{List}
 use Prim.Native.Nat.{ℕ, zero, suc, _+_, _*_, _-_, _/_, _^_, _≤_, _<_}
 use native.Mathlib.Nat.{zero-mul, suc-mul, mul-zero, add-zero, add-suc, div-one, le-trans}
-use native.Mathlib.Nat.{sub-zero, sub-add-cancel, le-div-iff-mul-le, le-of-eq, eq-or-lt-of-le}
+use native.Mathlib.Nat.{sub-zero, sub-add-cancel, le-div-iff-mul-le, le-mul-of-pos-right, le-of-eq, eq-or-lt-of-le}
 use native.Mathlib.Omega.{arith}
 use lib.Pow.{shr-lt, shr-shr}
 use lib.ListN.{length, take, drop, length-append, length-drop, length-replicate, getD-replicate}
@@ -125,6 +125,13 @@ dimension-of-layer k rate step (suc i) h =
 pub rounds-fit : (k rate step i : ℕ) → 1 ≤ step → i ≤ length (stepsOf k rate step) → i * step ≤ k - rate
 rounds-fit k rate step i least h =
     le-div-iff-mul-le {k = step} {x = i} {y = k - rate} least .0 (subst (λ (n : ℕ). i ≤ n) (length-steps k rate step) h)
+
+-- k is at most 20 and the rate at least 1, so that there are at most 19 rounds
+pub rounds-few : (k rate step : ℕ) → 1 ≤ rate → 1 ≤ step → k ≤ 20 → length (stepsOf k rate step) ≤ 19
+rounds-few k rate step some least most =
+    let r = length (stepsOf k rate step) in
+    le-trans (le-mul-of-pos-right r least)
+    (le-trans (rounds-fit k rate step r least (omega arith)) (omega arith))
 
 -- the rate and the step of round i fit in the dimension of layer i
 pub step-fits : (k rate step : ℕ) → 1 ≤ step → rate ≤ k → (i : ℕ) → i < length (stepsOf k rate step)

@@ -1,13 +1,13 @@
 -- Sizes that parameters in range allow: rounds, dimensions, and where the layers begin. Assumes nothing.
-use mathlib.Core.Path.{_≡_, refl, sym}
+use mathlib.Core.Path.{_≡_, refl}
 use mathlib.Core.List.{List}
 use Prim.Native.Nat.{ℕ, zero, suc, _*_, _-_, _^_, _≤_, _<_}
-use native.Mathlib.Nat.{le-trans, le-of-eq, mul-one, mul-le-mul, suc-mul}
+use native.Mathlib.Nat.{le-trans, suc-mul}
 use native.Mathlib.Omega.{arith}
 use lib.Pow.{pow-mono}
 use lib.ListN.{length}
 use Rattle.fri.specs.Layout.{dimension, lastCount, layerStart, storeLength}
-use Rattle.fri.proofs.Layouts.{dimension-of-layer, rounds-fit, some-round}
+use Rattle.fri.proofs.Layouts.{dimension-of-layer, rounds-fit, rounds-few, some-round}
 use Rattle.layout.specs.declared.Parameters.{Parameters}
 use Rattle.layout.specs.Parameters.{stepsBy, Valid}
 
@@ -41,11 +41,7 @@ lastCount-is k rate steps = refl
 
 module _ (p : Parameters) (v : Valid p) where
   pub few-rounds : length (stepsBy p) ≤ 19
-  few-rounds =
-      le-trans (le-of-eq (sym (mul-one (length (stepsBy p)))))
-      (le-trans (mul-le-mul (le-of-eq (refl)) (v .step-least))
-      (le-trans (rounds-fit (p .k) (p .rate) (p .step) (length (stepsBy p)) (v .step-least) (omega arith))
-      (omega (arith, v .k-most, v .rate-least))))
+  few-rounds = rounds-few (p .k) (p .rate) (p .step) (v .rate-least) (v .step-least) (v .k-most)
 
   pub one-round : 1 ≤ length (stepsBy p)
   one-round = some-round (p .k) (p .rate) (p .step) (v .step-least) (v .k-enough)

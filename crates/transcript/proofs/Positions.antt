@@ -1,10 +1,10 @@
 -- Where the sections of a transcript begin, as far as those before them passed: none ends after the longest
 -- transcript. Assumes nothing.
-use mathlib.Core.Path.{_≡_, refl, sym, ap, _∙_}
-use mathlib.Core.Bool.{true, _&&_}
+use mathlib.Core.Path.{_≡_, ap, _∙_}
+use mathlib.Core.Bool.{_&&_}
 use mathlib.Core.List.{List}
 use Prim.Native.Nat.{ℕ, zero, suc, _+_, _*_, _-_, _^_, _≤_, _<_}
-use native.Mathlib.Nat.{le-trans, le-of-eq, le-mul-of-pos-right, suc-mul, pow-suc}
+use native.Mathlib.Nat.{le-trans, le-of-eq, suc-mul, pow-suc}
 use native.Mathlib.Omega.{arith}
 use lib.Pow.{pow-mono}
 use lib.Dec.{leb}
@@ -17,7 +17,7 @@ use Rattle.refusal.specs.Checks.{andThen}
 use Rattle.fri.specs.Layout.{stepsOf, stepAt, dimension, lastCount}
 use Rattle.fri.specs.Checks.{basesOutcome, indicesOutcome}
 use Rattle.fri.specs.Demand.{ValidParameters}
-use Rattle.fri.proofs.Layouts.{dimension-of-layer, rounds-fit}
+use Rattle.fri.proofs.Layouts.{dimension-of-layer, rounds-fit, rounds-few}
 use Rattle.transcript.specs.Sections.{sectionStart, sectionCount, layerSection, transcriptK, transcriptRate}
 use Rattle.transcript.specs.Sections.{transcriptStep, transcriptSteps, transcriptRounds, runIn, queriesIn}
 use Rattle.transcript.specs.Checks.{sectionOutcome, dueOutcome, parametersSection, cosetSection}
@@ -98,9 +98,7 @@ module _ (bytes : List ℕ) (one : parametersSection bytes ≡ Done) where
 
   pub few-rounds : r ≤ 19
   few-rounds =
-      le-trans (le-mul-of-pos-right r (valid .step-least))
-      (le-trans (rounds-fit k (transcriptRate bytes) (transcriptStep bytes) r (valid .step-least) (omega arith))
-      (omega (arith, valid .k-most, valid .rate-least)))
+      rounds-few k (transcriptRate bytes) (transcriptStep bytes) (valid .rate-least) (valid .step-least) (valid .k-most)
 
   -- ---- sections 2 to 5
 

@@ -10,7 +10,10 @@ mod fold;
 mod protocol;
 
 fn main() {
-    println!("the least of many turns taken in rotation, and the library's time over each; both sides built for release");
+    println!(
+        "the least of many turns taken in rotation, and the library's time over each; both sides \
+         built for release"
+    );
     field::report();
     codes::report();
     fold::report();

@@ -60,7 +60,8 @@ fn print_counts(proof: Proof) {
     let each = |count: u64| count as f64 / proof.queries.len() as f64;
     let Counts { sums, products, inverses } = once;
     println!(
-        "    once a query {:.1} sums and {:.1} products, once in all {sums} sums, {products} products and {inverses} inverses:",
+        "    once a query {:.1} sums and {:.1} products, once in all {sums} sums, {products} \
+         products and {inverses} inverses:",
         each(queried.sums),
         each(queried.products)
     );
@@ -75,7 +76,8 @@ fn print_round_counts(proof: Proof, once: &Counts, queried: &Counts) {
     let checks = proof.queries.len() * proof.run.challenges.len();
     let each = |of: fn(&Counts) -> u64| (of(&all) - of(once) - of(queried)) as f64 / checks as f64;
     println!(
-        "  step {step}, {:.1} operations for each query and round beside {listed} sums for its points, wanted at most {}:",
+        "  step {step}, {:.1} operations for each query and round beside {listed} sums for its \
+         points, wanted at most {}:",
         each(Counts::all) - listed as f64,
         4 * (1 << step) + 6 * step + 1
     );

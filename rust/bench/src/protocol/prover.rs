@@ -28,7 +28,8 @@ fn print_counts(run: Run) {
     let counts = counted(|arithmetic| run.by(arithmetic, &mut run.room()));
     let each = |count: u64| count as f64 / run.word.len() as f64;
     println!(
-        "  step {}, {:.2} products for each entry of the word, {:.2} operations with {:.2} sums and {} inverses in all:",
+        "  step {}, {:.2} products for each entry of the word, {:.2} operations with {:.2} sums \
+         and {} inverses in all:",
         run.step,
         each(counts.products),
         each(counts.all()),
