@@ -1,0 +1,98 @@
+-- What is proved of written transcripts, as statements; Sections, RoundTrip and Writer of proofs/ have the values.
+use mathlib.Core.Path.{_≡_}
+use mathlib.Core.Logic.{_≢_, _⊎_}
+use mathlib.Core.List.{List}
+use Prim.Native.Nat.{ℕ, _+_, _*_, _^_, _≤_, _<_}
+use lib.ListN.{length}
+use Rattle.gf64.specs.Field.{IsElement}
+use Rattle.poly.specs.Polynomial.{All}
+use Rattle.refusal.specs.declared.Cause.{Cause}
+use Rattle.refusal.specs.declared.Outcome.the-variants.{Done, Refused}
+use Rattle.refusal.specs.declared.Position.the-variants.{At}
+use Rattle.refusal.specs.Checks.{andThen}
+use Rattle.refusal.specs.Numbers.{numberOfOutcome, placeOfOutcome}
+use Rattle.fri.specs.Run.{Run, stepsIn}
+use Rattle.fri.specs.Checks.{parametersOutcome, lengthsOutcome}
+use Rattle.fri.specs.Judge.{checksOutcome, verdictOf}
+use Rattle.fri.specs.Demand.{ValidParameters, Elements}
+use Rattle.fri.specs.Theorems.{Fit}
+use Rattle.transcript.specs.Numerals.{AreBytes}
+use Rattle.transcript.specs.Sections.{runIn, queriesIn}
+use Rattle.transcript.specs.Judge.{transcriptVerdict, inputLimit, inputVerdict}
+use Rattle.transcript.specs.Theorems.{Carries}
+use Rattle.written.specs.Bytes.{littleEndianBytes, countBytes, entriesBytes, sectionBytes}
+use Rattle.written.specs.Transcript.{transcriptOf, transcriptLength}
+use Rattle.written.specs.Writer.{writeOutcome, bytesAfter}
+
+-- the bytes of a count, of entries and of a section: how many there are, and that others have other bytes
+pub record WrittenSections : Type 0 where
+  pub are-bytes : (entries : List ℕ) → AreBytes (sectionBytes entries)
+  pub count-length : (count : ℕ) → length (countBytes count) ≡ 4
+  pub entries-length : (entries : List ℕ) → length (entriesBytes entries) ≡ 8 * length entries
+  pub section-length : (entries : List ℕ) → length (sectionBytes entries) ≡ 4 + 8 * length entries
+  pub same-count : (one other : ℕ) → one < 2 ^ 32 → other < 2 ^ 32 → countBytes one ≡ countBytes other → one ≡ other
+  pub same-entries : (one other : List ℕ) → All IsElement one → All IsElement other
+      → entriesBytes one ≡ entriesBytes other → one ≡ other
+  pub same-section : (one other : List ℕ) → All IsElement one → All IsElement other
+      → sectionBytes one ≡ sectionBytes other → one ≡ other
+
+-- lists that sections can hold: parameters in range, the lengths due, 64-bit numbers, and no more queries than a count
+-- of 4 bytes can say
+pub record Writable (run : Run) (queries : List ℕ) : Type 0 where
+  pub parameters : ValidParameters (run .k) (run .rate) (run .step)
+  pub fits : Fit run
+  pub elements : Elements run
+  pub queries-elements : All IsElement queries
+  pub queries-count : length queries < 2 ^ 32
+
+-- what is written is read again, and nothing else reads the same
+pub record WrittenTranscripts : Type 0 where
+  pub are-bytes : (run : Run) (queries : List ℕ) → AreBytes (transcriptOf run queries)
+  -- the needed length
+  pub size : (run : Run) (queries : List ℕ) → ValidParameters (run .k) (run .rate) (run .step) → Fit run
+      → length (transcriptOf run queries) ≡ transcriptLength (run .k) (run .rate) (stepsIn run) (length queries)
+  -- the reader finds parameters, offset and lists again
+  pub carries : (run : Run) (queries : List ℕ) → Writable run queries → Carries (transcriptOf run queries)
+  pub run-again : (run : Run) (queries : List ℕ) → Writable run queries → runIn (transcriptOf run queries) ≡ run
+  pub queries-again : (run : Run) (queries : List ℕ) → Writable run queries
+      → queriesIn (transcriptOf run queries) ≡ queries
+  -- bytes that carry lists are the transcript of those lists; so the same lists are in no other bytes
+  pub only : (bytes : List ℕ) → AreBytes bytes → Carries bytes → transcriptOf (runIn bytes) (queriesIn bytes) ≡ bytes
+  pub unique : (one other : List ℕ) → AreBytes one → AreBytes other → Carries one → Carries other
+      → runIn one ≡ runIn other → queriesIn one ≡ queriesIn other → one ≡ other
+  -- judging the bytes by the library is judging the lists, at every length, verdict and reads
+  pub judged : (run : Run) (queries : List ℕ) → Writable run queries
+      → transcriptVerdict (transcriptOf run queries) ≡ verdictOf run queries
+  -- the program does so up to its limit
+  pub judged-by-program : (run : Run) (queries : List ℕ) → Writable run queries
+      → length (transcriptOf run queries) ≤ inputLimit
+      → inputVerdict (transcriptOf run queries) ≡ verdictOf run queries
+
+-- the numbers that the writer may give
+abbrev pub WriterNumber : (n : ℕ) → Type 0
+WriterNumber n = (n ≡ 0) ⊎ ((4 ≤ n) × (n ≤ 10)) ⊎ (n ≡ 13)
+
+-- the writer's refusals: those of the judge over lists without 11, and list 8
+pub record WriterRefusals : Type 0 where
+  -- with list 8 of the needed length they are those of the judge before its round checks
+  pub as-lists : (run : Run) (queries : List ℕ)
+      → writeOutcome run queries (length (transcriptOf run queries)) ≡ checksOutcome run queries
+  -- parameters and lists 1 to 5 come before list 8
+  pub earlier : (run : Run) (queries : List ℕ) (size : ℕ) (cause : Cause)
+      → andThen (parametersOutcome (run .k) (run .rate) (run .step)) (lengthsOutcome run) ≡ Refused cause
+      → writeOutcome run queries size ≡ Refused cause
+  -- and list 8 before the bases and the queries
+  pub list8 : (run : Run) (queries : List ℕ) (size : ℕ) → ValidParameters (run .k) (run .rate) (run .step) → Fit run
+      → size ≢ transcriptLength (run .k) (run .rate) (stepsIn run) (length queries)
+      → (numberOfOutcome (writeOutcome run queries size) ≡ 13)
+      × (placeOfOutcome (writeOutcome run queries size) ≡ At 8)
+  -- a refusal leaves every byte
+  pub left : (run : Run) (queries held : List ℕ) (cause : Cause)
+      → writeOutcome run queries (length held) ≡ Refused cause → bytesAfter run queries held ≡ held
+  -- else list 8 holds a transcript that the reader reads
+  pub written : (run : Run) (queries held : List ℕ) → Elements run → All IsElement queries
+      → writeOutcome run queries (length held) ≡ Done
+      → Writable run queries × (bytesAfter run queries held ≡ transcriptOf run queries)
+  -- no number is given otherwise, whatever the basis of 64-bit numbers
+  pub numbers : (run : Run) (queries : List ℕ) (size : ℕ) → All IsElement (run .basis)
+      → WriterNumber (numberOfOutcome (writeOutcome run queries size))
