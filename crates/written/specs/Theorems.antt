@@ -20,7 +20,7 @@ use Rattle.transcript.specs.Numerals.{AreBytes}
 use Rattle.transcript.specs.Sections.{runIn, queriesIn}
 use Rattle.transcript.specs.Judge.{transcriptVerdict, inputLimit, inputVerdict}
 use Rattle.transcript.specs.Theorems.{Carries}
-use Rattle.written.specs.Bytes.{littleEndianBytes, countBytes, entriesBytes, sectionBytes}
+use Rattle.written.specs.Bytes.{countBytes, entriesBytes, sectionBytes}
 use Rattle.written.specs.Transcript.{transcriptOf, transcriptLength}
 use Rattle.written.specs.Writer.{writeOutcome, bytesAfter}
 
