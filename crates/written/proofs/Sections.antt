@@ -162,7 +162,7 @@ module _ (bytes : List ℕ) (h : AreBytes bytes) where
       let size : ℕ = 4 + 8 * sectionCount bytes s in
       let rest : List ℕ = sectionsBytes (listsFrom bytes (suc s) n) in
       let later : sectionStart bytes (suc s) ≤ length bytes =
-          le-trans (start-later bytes (suc s) (s + suc n) (omega arith) (omega arith)) l in
+      le-trans (start-later bytes (suc s) (s + suc n) (omega arith) (omega arith)) l in
       let next : at + size ≡ sectionStart bytes (suc s) = omega (arith, start-next bytes s least) in
       ap (λ (section : List ℕ). take at bytes ++ (section ++ rest)) (section-written s least later)
       ∙ sym (append-assoc (take at bytes) (part at size) rest)
