@@ -85,7 +85,8 @@ entries-behind before (x ∷ xs) after at e h =
     ∙ entries-behind (before ++ entryBytes x) xs after (at + 8)
     (omega (arith, length-append before (entryBytes x), length-number 8 x)) (h .1))
   where
-    first : before ++ ((entryBytes x ++ entriesBytes xs) ++ after) ≡ before ++ (entryBytes x ++ (entriesBytes xs ++ after))
+    first : before ++ ((entryBytes x ++ entriesBytes xs) ++ after)
+        ≡ before ++ (entryBytes x ++ (entriesBytes xs ++ after))
     first = ap (λ (l : List ℕ). before ++ l) (append-assoc (entryBytes x) (entriesBytes xs) after)
 
 entries-append : (xs ys : List ℕ) → entriesBytes (xs ++ ys) ≡ entriesBytes xs ++ entriesBytes ys
@@ -149,6 +150,7 @@ pub same-section : (one other : List ℕ) → All IsElement one → All IsElemen
 unfolding sectionBytes
 same-section one other h g e = same-entries one other h g (sym (entries-of one) ∙ ap (drop 4) e ∙ entries-of other)
   where
-    entries-of : (entries : List ℕ) → drop 4 (countBytes (length entries) ++ entriesBytes entries) ≡ entriesBytes entries
+    entries-of : (entries : List ℕ)
+        → drop 4 (countBytes (length entries) ++ entriesBytes entries) ≡ entriesBytes entries
     entries-of entries =
         drop-at (countBytes (length entries)) (entriesBytes entries) 4 (length-number 4 (length entries))

@@ -82,7 +82,8 @@ module _ (run : Run) (valid : ValidParameters (run .k) (run .rate) (run .step)) 
       let layers : List (List ℕ) = layersThenLast run 0 r in
       omega (
         arith,
-        length-sections (run .k ∷ run .rate ∷ run .step ∷ []) ((run .offset ∷ run .basis) ∷ run .challenges ∷ queries ∷ layers),
+        length-sections (run .k ∷ run .rate ∷ run .step ∷ [])
+            ((run .offset ∷ run .basis) ∷ run .challenges ∷ queries ∷ layers),
         length-sections (run .offset ∷ run .basis) (run .challenges ∷ queries ∷ layers),
         length-sections (run .challenges) (queries ∷ layers),
         length-sections queries layers,

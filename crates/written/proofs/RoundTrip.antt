@@ -1,5 +1,5 @@
--- A written transcript carries the run and the queries that it was written from, and no other bytes carry them. Assumes
--- nothing.
+-- A written transcript carries the run and the queries that it was written from, and no other bytes carry them.
+-- Assumes nothing.
 use mathlib.Core.Path.{_≡_, refl, sym, ap, ap₂, _∙_, subst}
 use mathlib.Core.List.{List, [], _∷_, _++_}
 use Prim.Native.Nat.{ℕ, zero, suc, _+_, _-_, _^_, _≤_, _<_}
@@ -18,7 +18,7 @@ use Rattle.fri.specs.Demand.{ValidParameters}
 use Rattle.fri.proofs.Layouts.{some-round, rounds-few}
 use Rattle.transcript.specs.Numerals.{AreBytes}
 use Rattle.transcript.specs.Sections.{sectionStart, sectionCount, sectionEntries, layerSection, transcriptK}
-use Rattle.transcript.specs.Sections.{transcriptRate, transcriptStep, transcriptSteps, transcriptRounds, runIn, queriesIn}
+use Rattle.transcript.specs.Sections.{transcriptStep, transcriptSteps, transcriptRounds, runIn, queriesIn}
 use Rattle.transcript.specs.Judge.{transcriptVerdict, inputLimit, inputVerdict}
 use Rattle.transcript.specs.Theorems.{Carries}
 use Rattle.transcript.proofs.Numerals.{length-entries}
@@ -70,7 +70,8 @@ module _ (bytes : List ℕ) (b : AreBytes bytes) (c : Carries bytes) where
   lists : listsOf read (queriesIn bytes) ≡ listsFrom bytes 1 sections
   unfolding listsFrom
   lists =
-      ap₂ (λ (x : List ℕ) (l : List (List ℕ)). x ∷ l) (three (sectionEntries bytes 1) (counted 1 ∙ c .parameters-count))
+      ap₂ (λ (x : List ℕ) (l : List (List ℕ)). x ∷ l)
+      (three (sectionEntries bytes 1) (counted 1 ∙ c .parameters-count))
       (ap₂ (λ (x : List ℕ) (l : List (List ℕ)). x ∷ sectionEntries bytes 3 ∷ sectionEntries bytes 4 ∷ l)
       (one-and-more (sectionEntries bytes 2) (omega (arith, counted 2, c .coset-count))) (layers 0 r (omega arith)))
 
@@ -116,11 +117,31 @@ dimension-most k steps (suc i) = omega (arith, dimension-most k steps i)
 
 same-run : {k k′ rate rate′ step step′ offset offset′ : ℕ}
     {basis basis′ challenges challenges′ word word′ store store′ last last′ : List ℕ}
-    → k ≡ k′ → rate ≡ rate′ → step ≡ step′ → offset ≡ offset′ → basis ≡ basis′ → challenges ≡ challenges′ → word ≡ word′
-    → store ≡ store′ → last ≡ last′
+    → k ≡ k′ → rate ≡ rate′ → step ≡ step′ → offset ≡ offset′ → basis ≡ basis′ → challenges ≡ challenges′
+    → word ≡ word′ → store ≡ store′ → last ≡ last′
     → _≡_ {A = Run}
-    (record { k = k; rate = rate; step = step; offset = offset; basis = basis; challenges = challenges; word = word; store = store; last = last })
-    (record { k = k′; rate = rate′; step = step′; offset = offset′; basis = basis′; challenges = challenges′; word = word′; store = store′; last = last′ })
+    (record {
+      k = k;
+      rate = rate;
+      step = step;
+      offset = offset;
+      basis = basis;
+      challenges = challenges;
+      word = word;
+      store = store;
+      last = last;
+    })
+    (record {
+      k = k′;
+      rate = rate′;
+      step = step′;
+      offset = offset′;
+      basis = basis′;
+      challenges = challenges′;
+      word = word′;
+      store = store′;
+      last = last′;
+    })
 same-run a b c d e f g h i = cc
 
 module _ (run : Run) where
@@ -155,7 +176,9 @@ module _ (run : Run) (queries : List ℕ) (w : Writable run queries) where
   some = some-round (run .k) (run .rate) (run .step) (w .parameters .step-least) (w .parameters .k-enough)
 
   few : n ≤ 19
-  few = let p = w .parameters in rounds-few (run .k) (run .rate) (run .step) (p .rate-least) (p .step-least) (p .k-most)
+  few =
+      let p = w .parameters in
+      rounds-few (run .k) (run .rate) (run .step) (p .rate-least) (p .step-least) (p .k-most)
 
   -- every list can be held
 
@@ -180,7 +203,8 @@ module _ (run : Run) (queries : List ℕ) (w : Writable run queries) where
   unfolding lastCount
   last-holds =
       let m : ℕ = dimension (run .k) steps n in (
-        fits-count (length (run .last)) (m - run .rate) (w .fits .last) (omega (arith, dimension-most (run .k) steps n)),
+        fits-count (length (run .last)) (m - run .rate) (w .fits .last)
+            (omega (arith, dimension-most (run .k) steps n)),
         w .elements .last,
       )
 
@@ -192,7 +216,10 @@ module _ (run : Run) (queries : List ℕ) (w : Writable run queries) where
   parameters-hold : Holds (run .k ∷ run .rate ∷ run .step ∷ [])
   parameters-hold =
       let p = w .parameters in
-      (omega arith, (omega (arith, p .k-most), (omega (arith, p .rate-most), (omega (arith, p .step-most), record {}))))
+      let k-small : IsElement (run .k) = omega (arith, p .k-most) in
+      let rate-small : IsElement (run .rate) = omega (arith, p .rate-most) in
+      let step-small : IsElement (run .step) = omega (arith, p .step-most) in
+      (omega arith, (k-small, (rate-small, (step-small, record {}))))
 
   coset-holds : Holds (run .offset ∷ run .basis)
   coset-holds = (omega (arith, w .fits .basis, w .parameters .k-most), (w .elements .offset, w .elements .basis))

@@ -152,7 +152,8 @@ module _ (bytes : List ℕ) (h : AreBytes bytes) where
       ∙ ap₂ _++_ (number-there at 4 (omega arith)) (entries-written (at + 4) n (omega arith)) ∙ parts at 4 (8 * n)
 
   pub sections-written : (s n : ℕ) → 1 ≤ s → sectionStart bytes (s + n) ≤ length bytes
-      → take (sectionStart bytes s) bytes ++ sectionsBytes (listsFrom bytes s n) ≡ take (sectionStart bytes (s + n)) bytes
+      → take (sectionStart bytes s) bytes ++ sectionsBytes (listsFrom bytes s n)
+      ≡ take (sectionStart bytes (s + n)) bytes
   unfolding listsFrom sectionsBytes
   sections-written s zero least l =
       append-nil (take (sectionStart bytes s) bytes)

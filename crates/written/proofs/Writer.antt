@@ -1,0 +1,152 @@
+-- The writer's refusals. Assumes nothing.
+use mathlib.Core.Path.{_≡_, refl, sym, ap, _∙_}
+use mathlib.Core.Logic.{_≢_, inl, inr}
+use mathlib.Core.List.{List}
+use Prim.Native.Nat.{ℕ, _≤_}
+use native.Mathlib.Omega.{arith}
+use lib.Dec.{eqb}
+use lib.ListN.{length}
+use borrow.Author.Tests.{eq-eqb, ne-eqb}
+use Rattle.gf64.specs.Field.{IsElement}
+use Rattle.poly.specs.Polynomial.{All}
+use Rattle.refusal.specs.declared.Cause.{Cause}
+use Rattle.refusal.specs.declared.Cause.the-variants.{WrongLength}
+use Rattle.refusal.specs.declared.Outcome.{Outcome}
+use Rattle.refusal.specs.declared.Outcome.the-variants.{Done, Refused}
+use Rattle.refusal.specs.declared.Position.the-variants.{At}
+use Rattle.refusal.specs.Checks.{andThen, afterwards}
+use Rattle.refusal.specs.Numbers.{numberOfOutcome, placeOfOutcome}
+use Rattle.refusal.proofs.Checks.{passed-by, refused-by, then-passed, then-done, number-unless, number-then}
+use Rattle.fri.specs.Run.{Run, stepsIn, stepIn}
+use Rattle.fri.specs.Checks.{parametersOutcome, lengthsOutcome, basesOutcome, queriesOutcome}
+use Rattle.fri.specs.Judge.{checksOutcome}
+use Rattle.fri.specs.Demand.{ValidParameters, Elements}
+use Rattle.fri.specs.Theorems.{Fit}
+use Rattle.fri.proofs.Checks.{parameters-pass, parameters-valid, lengths-pass, lengths-fit, queries-valid}
+use Rattle.fri.proofs.Checks.{bases-number, run-number, queries-number}
+use Rattle.written.specs.Transcript.{transcriptOf, transcriptLength}
+use Rattle.written.specs.Writer.{sizeOutcome, writeOutcome, bytesAfter}
+use Rattle.written.specs.Theorems.{Writable, WriterNumber, WriterRefusals}
+use Rattle.written.proofs.Lengths.{transcript-size}
+
+-- ---- three groups of checks
+
+then-then : (first second third : Outcome)
+    → andThen first (andThen second third) ≡ andThen (andThen first second) third
+then-then Done second third = refl
+then-then (Refused cause) second third = refl
+
+-- what is refused by the first two is refused whatever follows
+cut : (first second after : Outcome) (cause : Cause) → andThen first second ≡ Refused cause
+    → andThen first (andThen second after) ≡ Refused cause
+cut first second after cause e = then-then first second after ∙ ap (λ (o : Outcome). andThen o after) e
+
+number-before : (P : ℕ → Type 0) (first second third after : Outcome)
+    → P (numberOfOutcome (andThen first (andThen second third))) → P (numberOfOutcome after)
+    → P (numberOfOutcome (andThen first (andThen second after)))
+number-before P Done Done third after h a = a
+number-before P Done (Refused cause) third after h a = h
+number-before P (Refused cause) second third after h a = h
+
+-- ---- the writer's
+
+module _ (run : Run) (queries : List ℕ) where
+  abbrev parameters : Outcome
+  parameters = parametersOutcome (run .k) (run .rate) (run .step)
+
+  abbrev bases : Outcome
+  bases = basesOutcome (stepsIn run) (run .basis)
+
+  abbrev of-queries : Outcome
+  of-queries = queriesOutcome (run .k) (stepIn run 0) queries
+
+  abbrev needed : ℕ
+  needed = length (transcriptOf run queries)
+
+  abbrev sized : ℕ → Outcome
+  sized size = andThen (sizeOutcome run queries size) (andThen bases of-queries)
+
+  as-lists : writeOutcome run queries needed ≡ checksOutcome run queries
+  as-lists =
+      ap (λ (o : Outcome). andThen parameters (andThen (lengthsOutcome run) (andThen o (andThen bases of-queries))))
+      (sym (passed-by (eqb needed needed) (WrongLength 8) Done (eq-eqb needed needed refl)))
+      ∙ ap (andThen parameters) (then-then (lengthsOutcome run) bases of-queries)
+      ∙ then-then parameters (andThen (lengthsOutcome run) bases) of-queries
+
+  earlier : (size : ℕ) (cause : Cause) → andThen parameters (lengthsOutcome run) ≡ Refused cause
+      → writeOutcome run queries size ≡ Refused cause
+  earlier size cause e = cut parameters (lengthsOutcome run) (sized size) cause e
+
+  list8-refused : (size : ℕ) → ValidParameters (run .k) (run .rate) (run .step) → Fit run
+      → size ≢ transcriptLength (run .k) (run .rate) (stepsIn run) (length queries)
+      → writeOutcome run queries size ≡ Refused (WrongLength 8)
+  list8-refused size v f n =
+      sym (then-passed parameters (andThen (lengthsOutcome run) (sized size))
+      (parameters-pass (run .k) (run .rate) (run .step) v))
+      ∙ sym (then-passed (lengthsOutcome run) (sized size) (lengths-pass run f))
+      ∙ ap (λ (o : Outcome). andThen o (andThen bases of-queries))
+      (sym (refused-by (eqb size needed) (WrongLength 8) Done
+      (ne-eqb size needed (λ e. n (e ∙ transcript-size run v f queries)))))
+
+  list8 : (size : ℕ) → ValidParameters (run .k) (run .rate) (run .step) → Fit run
+      → size ≢ transcriptLength (run .k) (run .rate) (stepsIn run) (length queries)
+      → (numberOfOutcome (writeOutcome run queries size) ≡ 13)
+      × (placeOfOutcome (writeOutcome run queries size) ≡ At 8)
+  list8 size v f n =
+      (ap numberOfOutcome (list8-refused size v f n), ap placeOfOutcome (list8-refused size v f n))
+
+  left : (held : List ℕ) (cause : Cause) → writeOutcome run queries (length held) ≡ Refused cause
+      → bytesAfter run queries held ≡ held
+  left held cause e = ap (λ (o : Outcome). afterwards o (transcriptOf run queries) held) e
+
+  writable : (size : ℕ) → Elements run → All IsElement queries → writeOutcome run queries size ≡ Done
+      → Writable run queries
+  writable size elements asked e =
+      let one = then-done parameters (andThen (lengthsOutcome run) (sized size)) e in
+      let two = then-done (lengthsOutcome run) (sized size) (one .1) in
+      let three = then-done (sizeOutcome run queries size) (andThen bases of-queries) (two .1) in
+      let four = then-done bases of-queries (three .1) in
+      let few = queries-valid (run .k) (stepIn run 0) queries (four .1) .most in
+      record {
+        parameters = parameters-valid (run .k) (run .rate) (run .step) (one .0);
+        fits = lengths-fit run (two .0);
+        elements = elements;
+        queries-elements = asked;
+        queries-count = omega (arith, few);
+      }
+
+  written : (held : List ℕ) → Elements run → All IsElement queries → writeOutcome run queries (length held) ≡ Done
+      → Writable run queries × (bytesAfter run queries held ≡ transcriptOf run queries)
+  written held elements asked e =
+      (writable (length held) elements asked e, ap (λ (o : Outcome). afterwards o (transcriptOf run queries) held) e)
+
+  numbers : (size : ℕ) → All IsElement (run .basis) → WriterNumber (numberOfOutcome (writeOutcome run queries size))
+  numbers size h =
+      number-before WriterNumber parameters (lengthsOutcome run) bases (sized size)
+      (run-number WriterNumber none (λ n l u. inr (inl (l, omega arith))) thirteen run h)
+      (number-then WriterNumber (sizeOutcome run queries size) (andThen bases of-queries)
+      (number-unless WriterNumber (eqb size needed) (WrongLength 8) Done thirteen none)
+      (number-then WriterNumber bases of-queries
+      (bases-number WriterNumber none (early 8 (omega arith) (omega arith)) run h)
+      (queries-number WriterNumber none (early 9 (omega arith) (omega arith)) (early 10 (omega arith) (omega arith))
+      (run .k) (stepIn run 0) queries)))
+    where
+      none : WriterNumber 0
+      none = inl refl
+
+      early : (n : ℕ) → 4 ≤ n → n ≤ 10 → WriterNumber n
+      early n l u = inr (inl (l, u))
+
+      thirteen : WriterNumber 13
+      thirteen = inr (inr refl)
+
+pub writer-refusals : WriterRefusals
+writer-refusals =
+    record {
+      as-lists = as-lists;
+      earlier = earlier;
+      list8 = list8;
+      left = left;
+      written = written;
+      numbers = numbers;
+    }
