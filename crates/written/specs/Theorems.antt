@@ -1,4 +1,4 @@
--- What is proved of written transcripts, as statements; Sections, RoundTrip and Writer of proofs/ have the values.
+-- What is proved of written transcripts, as statements; RoundTrip, Writer and Honest of proofs/ have the values.
 use mathlib.Core.Path.{_≡_}
 use mathlib.Core.Logic.{_≢_, _⊎_}
 use mathlib.Core.List.{List}
@@ -11,10 +11,12 @@ use Rattle.refusal.specs.declared.Outcome.the-variants.{Done, Refused}
 use Rattle.refusal.specs.declared.Position.the-variants.{At}
 use Rattle.refusal.specs.Checks.{andThen}
 use Rattle.refusal.specs.Numbers.{numberOfOutcome, placeOfOutcome}
-use Rattle.fri.specs.Run.{Run, stepsIn}
+use Rattle.fri.specs.declared.Answer.the-variants as answers
+use Rattle.fri.specs.Run.{Run, stepsIn, roundsIn}
+use Rattle.fri.specs.Layers.{honest}
 use Rattle.fri.specs.Checks.{parametersOutcome, lengthsOutcome}
 use Rattle.fri.specs.Judge.{checksOutcome, verdictOf}
-use Rattle.fri.specs.Demand.{ValidParameters, Elements}
+use Rattle.fri.specs.Demand.{ValidParameters, ValidCoset, ProverInput, LowDegree, ValidQueries, Elements}
 use Rattle.fri.specs.Theorems.{Fit}
 use Rattle.transcript.specs.Numerals.{AreBytes}
 use Rattle.transcript.specs.Sections.{runIn, queriesIn}
@@ -67,6 +69,17 @@ pub record WrittenTranscripts : Type 0 where
   pub judged-by-program : (run : Run) (queries : List ℕ) → Writable run queries
       → length (transcriptOf run queries) ≤ inputLimit
       → inputVerdict (transcriptOf run queries) ≡ verdictOf run queries
+
+-- demand 3, first half, of what is written: an honest run of a word of low degree and a valid query list are written
+-- into as many bytes as are needed, and these are accepted, with queries · r · 2^η entries read
+pub record HonestTranscripts : Type 0 where
+  pub written : (run : Run) (queries : List ℕ) → ValidCoset run → ProverInput run → LowDegree run
+      → ValidQueries (run .k) queries
+      → writeOutcome (honest run) queries (transcriptLength (run .k) (run .rate) (stepsIn run) (length queries)) ≡ Done
+  pub accepted : (run : Run) (queries : List ℕ) → ValidCoset run → ProverInput run → LowDegree run
+      → ValidQueries (run .k) queries
+      → transcriptVerdict (transcriptOf (honest run) queries)
+      ≡ record { answer = answers.Accepted; reads = length queries * roundsIn run * 2 ^ run .step }
 
 -- the numbers that the writer may give
 abbrev pub WriterNumber : (n : ℕ) → Type 0
