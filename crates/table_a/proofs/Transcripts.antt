@@ -1,13 +1,13 @@
--- Cases G and H as transcripts: the bytes carry the runs of Table A, whose verdicts are
--- computed there. Assumes nothing.
+-- Cases G, H and K as transcripts: they are what is written of the runs of Table A, and G and H carry these, whose
+-- verdicts are computed there. Assumes nothing.
 use mathlib.Core.Path.{_≡_, refl, sym, ap₂, _∙_, subst}
 use mathlib.Core.List.{[], _∷_}
 use Prim.Native.Nat.{ℕ, zero, suc, _^_, _≤_, _<_}
 use native.Mathlib.Omega.{arith}
 use Rattle.refusal.specs.declared.Position.the-variants.{At, Absent}
 use Rattle.fri.specs.declared.Verdict.{Verdict}
-use Rattle.fri.specs.Layout.{dimension, lastCount, joinedLayers}
-use Rattle.fri.specs.Run.{Run}
+use Rattle.fri.specs.Layout.{dimension, lastCount, layerStart, joinedLayers, storedLayer}
+use Rattle.fri.specs.Run.{Run, layerIn}
 use Rattle.fri.specs.Judge.{verdictOf}
 use Rattle.fri.specs.Theorems.{Tells}
 use Rattle.transcript.specs.Numerals.{littleEndian, countAt, entryAt, entriesAt}
@@ -15,9 +15,28 @@ use Rattle.transcript.specs.Sections.{sectionStart, sectionCount, layerSection,
 use Rattle.transcript.specs.Judge.{inputVerdict}
 use Rattle.transcript.specs.Theorems.{Carries}
 use Rattle.transcript.proofs.Theorems.{judging-bytes}
-use Rattle.table_a.specs.TableA.{small}
-use Rattle.table_a.specs.Transcripts.{oneRound, TranscriptCases}
+use Rattle.written.specs.Bytes.{littleEndianBytes, entriesBytes, sectionBytes, sectionsBytes}
+use Rattle.written.specs.Transcript.{layersThenLast, transcriptOf}
+use Rattle.table_a.specs.TableA.{small, twoRounds}
+use Rattle.table_a.specs.Transcripts.{oneRound, twoRoundsBytes, TranscriptCases}
 use Rattle.table_a.proofs.TableA.{table-a}
+
+-- ---- what is written
+
+written-g : transcriptOf (small 4 (7 ∷ 4 ∷ 1 ∷ 2 ∷ []) (0xb ∷ [])) (0 ∷ 3 ∷ []) ≡ oneRound 2
+unfolding transcriptOf layersThenLast layerIn sectionsBytes sectionBytes entriesBytes littleEndianBytes
+written-g = refl
+
+written-h : transcriptOf (small 4 (7 ∷ 4 ∷ 1 ∷ 3 ∷ []) (0xb ∷ [])) (0 ∷ 3 ∷ []) ≡ oneRound 3
+unfolding transcriptOf layersThenLast layerIn sectionsBytes sectionBytes entriesBytes littleEndianBytes
+written-h = refl
+
+written-k : transcriptOf (twoRounds (2 ∷ 4 ∷ 0x16 ∷ 0x10 ∷ []) (1 ∷ [])) (5 ∷ []) ≡ twoRoundsBytes
+unfolding transcriptOf layersThenLast layerIn storedLayer layerStart dimension
+    sectionsBytes sectionBytes entriesBytes littleEndianBytes
+written-k = refl
+
+-- ---- what is read
 
 carries : (last : ℕ) → Carries (oneRound last)
 unfolding littleEndian countAt entryAt entriesAt sectionStart dimension lastCount
@@ -82,6 +101,9 @@ verdict-is last run e =
 transcript-cases : TranscriptCases
 transcript-cases =
     record {
+      written-g = written-g;
+      written-h = written-h;
+      written-k = written-k;
       size = refl;
       g =
           subst (λ (v : Verdict). Tells v 0 Absent Absent 4)
