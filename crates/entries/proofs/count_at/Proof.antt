@@ -14,12 +14,6 @@ add-byte-at c = search needs
 byte-at-requires-2 : tie.Need-byte-at-requires-2
 byte-at-requires-2 c κs = search needs
 
-mul-low : tie.Need-mul-low
-mul-low c = omega (arith, c .byte-at2 .ensures .1)
-
-add-low : tie.Need-add-low
-add-low c = omega (arith, c .byte-at2 .ensures .1, c .before .byte-at .ensures .1)
-
 add-byte-at-2 : tie.Need-add-byte-at-2
 add-byte-at-2 c = search needs
 
@@ -32,45 +26,26 @@ add-byte-at-3 c = search needs
 byte-at-requires-4 : tie.Need-byte-at-requires-4
 byte-at-requires-4 c κs = search needs
 
-mul-high : tie.Need-mul-high
-mul-high c = omega (arith, c .byte-at4 .ensures .1)
-
-add-high : tie.Need-add-high
-add-high c = omega (arith, c .byte-at4 .ensures .1, c .before .byte-at3 .ensures .1)
-
-mul-result : tie.Need-mul-result
-mul-result c = omega (arith, c .byte-at4 .ensures .1, c .before .byte-at3 .ensures .1)
-
-add-result : tie.Need-add-result
-add-result c =
-    let low = c .before .before in
-    omega (
-      arith,
-      low .before .byte-at .ensures .1,
-      low .byte-at2 .ensures .1,
-      c .before .byte-at3 .ensures .1,
-      c .byte-at4 .ensures .1,
-    )
+count-of-bytes-requires : tie.Need-count-of-bytes-requires
+count-of-bytes-requires c κs = search needs
 
 returns : tie.Need-returns
 returns c =
-    let low = c .before .before in
-    let a = low .before .before .before .args in (
+    let fourth = c .before in
+    let third = fourth .before in
+    let second = third .before in
+    let first = second .before in
+    let a = first .before .before .args in (
       omega (
         arith,
         count-bytes (a .bytes .now) (a .at),
-        low .before .byte-at .ensures .0,
-        low .byte-at2 .ensures .0,
-        c .before .byte-at3 .ensures .0,
-        c .byte-at4 .ensures .0,
+        first .byte-at .ensures,
+        second .byte-at2 .ensures,
+        third .byte-at3 .ensures,
+        fourth .byte-at4 .ensures,
+        c .count-of-bytes .ensures .0,
       ),
-      omega (
-        arith,
-        low .before .byte-at .ensures .1,
-        low .byte-at2 .ensures .1,
-        c .before .byte-at3 .ensures .1,
-        c .byte-at4 .ensures .1,
-      ),
+      c .count-of-bytes .ensures .1,
     )
 
 pub count-at-spec : {M : Type 1} → statement M
@@ -80,14 +55,9 @@ count-at-spec =
     byte-at-requires
     add-byte-at
     byte-at-requires-2
-    mul-low
-    add-low
     add-byte-at-2
     byte-at-requires-3
     add-byte-at-3
     byte-at-requires-4
-    mul-high
-    add-high
-    mul-result
-    add-result
+    count-of-bytes-requires
     returns)
