@@ -4,6 +4,7 @@ mod inputs;
 mod judge;
 mod layers;
 mod prover;
+mod transcript;
 
 use crate::beside::{work, Operation};
 use crate::clock::{least, Work};
@@ -17,6 +18,7 @@ pub fn report() {
     if let Some(largest) = growing.last() {
         prover::report(largest);
         judge::report(largest);
+        transcript::report(largest);
     }
     report_growth(&growing);
 }
