@@ -2,7 +2,7 @@ pub mod Numerals
 pub mod Sections
 pub mod Checks
 pub mod Carried
-mod Refusals
+pub mod Refusals
 mod Positions
 mod Fronts
 pub mod Theorems

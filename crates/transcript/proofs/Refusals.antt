@@ -20,24 +20,24 @@ use Rattle.transcript.specs.Checks.{sectionOutcome, dueOutcome, paramete
 use Rattle.transcript.specs.Checks.{challengesSection, queriesSection, listsOutcome, frontOutcome, layersFrom}
 use Rattle.transcript.specs.Checks.{endOutcome, layersOutcome, transcriptOutcome}
 
--- what holds of 0 to 10 and of the bases' number holds of a transcript's
-module _ (P : ℕ → Type 0) (small : (n : ℕ) → n ≤ 10 → P n) (bytes : List ℕ) where
-  section-number : (s : ℕ) (test : Bool) (cause : Cause) → P (numberOf cause)
+-- what holds of 0 to 3, and of the numbers that the values in sections 1, 2 and 4 get, holds of a transcript's
+module _ (P : ℕ → Type 0) (low : (n : ℕ) → n ≤ 3 → P n) (bytes : List ℕ) where
+  pub section-number : (s : ℕ) (test : Bool) (cause : Cause) → P (numberOf cause)
       → P (numberOfOutcome (sectionOutcome bytes s test cause))
   section-number s test cause p =
       number-unless P (leb (sectionStart bytes s + 4) (length bytes)) (BytesEnd s)
       (refusedUnless test cause (refusedUnless (leb (sectionStart bytes (suc s)) (length bytes)) (BytesEnd s) Done))
-      (small 1 (omega arith))
+      (low 1 (omega arith))
       (number-unless P test cause (refusedUnless (leb (sectionStart bytes (suc s)) (length bytes)) (BytesEnd s) Done) p
-      (number-unless P (leb (sectionStart bytes (suc s)) (length bytes)) (BytesEnd s) Done (small 1 (omega arith))
-      (small 0 (omega arith))))
+      (number-unless P (leb (sectionStart bytes (suc s)) (length bytes)) (BytesEnd s) Done (low 1 (omega arith))
+      (low 0 (omega arith))))
 
   due-number : (s due : ℕ) → P (numberOfOutcome (dueOutcome bytes s due))
-  due-number s due = section-number s (eqb (sectionCount bytes s) due) (CountDiffers s) (small 2 (omega arith))
+  due-number s due = section-number s (eqb (sectionCount bytes s) due) (CountDiffers s) (low 2 (omega arith))
 
   layers-number : (i left : ℕ) → P (numberOfOutcome (layersFrom bytes i left))
   unfolding layersFrom
-  layers-number i zero = small 0 (omega arith)
+  layers-number i zero = low 0 (omega arith)
   layers-number i (suc left) =
       let size = 2 ^ dimension (transcriptK bytes) (transcriptSteps bytes) i in
       number-then P (dueOutcome bytes (layerSection i) size) (layersFrom bytes (suc i) left)
@@ -49,30 +49,39 @@ module _ (P : ℕ → Type 0) (small : (n : ℕ) → n ≤ 10 → P n) (bytes : 
       let ends = eqb (sectionStart bytes (suc (layerSection (transcriptRounds bytes)))) (length bytes) in
       number-then P (dueOutcome bytes (layerSection (transcriptRounds bytes)) last-due)
       (refusedUnless ends TrailingBytes Done) (due-number (layerSection (transcriptRounds bytes)) last-due)
-      (number-unless P ends TrailingBytes Done (small 3 (omega arith)) (small 0 (omega arith)))
+      (number-unless P ends TrailingBytes Done (low 3 (omega arith)) (low 0 (omega arith)))
 
-  queries-number : P (numberOfOutcome (queriesSection bytes))
-  queries-number =
-      let counted = leb 1 (sectionCount bytes 4) && leb (sectionCount bytes 4) 256 in
-      let first = stepAt (transcriptSteps bytes) 0 in
-      number-then P (sectionOutcome bytes 4 counted QueryCountOutOfRange)
-      (indicesOutcome (transcriptK bytes) first (queriesIn bytes))
-      (section-number 4 counted QueryCountOutOfRange (small 9 (omega arith)))
-      (indices-number P (small 0 (omega arith)) (small 10 (omega arith)) (transcriptK bytes) first (queriesIn bytes))
-
-  pub transcript-number : P (numberOfOutcome (basesOutcome (transcriptSteps bytes) (runIn bytes .basis)))
+  pub transcript-number-from
+      : P (numberOfOutcome (parametersOutcome (transcriptK bytes) (transcriptRate bytes) (transcriptStep bytes)))
+      → P (numberOfOutcome (basesOutcome (transcriptSteps bytes) (runIn bytes .basis)))
+      → P (numberOfOutcome (queriesSection bytes))
       → P (numberOfOutcome (transcriptOutcome bytes))
-  transcript-number bases =
+  transcript-number-from parameters bases queries =
       number-then P (frontOutcome bytes) (layersOutcome bytes)
       (number-then P (parametersSection bytes) (listsOutcome bytes)
       (number-then P (dueOutcome bytes 1 3)
       (parametersOutcome (transcriptK bytes) (transcriptRate bytes) (transcriptStep bytes)) (due-number 1 3)
-      (parameters-number P (small 0 (omega arith)) (λ n l u. small n (omega arith)) (transcriptK bytes)
-      (transcriptRate bytes) (transcriptStep bytes)))
+      parameters)
       (number-then P (cosetSection bytes) (andThen (challengesSection bytes) (queriesSection bytes))
       (number-then P (dueOutcome bytes 2 (transcriptK bytes + 1))
       (basesOutcome (transcriptSteps bytes) (runIn bytes .basis)) (due-number 2 (transcriptK bytes + 1)) bases)
       (number-then P (challengesSection bytes) (queriesSection bytes)
-      (due-number 3 (transcriptRounds bytes)) queries-number)))
+      (due-number 3 (transcriptRounds bytes)) queries)))
       (number-then P (layersFrom bytes 0 (transcriptRounds bytes)) (endOutcome bytes)
       (layers-number 0 (transcriptRounds bytes)) end-number)
+
+-- what holds of 0 to 10 and of the bases' number holds of a transcript's
+pub transcript-number : (P : ℕ → Type 0) → ((n : ℕ) → n ≤ 10 → P n) → (bytes : List ℕ)
+    → P (numberOfOutcome (basesOutcome (transcriptSteps bytes) (runIn bytes .basis)))
+    → P (numberOfOutcome (transcriptOutcome bytes))
+transcript-number P small bytes bases =
+    let counted = leb 1 (sectionCount bytes 4) && leb (sectionCount bytes 4) 256 in
+    let first = stepAt (transcriptSteps bytes) 0 in
+    transcript-number-from P (λ n h. small n (omega arith)) bytes
+    (parameters-number P (small 0 (omega arith)) (λ n l u. small n (omega arith)) (transcriptK bytes)
+    (transcriptRate bytes) (transcriptStep bytes))
+    bases
+    (number-then P (sectionOutcome bytes 4 counted QueryCountOutOfRange)
+    (indicesOutcome (transcriptK bytes) first (queriesIn bytes))
+    (section-number P (λ n h. small n (omega arith)) bytes 4 counted QueryCountOutOfRange (small 9 (omega arith)))
+    (indices-number P (small 0 (omega arith)) (small 10 (omega arith)) (transcriptK bytes) first (queriesIn bytes)))

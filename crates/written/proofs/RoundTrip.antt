@@ -1,5 +1,4 @@
--- A written transcript carries the run and the queries that it was written from, and no other bytes carry them.
--- Assumes nothing.
+-- A written transcript carries the run and the queries that it was written from. Assumes nothing.
 use mathlib.Core.Path.{_≡_, refl, sym, ap, ap₂, _∙_, subst}
 use mathlib.Core.List.{List, [], _∷_, _++_}
 use Prim.Native.Nat.{ℕ, zero, suc, _+_, _-_, _^_, _≤_, _<_}
@@ -7,7 +6,7 @@ use native.Mathlib.Nat.{add-zero, add-suc, suc-add, le-of-eq, le-trans}
 use native.Mathlib.Omega.{arith}
 use lib.ListN.{length, getD, take, drop}
 use lib.Pow.{pow-mono}
-use lib.Seq.{take-add, take-all, take-length}
+use lib.Seq.{take-add, take-all}
 use Rattle.gf64.specs.Field.{IsElement}
 use Rattle.poly.specs.Polynomial.{All}
 use Rattle.poly.proofs.Entries.{all-take, all-drop}
@@ -23,76 +22,13 @@ use Rattle.transcript.specs.Judge.{transcriptVerdict, inputLimit, inputVerdict}
 use Rattle.transcript.specs.Theorems.{Carries}
 use Rattle.transcript.proofs.Numerals.{length-entries}
 use Rattle.transcript.proofs.Sections.{first-start}
-use Rattle.transcript.proofs.Carried.{layer-is}
 use Rattle.transcript.proofs.Theorems.{judging-bytes}
-use Rattle.written.specs.Bytes.{sectionsBytes}
 use Rattle.written.specs.Transcript.{layersThenLast, listsOf, transcriptOf}
-use Rattle.written.specs.Theorems.{Writable, WrittenSections, WrittenTranscripts}
-use Rattle.written.proofs.Bytes.{length-number, length-entriesBytes, length-sectionBytes, section-bytes}
-use Rattle.written.proofs.Bytes.{same-count, same-entries, same-section}
+use Rattle.written.specs.Theorems.{FitsSections, WrittenTranscripts}
+use Rattle.written.proofs.Only.{only, unique}
+use Rattle.written.proofs.Others.{others-refused}
 use Rattle.written.proofs.Lengths.{layer-length, transcript-size}
-use Rattle.written.proofs.Sections.{Holds, AllRead, sections-bytes, sections-read, listsFrom, sections-written}
-
--- ---- in no other bytes
-
-three : (l : List ℕ) → length l ≡ 3 → getD l 0 0 ∷ getD l 1 0 ∷ getD l 2 0 ∷ [] ≡ l
-three [] e = absurd (omega arith)
-three (x ∷ []) e = absurd (omega arith)
-three (x ∷ y ∷ []) e = absurd (omega arith)
-three (x ∷ y ∷ z ∷ []) e = refl
-three (x ∷ y ∷ z ∷ v ∷ l) e = absurd (omega arith)
-
-one-and-more : (l : List ℕ) → 1 ≤ length l → getD l 0 0 ∷ drop 1 l ≡ l
-one-and-more [] h = absurd (omega arith)
-one-and-more (x ∷ l) h = refl
-
-module _ (bytes : List ℕ) (b : AreBytes bytes) (c : Carries bytes) where
-  abbrev read : Run
-  read = runIn bytes
-
-  abbrev r : ℕ
-  r = transcriptRounds bytes
-
-  counted : (s : ℕ) → length (sectionEntries bytes s) ≡ sectionCount bytes s
-  counted s = length-entries bytes (sectionStart bytes s + 4) (sectionCount bytes s)
-
-  layers : (i left : ℕ) → i + left ≡ r → layersThenLast read i left ≡ listsFrom bytes (layerSection i) (suc left)
-  unfolding listsFrom layersThenLast
-  layers i zero e = ap (λ (n : ℕ). sectionEntries bytes (layerSection n) ∷ []) (sym e ∙ add-zero i)
-  layers i (suc left) e =
-      ap₂ (λ (x : List ℕ) (l : List (List ℕ)). x ∷ l) (layer-is bytes c i (omega arith))
-      (layers (suc i) left (omega arith) ∙ ap (λ (s : ℕ). listsFrom bytes s (suc left)) (add-suc 5 i))
-
-  -- 5 + r sections
-  abbrev sections : ℕ
-  sections = suc (suc (suc (suc (suc r))))
-
-  lists : listsOf read (queriesIn bytes) ≡ listsFrom bytes 1 sections
-  unfolding listsFrom
-  lists =
-      ap₂ (λ (x : List ℕ) (l : List (List ℕ)). x ∷ l)
-      (three (sectionEntries bytes 1) (counted 1 ∙ c .parameters-count))
-      (ap₂ (λ (x : List ℕ) (l : List (List ℕ)). x ∷ sectionEntries bytes 3 ∷ sectionEntries bytes 4 ∷ l)
-      (one-and-more (sectionEntries bytes 2) (omega (arith, counted 2, c .coset-count))) (layers 0 r (omega arith)))
-
-  only : transcriptOf read (queriesIn bytes) ≡ bytes
-  unfolding transcriptOf
-  only =
-      ap sectionsBytes lists
-      ∙ ap (λ (n : ℕ). take n bytes ++ sectionsBytes (listsFrom bytes 1 sections)) (sym (first-start bytes))
-      ∙ sections-written bytes b 1 sections (omega arith) (le-of-eq end)
-      ∙ ap (λ (n : ℕ). take n bytes) end ∙ take-length bytes
-    where
-      end : sectionStart bytes (1 + sections) ≡ length bytes
-      end =
-          let same : 1 + sections ≡ suc (layerSection r) = omega arith in
-          ap (sectionStart bytes) same ∙ c .ends
-
-unique : (one other : List ℕ) → AreBytes one → AreBytes other → Carries one → Carries other → runIn one ≡ runIn other
-    → queriesIn one ≡ queriesIn other → one ≡ other
-unique one other bo bt co ct e q = sym (only one bo co) ∙ ap₂ transcriptOf e q ∙ only other bt ct
-
--- ---- read again
+use Rattle.written.proofs.Sections.{Holds, AllRead, sections-bytes, sections-read}
 
 -- the layers of a store, joined, are the store's first entries
 joined-stored : (k : ℕ) (steps store : List ℕ) (n : ℕ)
@@ -162,7 +98,7 @@ module _ (run : Run) where
   last-of i zero = refl
   last-of i (suc left) = last-of (suc i) left
 
-module _ (run : Run) (queries : List ℕ) (w : Writable run queries) where
+module _ (run : Run) (queries : List ℕ) (w : FitsSections run queries) where
   abbrev bytes : List ℕ
   bytes = transcriptOf run queries
 
@@ -189,11 +125,11 @@ module _ (run : Run) (queries : List ℕ) (w : Writable run queries) where
   layer-holds : (i : ℕ) → i < n → Holds (layerIn run i)
   unfolding layerIn storedLayer
   layer-holds zero h =
-      (fits-count (length (run .word)) (run .k) (w .fits .word) (omega arith), w .elements .word)
+      (fits-count (length (run .word)) (run .k) (w .lengths .word) (omega arith), w .elements .word)
   layer-holds (suc i) h =
       let m : ℕ = dimension (run .k) steps (suc i) in
       let from : ℕ = layerStart (run .k) steps (suc i) in (
-        fits-count (length (layerIn run (suc i))) m (layer-length run (w .parameters) (w .fits) (suc i) h)
+        fits-count (length (layerIn run (suc i))) m (layer-length run (w .parameters) (w .lengths) (suc i) h)
             (dimension-most (run .k) steps (suc i)),
         all-take IsElement (2 ^ m) (drop from (run .store))
             (all-drop IsElement from (run .store) (w .elements .store)),
@@ -203,7 +139,7 @@ module _ (run : Run) (queries : List ℕ) (w : Writable run queries) where
   unfolding lastCount
   last-holds =
       let m : ℕ = dimension (run .k) steps n in (
-        fits-count (length (run .last)) (m - run .rate) (w .fits .last)
+        fits-count (length (run .last)) (m - run .rate) (w .lengths .last)
             (omega (arith, dimension-most (run .k) steps n)),
         w .elements .last,
       )
@@ -222,10 +158,10 @@ module _ (run : Run) (queries : List ℕ) (w : Writable run queries) where
       (omega arith, (k-small, (rate-small, (step-small, record {}))))
 
   coset-holds : Holds (run .offset ∷ run .basis)
-  coset-holds = (omega (arith, w .fits .basis, w .parameters .k-most), (w .elements .offset, w .elements .basis))
+  coset-holds = (omega (arith, w .lengths .basis, w .parameters .k-most), (w .elements .offset, w .elements .basis))
 
   challenges-hold : Holds (run .challenges)
-  challenges-hold = (omega (arith, w .fits .challenges, few), w .elements .challenges)
+  challenges-hold = (omega (arith, w .lengths .challenges, few), w .elements .challenges)
 
   queries-hold : Holds queries
   queries-hold = (w .queries-count, w .queries-elements)
@@ -283,7 +219,7 @@ module _ (run : Run) (queries : List ℕ) (w : Writable run queries) where
       joined-same (λ i. sectionEntries bytes (layerSection i)) (storedLayer (run .k) steps (run .store)) (n - 1) each
       ∙ joined-stored (run .k) steps (run .store) (n - 1)
       ∙ ap (λ (m : ℕ). take (layerStart (run .k) steps m) (run .store)) whole
-      ∙ take-all (layerStart (run .k) steps n) (run .store) (le-of-eq (w .fits .store))
+      ∙ take-all (layerStart (run .k) steps n) (run .store) (le-of-eq (w .lengths .store))
     where
       whole : suc (n - 1) ≡ n
       whole = omega (arith, some)
@@ -309,12 +245,12 @@ module _ (run : Run) (queries : List ℕ) (w : Writable run queries) where
       record {
         parameters-count = count-again 1 parameters-again;
         parameters = subst (λ (x : Run). ValidParameters (x .k) (x .rate) (x .step)) (sym run-again) (w .parameters);
-        coset-count = count-again 2 coset-again ∙ omega (arith, w .fits .basis, parameter 0);
-        challenges-count = count-again 3 challenges-again ∙ w .fits .challenges ∙ sym rounds-again;
+        coset-count = count-again 2 coset-again ∙ omega (arith, w .lengths .basis, parameter 0);
+        challenges-count = count-again 3 challenges-again ∙ w .lengths .challenges ∙ sym rounds-again;
         layer-counts = layer-counts;
         last-count =
             ap (λ (m : ℕ). sectionCount bytes (layerSection m)) rounds-again ∙ count-again (layerSection n) last-again
-            ∙ w .fits .last ∙ sym (ap (λ (x : Run). lastCount (x .k) (x .rate) (stepsIn x)) run-again);
+            ∙ w .lengths .last ∙ sym (ap (λ (x : Run). lastCount (x .k) (x .rate) (stepsIn x)) run-again);
         ends = ends;
       }
     where
@@ -322,7 +258,7 @@ module _ (run : Run) (queries : List ℕ) (w : Writable run queries) where
           → sectionCount bytes (layerSection i) ≡ 2 ^ dimension (transcriptK bytes) (transcriptSteps bytes) i
       layer-counts i h =
           let inside : i < n = subst (λ (m : ℕ). i < m) rounds-again h in
-          count-again (layerSection i) (layer-again i inside) ∙ layer-length run (w .parameters) (w .fits) i inside
+          count-again (layerSection i) (layer-again i inside) ∙ layer-length run (w .parameters) (w .lengths) i inside
           ∙ sym (ap (λ (x : Run). 2 ^ dimension (x .k) (stepsIn x) i) run-again)
 
       ends : sectionStart bytes (suc (layerSection (transcriptRounds bytes))) ≡ length bytes
@@ -339,18 +275,6 @@ module _ (run : Run) (queries : List ℕ) (w : Writable run queries) where
 
 -- ---- the theorems
 
-pub written-sections : WrittenSections
-written-sections =
-    record {
-      are-bytes = section-bytes;
-      count-length = length-number 4;
-      entries-length = length-entriesBytes;
-      section-length = length-sectionBytes;
-      same-count = same-count;
-      same-entries = same-entries;
-      same-section = same-section;
-    }
-
 all-bytes : (run : Run) (queries : List ℕ) → AreBytes (transcriptOf run queries)
 unfolding transcriptOf
 all-bytes run queries = sections-bytes (listsOf run queries)
@@ -365,6 +289,7 @@ written-transcripts =
       queries-again = queries-again;
       only = only;
       unique = unique;
+      others-refused = others-refused;
       judged = judged;
       judged-by-program = judged-by-program;
     }

@@ -6,7 +6,7 @@ use Prim.Native.Nat.{ℕ, zero, suc, _+_, _*_, _^_, _≤_, _<_}
 use native.Mathlib.Nat.{add-zero, add-suc, suc-add, le-trans}
 use native.Mathlib.Omega.{arith}
 use lib.ListN.{length, getD, take, drop, length-append, length-drop}
-use lib.Seq.{take-add, drop-drop, length-take-le}
+use lib.Seq.{take-add, drop-at, drop-drop, length-take-le}
 use Rattle.gf64.specs.Field.{IsElement}
 use Rattle.poly.specs.Polynomial.{All}
 use Rattle.poly.proofs.Entries.{all-take, all-drop, all-append}
@@ -15,8 +15,10 @@ use Rattle.transcript.specs.Sections.{sectionStart, sectionCount, sectionEntrie
 use Rattle.transcript.proofs.Numerals.{length-entries}
 use Rattle.transcript.proofs.Sections.{start-next, start-later}
 use Rattle.written.specs.Bytes.{littleEndianBytes, countBytes, entriesBytes, sectionBytes, sectionsBytes}
+use Rattle.written.specs.Theorems.{WrittenSections}
 use Rattle.written.proofs.Bytes.{length-number, number-written, count-behind, entries-behind}
-use Rattle.written.proofs.Bytes.{length-sectionBytes, section-bytes}
+use Rattle.written.proofs.Bytes.{length-entriesBytes, length-sectionBytes, section-bytes}
+use Rattle.written.proofs.Bytes.{same-count, same-entries, same-section}
 
 -- a list that a section can hold: few enough entries for its count, all elements
 abbrev pub Holds : (entries : List ℕ) → Type 0
@@ -53,6 +55,36 @@ module _ (before entries after : List ℕ) (h : Holds entries) where
       (count-then-entries ∙ sym (append-assoc before count (entriesBytes entries ++ after)))
       ∙ entries-behind (before ++ count) entries after (length before + 4)
       (omega (arith, length-append before count, length-number 4 (length entries))) (h .1)
+
+-- a section says itself where it ends
+module _ (one other after after′ : List ℕ) (h : Holds one) (g : Holds other)
+    (e : sectionBytes one ++ after ≡ sectionBytes other ++ after′) where
+  same-length : length one ≡ length other
+  same-length = sym (count-there [] one after h) ∙ ap (λ (l : List ℕ). countAt l 0) e ∙ count-there [] other after′ g
+
+  same-first : (one ≡ other) × (after ≡ after′)
+  same-first =
+      let size : length (sectionBytes one) ≡ length (sectionBytes other) =
+      omega (arith, length-sectionBytes one, length-sectionBytes other, same-length) in (
+        sym (entries-there [] one after h)
+            ∙ ap₂ (λ (l : List ℕ) (n : ℕ). entriesAt l 4 n) e same-length ∙ entries-there [] other after′ g,
+        sym (drop-at (sectionBytes one) after (length (sectionBytes one)) refl)
+            ∙ ap₂ (λ (l : List ℕ) (n : ℕ). drop n l) e size
+            ∙ drop-at (sectionBytes other) after′ (length (sectionBytes other)) refl,
+      )
+
+pub written-sections : WrittenSections
+written-sections =
+    record {
+      are-bytes = section-bytes;
+      count-length = length-number 4;
+      entries-length = length-entriesBytes;
+      section-length = length-sectionBytes;
+      same-count = same-count;
+      same-entries = same-entries;
+      same-section = same-section;
+      same-first = λ one other after after′ h g n m e. same-first one other after after′ (n, h) (m, g) e;
+    }
 
 -- section s, where it begins behind `before`
 module _ (bytes before entries after : List ℕ) (s : ℕ) (least : 1 ≤ s) (begins : sectionStart bytes s ≡ length before)

@@ -1,6 +1,6 @@
 -- The writer's refusals. Assumes nothing.
 use mathlib.Core.Path.{_≡_, refl, sym, ap, _∙_}
-use mathlib.Core.Logic.{_≢_, inl, inr}
+use mathlib.Core.Logic.{_≢_, _↔_, inl, inr}
 use mathlib.Core.List.{List}
 use Prim.Native.Nat.{ℕ, _≤_}
 use native.Mathlib.Omega.{arith}
@@ -13,20 +13,20 @@ use Rattle.refusal.specs.declared.Cause.{Cause}
 use Rattle.refusal.specs.declared.Cause.the-variants.{WrongLength}
 use Rattle.refusal.specs.declared.Outcome.{Outcome}
 use Rattle.refusal.specs.declared.Outcome.the-variants.{Done, Refused}
-use Rattle.refusal.specs.declared.Position.the-variants.{At}
 use Rattle.refusal.specs.Checks.{andThen, afterwards}
-use Rattle.refusal.specs.Numbers.{numberOfOutcome, placeOfOutcome}
-use Rattle.refusal.proofs.Checks.{passed-by, refused-by, then-passed, then-done, number-unless, number-then}
+use Rattle.refusal.specs.Numbers.{numberOfOutcome}
+use Rattle.refusal.proofs.Checks.{equal-of-test, passed-by, refused-by, unless-done, then-passed, then-done}
+use Rattle.refusal.proofs.Checks.{number-unless, number-then}
 use Rattle.fri.specs.Run.{Run, stepsIn, stepIn}
 use Rattle.fri.specs.Checks.{parametersOutcome, lengthsOutcome, basesOutcome, queriesOutcome}
 use Rattle.fri.specs.Judge.{checksOutcome}
-use Rattle.fri.specs.Demand.{ValidParameters, Elements}
+use Rattle.fri.specs.Demand.{ValidParameters}
 use Rattle.fri.specs.Theorems.{Fit}
-use Rattle.fri.proofs.Checks.{parameters-pass, parameters-valid, lengths-pass, lengths-fit, queries-valid}
+use Rattle.fri.proofs.Checks.{parameters-pass, parameters-valid, lengths-pass, lengths-fit}
 use Rattle.fri.proofs.Checks.{bases-number, run-number, queries-number}
 use Rattle.written.specs.Transcript.{transcriptOf, transcriptLength}
 use Rattle.written.specs.Writer.{sizeOutcome, writeOutcome, bytesAfter}
-use Rattle.written.specs.Theorems.{Writable, WriterNumber, WriterRefusals}
+use Rattle.written.specs.Theorems.{WriterNumber, WriterRefusals}
 use Rattle.written.proofs.Lengths.{transcript-size}
 
 -- ---- three groups of checks
@@ -66,8 +66,8 @@ module _ (run : Run) (queries : List ℕ) where
   abbrev sized : ℕ → Outcome
   sized size = andThen (sizeOutcome run queries size) (andThen bases of-queries)
 
-  as-lists : writeOutcome run queries needed ≡ checksOutcome run queries
-  as-lists =
+  as-lists-needed : writeOutcome run queries needed ≡ checksOutcome run queries
+  as-lists-needed =
       ap (λ (o : Outcome). andThen parameters (andThen (lengthsOutcome run) (andThen o (andThen bases of-queries))))
       (sym (passed-by (eqb needed needed) (WrongLength 8) Done (eq-eqb needed needed refl)))
       ∙ ap (andThen parameters) (then-then (lengthsOutcome run) bases of-queries)
@@ -77,10 +77,40 @@ module _ (run : Run) (queries : List ℕ) where
       → writeOutcome run queries size ≡ Refused cause
   earlier size cause e = cut parameters (lengthsOutcome run) (sized size) cause e
 
-  list8-refused : (size : ℕ) → ValidParameters (run .k) (run .rate) (run .step) → Fit run
+  abbrev due : ℕ
+  due = transcriptLength (run .k) (run .rate) (stepsIn run) (length queries)
+
+  as-lists : writeOutcome run queries due ≡ checksOutcome run queries
+  as-lists = by (andThen parameters (lengthsOutcome run)) refl
+    where
+      by : (o : Outcome) → andThen parameters (lengthsOutcome run) ≡ o
+          → writeOutcome run queries due ≡ checksOutcome run queries
+      by (Refused cause) e = earlier due cause e ∙ sym (earlier needed cause e) ∙ as-lists-needed
+      by Done e =
+          let both = then-done parameters (lengthsOutcome run) e in
+          let valid = parameters-valid (run .k) (run .rate) (run .step) (both .0) in
+          ap (writeOutcome run queries) (sym (transcript-size run valid (lengths-fit run (both .1)) queries))
+          ∙ as-lists-needed
+
+  sized-done : (size : ℕ) → writeOutcome run queries size ≡ Done → size ≡ due
+  sized-done size e =
+      let ranges = then-done parameters (andThen (lengthsOutcome run) (sized size)) e in
+      let lists = then-done (lengthsOutcome run) (sized size) (ranges .1) in
+      let fits = then-done (sizeOutcome run queries size) (andThen bases of-queries) (lists .1) in
+      let valid = parameters-valid (run .k) (run .rate) (run .step) (ranges .0) in
+      equal-of-test size needed (unless-done (eqb size needed) (WrongLength 8) Done (fits .0) .0)
+      ∙ transcript-size run valid (lengths-fit run (lists .0)) queries
+
+  done : (size : ℕ) → (writeOutcome run queries size ≡ Done) ↔ ((checksOutcome run queries ≡ Done) × (size ≡ due))
+  done size = (
+    λ e. let same = sized-done size e in (sym as-lists ∙ ap (writeOutcome run queries) (sym same) ∙ e, same),
+    λ both. ap (writeOutcome run queries) (both .1) ∙ as-lists ∙ both .0,
+  )
+
+  list8 : (size : ℕ) → ValidParameters (run .k) (run .rate) (run .step) → Fit run
       → size ≢ transcriptLength (run .k) (run .rate) (stepsIn run) (length queries)
       → writeOutcome run queries size ≡ Refused (WrongLength 8)
-  list8-refused size v f n =
+  list8 size v f n =
       sym (then-passed parameters (andThen (lengthsOutcome run) (sized size))
       (parameters-pass (run .k) (run .rate) (run .step) v))
       ∙ sym (then-passed (lengthsOutcome run) (sized size) (lengths-pass run f))
@@ -88,37 +118,9 @@ module _ (run : Run) (queries : List ℕ) where
       (sym (refused-by (eqb size needed) (WrongLength 8) Done
       (ne-eqb size needed (λ e. n (e ∙ transcript-size run v f queries)))))
 
-  list8 : (size : ℕ) → ValidParameters (run .k) (run .rate) (run .step) → Fit run
-      → size ≢ transcriptLength (run .k) (run .rate) (stepsIn run) (length queries)
-      → (numberOfOutcome (writeOutcome run queries size) ≡ 13)
-      × (placeOfOutcome (writeOutcome run queries size) ≡ At 8)
-  list8 size v f n =
-      (ap numberOfOutcome (list8-refused size v f n), ap placeOfOutcome (list8-refused size v f n))
-
   left : (held : List ℕ) (cause : Cause) → writeOutcome run queries (length held) ≡ Refused cause
       → bytesAfter run queries held ≡ held
   left held cause e = ap (λ (o : Outcome). afterwards o (transcriptOf run queries) held) e
-
-  writable : (size : ℕ) → Elements run → All IsElement queries → writeOutcome run queries size ≡ Done
-      → Writable run queries
-  writable size elements asked e =
-      let one = then-done parameters (andThen (lengthsOutcome run) (sized size)) e in
-      let two = then-done (lengthsOutcome run) (sized size) (one .1) in
-      let three = then-done (sizeOutcome run queries size) (andThen bases of-queries) (two .1) in
-      let four = then-done bases of-queries (three .1) in
-      let few = queries-valid (run .k) (stepIn run 0) queries (four .1) .most in
-      record {
-        parameters = parameters-valid (run .k) (run .rate) (run .step) (one .0);
-        fits = lengths-fit run (two .0);
-        elements = elements;
-        queries-elements = asked;
-        queries-count = omega (arith, few);
-      }
-
-  written : (held : List ℕ) → Elements run → All IsElement queries → writeOutcome run queries (length held) ≡ Done
-      → Writable run queries × (bytesAfter run queries held ≡ transcriptOf run queries)
-  written held elements asked e =
-      (writable (length held) elements asked e, ap (λ (o : Outcome). afterwards o (transcriptOf run queries) held) e)
 
   numbers : (size : ℕ) → All IsElement (run .basis) → WriterNumber (numberOfOutcome (writeOutcome run queries size))
   numbers size h =
@@ -144,9 +146,9 @@ pub writer-refusals : WriterRefusals
 writer-refusals =
     record {
       as-lists = as-lists;
+      done = done;
       earlier = earlier;
       list8 = list8;
       left = left;
-      written = written;
       numbers = numbers;
     }

@@ -4,7 +4,7 @@ use mathlib.Core.List.{List, [], _∷_, _++_}
 use Prim.Native.Nat.{ℕ, zero, suc, _/_, _%_}
 use lib.ListN.{length}
 
--- a number in `width` bytes, the lowest first
+-- a number, modulo 256^width, in `width` bytes, the lowest first
 unfoldable pub littleEndianBytes : (width n : ℕ) → List ℕ
 littleEndianBytes zero n = []
 littleEndianBytes (suc width) n = n % 256 ∷ littleEndianBytes width (n / 256)

@@ -1,16 +1,17 @@
--- What is proved of written transcripts, as statements; RoundTrip, Writer and Honest of proofs/ have the values.
+-- What is proved of written transcripts, as statements; Sections, RoundTrip, Writer and Written of proofs/ have the
+-- values.
 use mathlib.Core.Path.{_≡_}
-use mathlib.Core.Logic.{_≢_, _⊎_}
-use mathlib.Core.List.{List}
+use mathlib.Core.Logic.{_≢_, _⊎_, _↔_}
+use mathlib.Core.List.{List, _++_}
 use Prim.Native.Nat.{ℕ, _+_, _*_, _^_, _≤_, _<_}
 use lib.ListN.{length}
 use Rattle.gf64.specs.Field.{IsElement}
 use Rattle.poly.specs.Polynomial.{All}
 use Rattle.refusal.specs.declared.Cause.{Cause}
+use Rattle.refusal.specs.declared.Cause.the-variants.{WrongLength}
 use Rattle.refusal.specs.declared.Outcome.the-variants.{Done, Refused}
-use Rattle.refusal.specs.declared.Position.the-variants.{At}
 use Rattle.refusal.specs.Checks.{andThen}
-use Rattle.refusal.specs.Numbers.{numberOfOutcome, placeOfOutcome}
+use Rattle.refusal.specs.Numbers.{numberOf, numberOfOutcome}
 use Rattle.fri.specs.declared.Answer.the-variants as answers
 use Rattle.fri.specs.Run.{Run, stepsIn, roundsIn}
 use Rattle.fri.specs.Layers.{honest}
@@ -20,6 +21,7 @@ use Rattle.fri.specs.Demand.{ValidParameters, ValidCoset, ProverInput, LowDegre
 use Rattle.fri.specs.Theorems.{Fit}
 use Rattle.transcript.specs.Numerals.{AreBytes}
 use Rattle.transcript.specs.Sections.{runIn, queriesIn}
+use Rattle.transcript.specs.Checks.{transcriptOutcome}
 use Rattle.transcript.specs.Judge.{transcriptVerdict, inputLimit, inputVerdict}
 use Rattle.transcript.specs.Theorems.{Carries}
 use Rattle.written.specs.Bytes.{countBytes, entriesBytes, sectionBytes}
@@ -37,49 +39,49 @@ pub record WrittenSections : Type 0 where
       → entriesBytes one ≡ entriesBytes other → one ≡ other
   pub same-section : (one other : List ℕ) → All IsElement one → All IsElement other
       → sectionBytes one ≡ sectionBytes other → one ≡ other
+  -- also where other bytes follow: a section says itself where it ends
+  pub same-first : (one other after after′ : List ℕ) → All IsElement one → All IsElement other
+      → length one < 2 ^ 32 → length other < 2 ^ 32
+      → sectionBytes one ++ after ≡ sectionBytes other ++ after′ → (one ≡ other) × (after ≡ after′)
 
 -- lists that sections can hold: parameters in range, the lengths due, 64-bit numbers, and no more queries than a count
 -- of 4 bytes can say
-pub record Writable (run : Run) (queries : List ℕ) : Type 0 where
+pub record FitsSections (run : Run) (queries : List ℕ) : Type 0 where
   pub parameters : ValidParameters (run .k) (run .rate) (run .step)
-  pub fits : Fit run
+  pub lengths : Fit run
   pub elements : Elements run
   pub queries-elements : All IsElement queries
   pub queries-count : length queries < 2 ^ 32
 
--- what is written is read again, and nothing else reads the same
+-- what is written is read again
 pub record WrittenTranscripts : Type 0 where
   pub are-bytes : (run : Run) (queries : List ℕ) → AreBytes (transcriptOf run queries)
   -- the needed length
   pub size : (run : Run) (queries : List ℕ) → ValidParameters (run .k) (run .rate) (run .step) → Fit run
       → length (transcriptOf run queries) ≡ transcriptLength (run .k) (run .rate) (stepsIn run) (length queries)
   -- the reader finds parameters, offset and lists again
-  pub carries : (run : Run) (queries : List ℕ) → Writable run queries → Carries (transcriptOf run queries)
-  pub run-again : (run : Run) (queries : List ℕ) → Writable run queries → runIn (transcriptOf run queries) ≡ run
-  pub queries-again : (run : Run) (queries : List ℕ) → Writable run queries
+  pub carries : (run : Run) (queries : List ℕ) → FitsSections run queries → Carries (transcriptOf run queries)
+  pub run-again : (run : Run) (queries : List ℕ) → FitsSections run queries → runIn (transcriptOf run queries) ≡ run
+  pub queries-again : (run : Run) (queries : List ℕ) → FitsSections run queries
       → queriesIn (transcriptOf run queries) ≡ queries
-  -- bytes that carry lists are the transcript of those lists; so the same lists are in no other bytes
+  -- bytes that carry lists are the transcript of those lists; so no other bytes carry the same
   pub only : (bytes : List ℕ) → AreBytes bytes → Carries bytes → transcriptOf (runIn bytes) (queriesIn bytes) ≡ bytes
   pub unique : (one other : List ℕ) → AreBytes one → AreBytes other → Carries one → Carries other
       → runIn one ≡ runIn other → queriesIn one ≡ queriesIn other → one ≡ other
+  -- bytes from which the lists of a transcript that passes can be read are that transcript, or the reader refuses
+  -- them: they end early (1), a count differs (2), or bytes follow the last section (3)
+  pub others-refused : (run : Run) (queries bytes : List ℕ) → checksOutcome run queries ≡ Done → AreBytes bytes
+      → runIn bytes ≡ run → queriesIn bytes ≡ queries
+      → (bytes ≡ transcriptOf run queries)
+      ⊎ ((cause : Cause) × (transcriptVerdict bytes ≡ record { answer = answers.Refused cause; reads = 0 })
+      × (numberOf cause ≤ 3))
   -- judging the bytes by the library is judging the lists, at every length, verdict and reads
-  pub judged : (run : Run) (queries : List ℕ) → Writable run queries
+  pub judged : (run : Run) (queries : List ℕ) → FitsSections run queries
       → transcriptVerdict (transcriptOf run queries) ≡ verdictOf run queries
-  -- the program does so up to its limit
-  pub judged-by-program : (run : Run) (queries : List ℕ) → Writable run queries
+  -- the program does so up to its limit; beyond it, it refuses as it did (`JudgingBytes.long`)
+  pub judged-by-program : (run : Run) (queries : List ℕ) → FitsSections run queries
       → length (transcriptOf run queries) ≤ inputLimit
       → inputVerdict (transcriptOf run queries) ≡ verdictOf run queries
-
--- demand 3, first half, of what is written: an honest run of a word of low degree and a valid query list are written
--- into as many bytes as are needed, and these are accepted, with queries · r · 2^η entries read
-pub record HonestTranscripts : Type 0 where
-  pub written : (run : Run) (queries : List ℕ) → ValidCoset run → ProverInput run → LowDegree run
-      → ValidQueries (run .k) queries
-      → writeOutcome (honest run) queries (transcriptLength (run .k) (run .rate) (stepsIn run) (length queries)) ≡ Done
-  pub accepted : (run : Run) (queries : List ℕ) → ValidCoset run → ProverInput run → LowDegree run
-      → ValidQueries (run .k) queries
-      → transcriptVerdict (transcriptOf (honest run) queries)
-      ≡ record { answer = answers.Accepted; reads = length queries * roundsIn run * 2 ^ run .step }
 
 -- the numbers that the writer may give
 abbrev pub WriterNumber : (n : ℕ) → Type 0
@@ -89,7 +91,13 @@ WriterNumber n = (n ≡ 0) ⊎ ((4 ≤ n) × (n ≤ 10)) ⊎ (n ≡ 13)
 pub record WriterRefusals : Type 0 where
   -- with list 8 of the needed length they are those of the judge before its round checks
   pub as-lists : (run : Run) (queries : List ℕ)
-      → writeOutcome run queries (length (transcriptOf run queries)) ≡ checksOutcome run queries
+      → writeOutcome run queries (transcriptLength (run .k) (run .rate) (stepsIn run) (length queries))
+      ≡ checksOutcome run queries
+  -- any lists that pass are written, honest or not
+  pub done : (run : Run) (queries : List ℕ) (size : ℕ)
+      → (writeOutcome run queries size ≡ Done)
+      ↔ ((checksOutcome run queries ≡ Done)
+      × (size ≡ transcriptLength (run .k) (run .rate) (stepsIn run) (length queries)))
   -- parameters and lists 1 to 5 come before list 8
   pub earlier : (run : Run) (queries : List ℕ) (size : ℕ) (cause : Cause)
       → andThen (parametersOutcome (run .k) (run .rate) (run .step)) (lengthsOutcome run) ≡ Refused cause
@@ -97,15 +105,32 @@ pub record WriterRefusals : Type 0 where
   -- and list 8 before the bases and the queries
   pub list8 : (run : Run) (queries : List ℕ) (size : ℕ) → ValidParameters (run .k) (run .rate) (run .step) → Fit run
       → size ≢ transcriptLength (run .k) (run .rate) (stepsIn run) (length queries)
-      → (numberOfOutcome (writeOutcome run queries size) ≡ 13)
-      × (placeOfOutcome (writeOutcome run queries size) ≡ At 8)
+      → writeOutcome run queries size ≡ Refused (WrongLength 8)
   -- a refusal leaves every byte
   pub left : (run : Run) (queries held : List ℕ) (cause : Cause)
       → writeOutcome run queries (length held) ≡ Refused cause → bytesAfter run queries held ≡ held
-  -- else list 8 holds a transcript that the reader reads
-  pub written : (run : Run) (queries held : List ℕ) → Elements run → All IsElement queries
-      → writeOutcome run queries (length held) ≡ Done
-      → Writable run queries × (bytesAfter run queries held ≡ transcriptOf run queries)
   -- no number is given otherwise, whatever the basis of 64-bit numbers
   pub numbers : (run : Run) (queries : List ℕ) (size : ℕ) → All IsElement (run .basis)
       → WriterNumber (numberOfOutcome (writeOutcome run queries size))
+
+-- what list 8 holds where the writer is done
+pub record WrittenBytes : Type 0 where
+  -- the reader finds the lists again, and judging the bytes is judging the lists
+  pub read : (run : Run) (queries held : List ℕ) → Elements run → All IsElement queries
+      → writeOutcome run queries (length held) ≡ Done
+      → (runIn (bytesAfter run queries held) ≡ run) × (queriesIn (bytesAfter run queries held) ≡ queries)
+      × (transcriptVerdict (bytesAfter run queries held) ≡ verdictOf run queries)
+  -- of the lists of bytes whose sections pass it writes these bytes
+  pub rewritten : (bytes held : List ℕ) → AreBytes bytes → transcriptOutcome bytes ≡ Done → length held ≡ length bytes
+      → (writeOutcome (runIn bytes) (queriesIn bytes) (length held) ≡ Done)
+      × (bytesAfter (runIn bytes) (queriesIn bytes) held ≡ bytes)
+  -- an honest run and a valid query list are written, whatever the word's degree
+  pub honest-done : (run : Run) (queries : List ℕ) → ValidCoset run → ProverInput run → ValidQueries (run .k) queries
+      → writeOutcome (honest run) queries (transcriptLength (run .k) (run .rate) (stepsIn run) (length queries)) ≡ Done
+  -- demand 3, first half, of what is written: where the degree is low, the bytes are accepted, with queries · r · 2^η
+  -- entries read
+  pub honest-accepted : (run : Run) (queries held : List ℕ) → ValidCoset run → ProverInput run → LowDegree run
+      → ValidQueries (run .k) queries
+      → length held ≡ transcriptLength (run .k) (run .rate) (stepsIn run) (length queries)
+      → transcriptVerdict (bytesAfter (honest run) queries held)
+      ≡ record { answer = answers.Accepted; reads = length queries * roundsIn run * 2 ^ run .step }

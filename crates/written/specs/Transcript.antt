@@ -1,4 +1,5 @@
--- The transcript of a run and its queries. Only `listsOf` says which lists its sections hold.
+-- The transcript of a run and its queries. `listsOf` says which lists its sections hold, `transcriptLength` how long
+-- these are.
 use mathlib.Core.List.{List, [], _∷_}
 use Prim.Native.Nat.{ℕ, zero, suc, _+_, _*_, _^_}
 use lib.ListN.{length}
