@@ -2,9 +2,10 @@
 use mathlib.Core.Path.{_≡_, refl, sym, ap, _∙_}
 use mathlib.Core.List.{List, [], _++_, append-assoc, append-nil}
 use Prim.Native.Nat.{ℕ, _+_, _≤_}
-use native.Mathlib.Nat.{add-zero}
+use native.Mathlib.Nat.{add-zero, zero-add}
 use native.Mathlib.Omega.{arith}
 use lib.ListN.{length, take, drop, length-append, take-append-drop}
+use lib.Seq.{drop-length}
 use Rattle.placing.specs.Put.{Put}
 use Rattle.placing.proofs.Placing.{put-append, put-same, length-put}
 
@@ -51,3 +52,15 @@ module _ {held : List ℕ} {at : ℕ} {whole rest : List ℕ} {place : ℕ} {lef
   rest-fits h =
       let ends = so-far .put .ends in
       omega (arith, length-put (so-far .put), length-append (so-far .text) rest, ap length (so-far .joined))
+
+  pub piece-fits : (piece after : List ℕ) → rest ≡ piece ++ after → at + length whole ≤ length held
+      → place + length piece ≤ length left
+  piece-fits piece after e h = omega (arith, rest-fits h, ap length e ∙ length-append piece after)
+
+-- a text that fills the whole list
+pub whole-list : {held text : List ℕ} {end : ℕ} {left : List ℕ} → Put held 0 text end left → length held ≡ length text
+    → left ≡ text
+whole-list {held} {text} {end} put e =
+    let same : end ≡ length held = put .ends ∙ zero-add (length text) ∙ sym e in
+    put .list ∙ ap (λ (n : ℕ). text ++ drop n held) same ∙ ap (λ (l : List ℕ). text ++ l) (drop-length held)
+    ∙ append-nil text

@@ -1,0 +1,3 @@
+mod Lengths
+mod Checks
+mod Sections

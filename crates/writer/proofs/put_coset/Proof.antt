@@ -1,0 +1,69 @@
+-- `writer::put_coset` meets its contract: the count, then the offset, then the basis. Assumes nothing.
+use native.Mathlib.Omega.{arith}
+use Prim.Native.Nat.{_+_}
+use lib.ListN.{length}
+use borrow.Author.Needs.{needs}
+use Rattle.placing.proofs.Placing.{put-append, put-same, length-put}
+use Rattle.written.proofs.Bytes.{length-number}
+use Rattle.writer.proofs.Sections.{coset-section}
+use Rattle.writer.proofs.put_coset.Statement.{statement}
+use Rattle.writer.proofs.put_coset.Tie as tie
+
+add-put-count : tie.Need-add-put-count
+add-put-count c = search needs
+
+put-count-requires : tie.Need-put-count-requires
+put-count-requires c κs = search needs
+
+put-entry-requires : tie.Need-put-entry-requires
+put-entry-requires c κs =
+    let start = c .before .before .before .before .before .before .before in
+    let count = c .before .before .before .put-count .ensures in
+    omega (
+      arith,
+      length-put count,
+      count .ends,
+      length-number 4 (length (start .args .basis .now) + 1),
+      start .pre,
+    )
+
+put-entries-requires : tie.Need-put-entries-requires
+put-entries-requires c κs =
+    let counted = c .before .before .before .before .before .before .before in
+    let start = counted .before .before .before .before in
+    let count = counted .put-count .ensures in
+    let entry = c .before .before .before .put-entry .ensures in
+    omega (
+      arith,
+      length-put count,
+      count .ends,
+      length-number 4 (length (start .args .basis .now) + 1),
+      length-put entry,
+      entry .ends,
+      length-number 8 (start .args .offset .0),
+      start .pre,
+    )
+
+same-length : tie.Need-same-length
+same-length c = search needs
+
+returns : tie.Need-returns
+returns c =
+    let entered = c .before .before .before .before .before .before in
+    let counted = entered .before .before .before .before in
+    let a = counted .before .before .before .before .args in
+    put-same
+    (put-append (put-append (counted .put-count .ensures) (entered .put-entry .ensures))
+    (c .before .before .put-entries .ensures))
+    (coset-section (a .offset .0) (a .basis .now))
+
+pub put-coset-spec : {M : Type 1} → statement M
+put-coset-spec =
+    tie.close
+    (tie.spec
+    add-put-count
+    put-count-requires
+    put-entry-requires
+    put-entries-requires
+    same-length
+    returns)

@@ -1,0 +1,233 @@
+// The writer: it puts the transcript of a run and its queries into a lent list of bytes of exactly the needed length,
+// which is told beforehand.
+use field::Element;
+use layout::Parameters;
+use refusal::Cause;
+use refusal::Outcome;
+ghost use mathlib.Core.Path.{_≡_};
+ghost use mathlib.Core.List.{_∷_};
+ghost use Prim.Native.Nat.{_+_, _*_, _-_, _^_, _≤_, _<_};
+ghost use lib.ListN.{length};
+ghost use Rattle.refusal.specs.declared.Outcome.the-variants as outcomes;
+ghost use Rattle.fri.specs.Run.{Run};
+ghost use Rattle.layout.specs.Parameters.{stepsBy, Valid, runOf};
+ghost use Rattle.placing.specs.Put.{Put};
+ghost use Rattle.written.specs.Bytes.{sectionBytes, sectionsBytes};
+ghost use Rattle.written.specs.Transcript.{transcriptOf, transcriptLength};
+ghost use Rattle.written.specs.Writer.{writeOutcome};
+ghost use Rattle.writer.specs.Lengths.{transcriptLengthOf};
+ghost use Rattle.writer.specs.Written.{storedLayers, sizedOutcome, Written};
+
+// No list of 64-bit numbers has as many entries.
+const LIST_LIMIT: usize = 1 << 60;
+
+// How many bytes the transcript of a run with these parameters and so many queries has; 0 for parameters out of range,
+// and for more queries than a list can hold.
+pub fn transcript_length(parameters: Parameters, queries: usize) -> u64
+    ensures { λ r. ⌜ r ≡ transcriptLengthOf parameters queries ⌝ }
+{
+    let outcome = parameters.checked();
+    match outcome {
+        Outcome::Done => {
+            if queries >= LIST_LIMIT {
+                return 0;
+            }
+            length_due(parameters, queries) as u64
+        }
+        Outcome::Refused(_) => 0,
+    }
+}
+
+// The transcript of a run and its queries, section by section, into `bytes`, list 8. Any lists that pass the checks
+// are written, honest or not. Refused, in this order, as by the judge over lists: parameters (4, 5, 6, 7), the lowest
+// of lists 1 to 5 whose length is not the one due, then list 8 (13), a dependent basis (8), a dependent one of a later
+// layer (16), the number of queries (9), a query out of range (10). A refusal leaves every byte.
+pub fn write(
+    parameters: Parameters,
+    offset: Element,
+    basis: &[u64],
+    challenges: &[u64],
+    queries: &[u64],
+    word: &[u64],
+    store: &[u64],
+    last: &[u64],
+    bytes: &mut [u8],
+) -> Outcome
+    ensures { λ r.
+        let run = runOf parameters (offset .0) (now (basis .entry)) (now (challenges .entry)) (now (word .entry))
+        (now (store .entry)) (now (last .entry)) in
+        ⌜ Written run (now (queries .entry)) (now (bytes .entry)) r (now (bytes .exit)) ⌝ }
+{
+    let outcome = checked(
+        parameters,
+        offset,
+        basis,
+        challenges,
+        queries,
+        word,
+        store,
+        last,
+        bytes.len(),
+    );
+    match outcome {
+        Outcome::Done => {
+            put_transcript(
+                parameters,
+                offset,
+                basis,
+                challenges,
+                queries,
+                word,
+                store,
+                last,
+                bytes,
+            );
+            Outcome::Done
+        }
+        Outcome::Refused(cause) => Outcome::Refused(cause),
+    }
+}
+
+// All checks; `size` is the length of list 8.
+fn checked(
+    parameters: Parameters,
+    offset: Element,
+    basis: &[u64],
+    challenges: &[u64],
+    queries: &[u64],
+    word: &[u64],
+    store: &[u64],
+    last: &[u64],
+    size: usize,
+) -> Outcome
+    ensures { λ r.
+        let run = runOf parameters (offset .0) (now (basis .entry)) (now (challenges .entry)) (now (word .entry))
+        (now (store .entry)) (now (last .entry)) in
+        ⌜ r ≡ writeOutcome run (now (queries .entry)) size ⌝ }
+{
+    let ranges = parameters.checked();
+    match ranges {
+        Outcome::Done => {
+            let lengths = run_checks::checked_lengths(
+                parameters,
+                offset,
+                basis,
+                challenges,
+                word,
+                store,
+                last,
+            );
+            match lengths {
+                Outcome::Done => checked_size(parameters, basis, queries, size),
+                Outcome::Refused(cause) => Outcome::Refused(cause),
+            }
+        }
+        Outcome::Refused(cause) => Outcome::Refused(cause),
+    }
+}
+
+// The checks after those of lists 1 to 5: list 8 (13), the bases (8, 16), the queries (9, 10).
+fn checked_size(parameters: Parameters, basis: &[u64], queries: &[u64], size: usize) -> Outcome
+    requires { ⌜ Valid parameters × (length (now basis) ≡ parameters .k) ⌝ }
+    ensures { λ r. ⌜ r ≡ sizedOutcome parameters (now (basis .entry)) (now (queries .entry)) size ⌝ }
+{
+    if size != length_due(parameters, queries.len()) {
+        return Outcome::Refused(Cause::WrongLength { list: 8 });
+    }
+    let bases = run_checks::checked_bases(parameters, basis);
+    match bases {
+        Outcome::Done => round_checks::checked_queries(parameters.k, parameters.step, queries),
+        Outcome::Refused(cause) => Outcome::Refused(cause),
+    }
+}
+
+// The needed length of list 8.
+fn length_due(parameters: Parameters, queries: usize) -> usize
+    requires { ⌜ Valid parameters × (queries < 2 ^ 60) ⌝ }
+    ensures { λ r. ⌜ r ≡ transcriptLength (parameters .k) (parameters .rate) (stepsBy parameters) queries ⌝ }
+{
+    let rounds = parameters.rounds();
+    let word: usize = 1 << parameters.k;
+    let store = parameters.layer_start(rounds);
+    let last = parameters.last_count();
+    bytes_of(parameters.k, rounds, queries, word, store, last)
+}
+
+// A count for each section, and the entries of all: k, R and η, the coset, challenges, queries, word, store and last
+// coefficients.
+fn bytes_of(
+    k: usize,
+    rounds: usize,
+    queries: usize,
+    word: usize,
+    store: usize,
+    last: usize,
+) -> usize
+    requires { ⌜ (k ≤ 20) × (rounds ≤ 19) × (queries < 2 ^ 60) × (word ≤ 2 ^ 20) × (store ≤ 19 * 2 ^ 20)
+        × (last ≤ 4) ⌝ }
+    ensures { λ r. ⌜ r ≡ 4 * (5 + rounds) + 8 * (3 + (1 + k) + rounds + queries + word + store + last) ⌝ }
+{
+    4 * (5 + rounds) + 8 * (3 + (1 + k) + rounds + queries + word + store + last)
+}
+
+// The sections one after the other, after the checks.
+fn put_transcript(
+    parameters: Parameters,
+    offset: Element,
+    basis: &[u64],
+    challenges: &[u64],
+    queries: &[u64],
+    word: &[u64],
+    store: &[u64],
+    last: &[u64],
+    bytes: &mut [u8],
+)
+    ghost { Run }
+    requires { λ run.
+        ⌜ runOf parameters (offset .0) (now basis) (now challenges) (now word) (now store) (now last) ≡ run ⌝ }
+    requires { λ run. ⌜ writeOutcome run (now queries) (length (now bytes)) ≡ outcomes.Done ⌝ }
+    ensures { λ run _. ⌜ now (bytes .exit) ≡ transcriptOf run (now (queries .entry)) ⌝ }
+{
+    let numbers = [
+        parameters.k as u64,
+        parameters.rate as u64,
+        parameters.step as u64,
+    ];
+    let coset_start = section_writer::put_section(&numbers, 0, bytes);
+    let challenges_start = put_coset(offset, basis, coset_start, bytes);
+    let queries_start = section_writer::put_section(challenges, challenges_start, bytes);
+    let word_start = section_writer::put_section(queries, queries_start, bytes);
+    let store_start = section_writer::put_section(word, word_start, bytes);
+    let last_start = put_stored_layers(parameters, store, store_start, bytes);
+    section_writer::put_section(last, last_start, bytes);
+}
+
+// The section of the coset: offset and basis.
+fn put_coset(offset: Element, basis: &[u64], at: usize, out: &mut [u8]) -> usize
+    requires { ⌜ at + 12 + 8 * length (now basis) ≤ length (now out) ⌝ }
+    ensures { λ r.
+        ⌜ Put (now (out .entry)) at (sectionBytes (offset .0 ∷ now (basis .entry))) r (now (out .exit)) ⌝ }
+{
+    let first = section_writer::put_count(basis.len() as u64 + 1, at, out);
+    let second = section_writer::put_entry(offset.0, first, out);
+    section_writer::put_entries(basis, second, out)
+}
+
+// The sections of layers 1 to r - 1.
+fn put_stored_layers(parameters: Parameters, store: &[u64], at: usize, out: &mut [u8]) -> usize
+    requires { ⌜ Valid parameters ⌝ }
+    requires { let layers = storedLayers parameters (now store) 1 (length (stepsBy parameters) - 1) in
+        ⌜ at + length (sectionsBytes layers) ≤ length (now out) ⌝ }
+    ensures { λ r.
+        let layers = storedLayers parameters (now (store .entry)) 1 (length (stepsBy parameters) - 1) in
+        ⌜ Put (now (out .entry)) at (sectionsBytes layers) r (now (out .exit)) ⌝ }
+{
+    let rounds = parameters.rounds();
+    let mut place = at;
+    let mut i: usize = 1;
+    while i < rounds {
+        place = section_writer::put_section(layout::layer(parameters, store, i), place, out);
+        i += 1;
+    }
+    place
+}
