@@ -13,9 +13,10 @@ ghost use Rattle.layout.specs.Parameters.{runOf};
 ghost use Rattle.layout.specs.Parts.{partOf};
 ghost use Rattle.layout.specs.Lengths.{lengthsOf};
 ghost use Rattle.transcript.specs.Judge.{transcriptVerdict};
+ghost use Rattle.writer.specs.Lengths.{transcriptLengthOf};
 ghost use Rattle.c_answers.specs.Answers.{answerOfInverted, answerOfOutcome, answerOfPart, answerOfVerdict};
 ghost use Rattle.c_answers.specs.Answers.{answered, whereAnswered};
-ghost use Rattle.capi.specs.Calls.{FoldAnswered, ProofAnswered};
+ghost use Rattle.capi.specs.Calls.{FoldAnswered, ProofAnswered, WriteAnswered};
 
 // How many numbers an answer has.
 const ANSWER_LENGTH: usize = 5;
@@ -249,4 +250,51 @@ pub extern "C" fn rz_judge_transcript(bytes: &[u8], answer: &mut [u64])
     }
     let verdict = reader::judge(bytes);
     Answer::of_verdict(verdict).write(answer);
+}
+
+#[no_mangle]
+pub extern "C" fn rz_transcript_length(k: usize, rate: usize, step: usize, queries: usize) -> u64
+    ensures { λ r. ⌜ r ≡ transcriptLengthOf (record { k = k; rate = rate; step = step }) queries ⌝ }
+{
+    let parameters = Parameters { k, rate, step };
+    writer::transcript_length(parameters, queries)
+}
+
+#[no_mangle]
+pub extern "C" fn rz_write_transcript(
+    k: usize,
+    rate: usize,
+    step: usize,
+    offset: u64,
+    basis: &[u64],
+    challenges: &[u64],
+    queries: &[u64],
+    word: &[u64],
+    store: &[u64],
+    last: &[u64],
+    bytes: &mut [u8],
+    answer: &mut [u64],
+)
+    ensures { λ _.
+        let run = runOf (record { k = k; rate = rate; step = step }) offset (now (basis .entry))
+        (now (challenges .entry)) (now (word .entry)) (now (store .entry)) (now (last .entry)) in
+        ⌜ WriteAnswered run (now (queries .entry)) (now (bytes .entry)) (now (answer .entry)) (now (answer .exit))
+        (now (bytes .exit)) ⌝ }
+{
+    if answer.len() != ANSWER_LENGTH {
+        return;
+    }
+    let parameters = Parameters { k, rate, step };
+    let outcome = writer::write(
+        parameters,
+        Element(offset),
+        basis,
+        challenges,
+        queries,
+        word,
+        store,
+        last,
+        bytes,
+    );
+    Answer::of_outcome(outcome).write(answer);
 }
