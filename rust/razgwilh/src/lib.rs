@@ -8,9 +8,10 @@
 //!
 //! There is arithmetic ([`sum`], [`product`], [`inverse`]), [`encode`] and [`interpolate`], a
 //! lone [`fold`], the lengths of a run's lists ([`Run::store_length`] and others), the prover
-//! ([`prove`]), the [`layer`] of a store, and the judge, over lists ([`judge`]) and over the
-//! bytes of a transcript ([`judge_transcript`]). `include/razgwilh.h` describes each function
-//! in full, with the order of its refusals; [`raw`] has them by the C convention.
+//! ([`prove`]), the [`layer`] of a store, the writer of transcripts ([`write_transcript`]), and
+//! the judge, over lists ([`judge`]) and over the bytes of a transcript ([`judge_transcript`]).
+//! `include/razgwilh.h` describes each function in full, with the order of its refusals;
+//! [`raw`] has them by the C convention.
 //!
 //! Whatever a caller passes, a refusal is an `Err` with its [`Cause`], whose number
 //! `docs/NUMBERS.md` lists. Only number 0 reads as done or accepted: the five numbers of an
@@ -24,11 +25,11 @@
 //! # Example
 //!
 //! Eight values over the coset of all numbers below 8 are proved and judged. Then the same is
-//! judged as a transcript: sections in a fixed order, each after its count, the count in 4
-//! bytes and each entry in 8, little-endian.
+//! written as a transcript, and judged: sections in a fixed order, each after its count, the
+//! count in 4 bytes and each entry in 8, little-endian.
 //!
 //! ```
-//! use razgwilh::{judge, judge_transcript, prove, Accepted, Cause, Run};
+//! use razgwilh::{judge, judge_transcript, prove, write_transcript, Accepted, Cause, Run};
 //!
 //! let run = Run {
 //!     k: 3,
@@ -51,15 +52,19 @@
 //! let verdict = judge(run, &[5], &store, &last);
 //! assert_eq!(verdict, Ok(Accepted { reads: 4 }));
 //!
+//! let mut bytes = vec![0; run.transcript_length(1)];
+//! write_transcript(run, &[5], &store, &last, &mut bytes)?;
+//! assert_eq!(judge_transcript(&bytes), verdict);
+//!
 //! // Parameters; offset and basis; challenges; queries; layers 0 and 1; last coefficients.
 //! let sections: [&[u64]; 7] =
 //!     [&[3, 1, 1], &[0, 1, 2, 4], run.challenges, &[5], run.word, &store, &last];
-//! let mut bytes = Vec::new();
+//! let mut due = Vec::new();
 //! for section in sections {
-//!     bytes.extend((section.len() as u32).to_le_bytes());
-//!     bytes.extend(section.iter().flat_map(|entry| entry.to_le_bytes()));
+//!     due.extend((section.len() as u32).to_le_bytes());
+//!     due.extend(section.iter().flat_map(|entry| entry.to_le_bytes()));
 //! }
-//! assert_eq!(judge_transcript(&bytes), verdict);
+//! assert_eq!(bytes, due);
 //!
 //! // Without its last byte it ends in the entries of section 7.
 //! let refusal = judge_transcript(&bytes[..bytes.len() - 1]).unwrap_err();
@@ -184,6 +189,11 @@ impl Run<'_> {
     pub fn last_length(&self) -> usize {
         last_length(self.k, self.rate, self.step)
     }
+
+    /// How many bytes the transcript with so many queries has: as [`transcript_length`].
+    pub fn transcript_length(&self, queries: usize) -> usize {
+        transcript_length(self.k, self.rate, self.step, queries)
+    }
 }
 
 /// The rounds of a run, r = (k - rate) / step rounded down; 0 for parameters out of range.
@@ -203,6 +213,15 @@ pub fn store_length(k: usize, rate: usize, step: usize) -> usize {
 pub fn last_length(k: usize, rate: usize, step: usize) -> usize {
     // SAFETY: numbers in, a number out.
     unsafe { raw::rz_last_length(k, rate, step) }
+}
+
+/// The bytes of a run's transcript with so many queries, whatever their number is:
+/// 4 * (5 + r) for the counts, and 8 for each entry, that is 3 parameters, offset and basis
+/// (1 + k), r challenges, the queries, the word (2^k), the store and d last coefficients. 0 for
+/// parameters out of range, and for 2^60 queries or more, which no list has.
+pub fn transcript_length(k: usize, rate: usize, step: usize, queries: usize) -> usize {
+    // SAFETY: numbers in, a number out. The library is for x86-64, where `usize` has 64 bits.
+    unsafe { raw::rz_transcript_length(k, rate, step, queries) as usize }
 }
 
 /// Proves: `store` gets layers 1 to r - 1, joined, and `last` the last coefficients. Number 12
@@ -234,6 +253,20 @@ pub struct Accepted {
 /// refusal has number 4, 5, 6, 7, 13, 8, 16, 9, 10 or 11.
 pub fn judge(run: Run, queries: &[u64], store: &[u64], last: &[u64]) -> Result<Accepted, Refusal> {
     accepted(|answer| raw::judge(run, queries, store, last, answer))
+}
+
+/// Writes the transcript of these lists, honest or not, into `bytes`, which has exactly
+/// [`Run::transcript_length`] bytes for as many queries: what [`judge_transcript`] says of it is
+/// what [`judge`] says of the lists. A refusal, number 4, 5, 6, 7, 13, 8, 16, 9 or 10, leaves
+/// every byte as it was; list 8 of number 13 is `bytes`.
+pub fn write_transcript(
+    run: Run,
+    queries: &[u64],
+    store: &[u64],
+    last: &[u64],
+    bytes: &mut [u8],
+) -> Result<(), Refusal> {
+    done(|answer| raw::write_transcript(run, queries, store, last, bytes, answer))
 }
 
 /// Judges the bytes of a transcript, of any length. A refusal has one of the numbers 1 to 11 or

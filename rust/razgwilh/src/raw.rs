@@ -205,6 +205,42 @@ pub fn judge(run: Run, queries: &[u64], store: &[u64], last: &[u64], answer: &mu
     }
 }
 
+/// The five numbers of [`crate::write_transcript`].
+pub fn write_transcript(
+    run: Run,
+    queries: &[u64],
+    store: &[u64],
+    last: &[u64],
+    bytes: &mut [u8],
+    answer: &mut [u64],
+) {
+    // SAFETY: each pointer and length are one slice's; what is exclusive overlaps no other.
+    unsafe {
+        rz_write_transcript(
+            run.k,
+            run.rate,
+            run.step,
+            run.offset,
+            run.basis.as_ptr(),
+            run.basis.len(),
+            run.challenges.as_ptr(),
+            run.challenges.len(),
+            queries.as_ptr(),
+            queries.len(),
+            run.word.as_ptr(),
+            run.word.len(),
+            store.as_ptr(),
+            store.len(),
+            last.as_ptr(),
+            last.len(),
+            bytes.as_mut_ptr(),
+            bytes.len(),
+            answer.as_mut_ptr(),
+            answer.len(),
+        )
+    }
+}
+
 /// The five numbers of [`crate::judge_transcript`].
 pub fn judge_transcript(bytes: &[u8], answer: &mut [u64]) {
     // SAFETY: each pointer and length are one slice's; what is exclusive overlaps no other.
@@ -219,6 +255,7 @@ extern "C" {
     pub(crate) fn rz_rounds(k: usize, rate: usize, step: usize) -> usize;
     pub(crate) fn rz_store_length(k: usize, rate: usize, step: usize) -> usize;
     pub(crate) fn rz_last_length(k: usize, rate: usize, step: usize) -> usize;
+    pub(crate) fn rz_transcript_length(k: usize, rate: usize, step: usize, queries: usize) -> u64;
     fn rz_inverse(a: u64, answer: *mut u64, answer_length: usize);
     fn rz_encode(
         offset: u64,
@@ -303,6 +340,28 @@ extern "C" {
         store_length: usize,
         last: *const u64,
         last_length: usize,
+        answer: *mut u64,
+        answer_length: usize,
+    );
+    fn rz_write_transcript(
+        k: usize,
+        rate: usize,
+        step: usize,
+        offset: u64,
+        basis: *const u64,
+        basis_length: usize,
+        challenges: *const u64,
+        challenges_length: usize,
+        queries: *const u64,
+        queries_length: usize,
+        word: *const u64,
+        word_length: usize,
+        store: *const u64,
+        store_length: usize,
+        last: *const u64,
+        last_length: usize,
+        bytes: *mut u8,
+        bytes_length: usize,
         answer: *mut u64,
         answer_length: usize,
     );
