@@ -23,9 +23,9 @@
 #include <stddef.h>
 #include <stdint.h>
 
-#define RZ_VERSION "0.2.0"
+#define RZ_VERSION "0.3.0"
 #define RZ_VERSION_MAJOR 0
-#define RZ_VERSION_MINOR 2
+#define RZ_VERSION_MINOR 3
 #define RZ_VERSION_PATCH 0
 
 #ifdef __cplusplus
@@ -174,6 +174,7 @@ static inline struct rz_output rz_output_of(uint64_t *entries, size_t length);
  *   store                             rz_store_length
  *   last coefficients                 rz_last_length
  *   queries                           1 to 256
+ *   bytes of a transcript             rz_transcript_length, in bytes
  *   coefficients to be encoded        at most 2^k, where k is the length of the basis, 0 to 12
  *   values of an encoding             2^k
  *   coefficients of an interpolation  2^k
@@ -188,6 +189,12 @@ size_t rz_store_length(size_t k, size_t rate, size_t step);
 
 /* d, how many last coefficients there are: 2^(k - rate - r * step), which is 1, 2 or 4. */
 size_t rz_last_length(size_t k, size_t rate, size_t step);
+
+/* How many bytes a transcript with so many queries has, whatever their number is: 4 for each of
+ * the 5 + r counts, and 8 for each entry, which are 3 parameters, offset and basis (1 + k), r
+ * challenges, the queries, the word (2^k), the store (rz_store_length) and d last coefficients.
+ * 0 also for 2^60 queries or more, which no list has. */
+uint64_t rz_transcript_length(size_t k, size_t rate, size_t step, size_t queries);
 
 /* 6. THE FUNCTIONS */
 
@@ -322,16 +329,32 @@ RZ_MUST_USE
 static inline struct rz_answer rz_judge_answer(const struct rz_run *run, struct rz_list queries,
                                                struct rz_list store, struct rz_list last);
 
-/* The judge over the bytes of a transcript, of any length. A transcript is a row of sections, each
- * a count in 4 bytes and as many entries of 8 bytes each, all little-endian:
+/* The protocol over bytes. A transcript is a row of sections, each a count in 4 bytes and as many
+ * entries of 8 bytes each, all little-endian:
  *   section 1        k, rate, step
  *   section 2        the offset, then the basis: k + 1 entries
  *   section 3        r challenges
  *   section 4        1 to 256 query indices
  *   section 5 + i    layer i, for i from 0 to r - 1; layer 0 is the word
  *   section 5 + r    d last coefficients
- * Nothing follows. The lists that the bytes carry are judged as rz_judge_answer judges them: the
- * store is layers 1 to r - 1, joined. Refused section by section; in each, in this order, with
+ * Nothing follows. The store is layers 1 to r - 1, joined. */
+
+/* The writer: the transcript of these lists into `bytes`, of which there are `length`. Any lists
+ * that pass the checks are written, honest or not, and what rz_judge_transcript_answer says of the
+ * bytes is what rz_judge_answer says of the lists. Refused as rz_judge_answer is, but never with
+ * number 11; number 13 has one list more, behind the others: 8, `bytes`, where `length` is other
+ * than rz_transcript_length for as many queries as there are, be it none or over 256. A refusal
+ * leaves every byte as it was. The answer has no value, no round but with number 16, and 0
+ * reads. */
+RZ_MUST_USE
+static inline struct rz_answer rz_write_transcript_answer(const struct rz_run *run,
+                                                          struct rz_list queries,
+                                                          struct rz_list store,
+                                                          struct rz_list last, uint8_t *bytes,
+                                                          size_t length);
+
+/* The judge over the bytes of a transcript, of any length. The lists that the bytes carry are
+ * judged as rz_judge_answer judges them. Refused section by section; in each, in this order, with
  *   number 1   the 4 bytes of its count are not all there, and its place is the section, from 1
  *   number 2   its count is not the one due, and its place is the section; in section 4 instead
  *   number 9   its count is 0 or over 256; no place
@@ -390,6 +413,14 @@ void rz_judge(size_t k, size_t rate, size_t step, uint64_t offset, const uint64_
               const uint64_t *queries, size_t queries_length, const uint64_t *word,
               size_t word_length, const uint64_t *store, size_t store_length,
               const uint64_t *last, size_t last_length, uint64_t *answer, size_t answer_length);
+
+void rz_write_transcript(size_t k, size_t rate, size_t step, uint64_t offset,
+                         const uint64_t *basis, size_t basis_length, const uint64_t *challenges,
+                         size_t challenges_length, const uint64_t *queries, size_t queries_length,
+                         const uint64_t *word, size_t word_length, const uint64_t *store,
+                         size_t store_length, const uint64_t *last, size_t last_length,
+                         uint8_t *bytes, size_t bytes_length, uint64_t *answer,
+                         size_t answer_length);
 
 void rz_judge_transcript(const uint8_t *bytes, size_t bytes_length, uint64_t *answer,
                          size_t answer_length);
@@ -545,6 +576,27 @@ static inline struct rz_answer rz_judge_answer(const struct rz_run *run, struct 
                  rz_entries(queries), queries.length, rz_entries(run->word), run->word.length,
                  rz_entries(store), store.length, rz_entries(last), last.length, numbers,
                  RZ_ANSWER_LENGTH);
+    }
+    return rz_answer_of(numbers);
+}
+
+static inline struct rz_answer rz_write_transcript_answer(const struct rz_run *run,
+                                                          struct rz_list queries,
+                                                          struct rz_list store,
+                                                          struct rz_list last, uint8_t *bytes,
+                                                          size_t length) {
+    static uint8_t unwritten = 0;
+    uint64_t numbers[RZ_ANSWER_LENGTH] = RZ_NO_ANSWER;
+
+    if (rz_run_there(run) && rz_list_there(queries) && rz_list_there(store) &&
+        rz_list_there(last) && rz_there(bytes, length)) {
+        rz_write_transcript(run->k, run->rate, run->step, run->offset, rz_entries(run->basis),
+                            run->basis.length, rz_entries(run->challenges),
+                            run->challenges.length, rz_entries(queries), queries.length,
+                            rz_entries(run->word), run->word.length, rz_entries(store),
+                            store.length, rz_entries(last), last.length,
+                            bytes == NULL ? &unwritten : bytes, length, numbers,
+                            RZ_ANSWER_LENGTH);
     }
     return rz_answer_of(numbers);
 }

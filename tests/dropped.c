@@ -13,6 +13,7 @@ int main(void) {
     rz_prove_answer(NULL, output, output);
     rz_layer_answer(3, 1, 1, list, 1);
     rz_judge_answer(NULL, list, list, list);
+    rz_write_transcript_answer(NULL, list, list, list, NULL, 0);
     rz_judge_transcript_answer(NULL, 0);
     return 0;
 }

@@ -135,6 +135,27 @@ void rz_judge(size_t k, size_t rate, size_t step, uint64_t offset, const uint64_
     give_answer(answer, answer_length);
 }
 
+void rz_write_transcript(size_t k, size_t rate, size_t step, uint64_t offset,
+                         const uint64_t *basis, size_t basis_length, const uint64_t *challenges,
+                         size_t challenges_length, const uint64_t *queries, size_t queries_length,
+                         const uint64_t *word, size_t word_length, const uint64_t *store,
+                         size_t store_length, const uint64_t *last, size_t last_length,
+                         uint8_t *bytes, size_t bytes_length, uint64_t *answer,
+                         size_t answer_length) {
+    take_number(k);
+    take_number(rate);
+    take_number(step);
+    take_number(offset);
+    take(basis, basis_length);
+    take(challenges, challenges_length);
+    take(queries, queries_length);
+    take(word, word_length);
+    take(store, store_length);
+    take(last, last_length);
+    take(bytes, bytes_length);
+    give_answer(answer, answer_length);
+}
+
 void rz_judge_transcript(const uint8_t *bytes, size_t bytes_length, uint64_t *answer,
                          size_t answer_length) {
     take(bytes, bytes_length);
@@ -189,6 +210,15 @@ static struct rz_answer call_judge(void) {
                                list(4),   list(5),   list(7)};
 
     return rz_judge_answer(&run, list(6), list(8), list(9));
+}
+
+/* The word stands behind the queries. */
+static struct rz_answer call_write_transcript(void) {
+    const struct rz_run run = {number(0), number(1), number(2), number(3),
+                               list(4),   list(5),   list(7)};
+
+    return rz_write_transcript_answer(&run, list(6), list(8), list(9),
+                                      (uint8_t *)given[10].entries, number(10));
 }
 
 static struct rz_answer call_judge_transcript(void) {
@@ -263,6 +293,7 @@ int main(void) {
     expect_function("rz_prove_answer", call_prove, "nnnnlllll");
     expect_function("rz_layer_answer", call_layer, "nnnln");
     expect_function("rz_judge_answer", call_judge, "nnnnllllll");
+    expect_function("rz_write_transcript_answer", call_write_transcript, "nnnnlllllll");
     expect_function("rz_judge_transcript_answer", call_judge_transcript, "l");
 
     start("rz_fold_answer without a fold call");
@@ -271,5 +302,8 @@ int main(void) {
     expect_nothing_done(rz_prove_answer(NULL, output(0), output(1)));
     start("rz_judge_answer without a run");
     expect_nothing_done(rz_judge_answer(NULL, list(0), list(1), list(2)));
+    start("rz_write_transcript_answer without a run");
+    expect_nothing_done(rz_write_transcript_answer(NULL, list(0), list(1), list(2),
+                                                   (uint8_t *)given[3].entries, number(3)));
     return failures != 0;
 }

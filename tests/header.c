@@ -350,13 +350,49 @@ static void expect_run(void) {
                   accepted(4), "rz_judge_answer");
 }
 
-/* What is given to prover and judge beside case K's numbers. */
+/* What is given to prover, judge and writer beside case K's numbers. */
 struct lengths {
     size_t k, rate, step, basis, challenges, word, store, last;
 };
 
-/* Each argument stands in its own place: prover and judge refuse it alike, and both lists are left
- * alone. */
+/* A transcript of case K, with one query, has 7 counts and 23 entries. */
+#define BYTES_K (4 * 7 + 8 * 23)
+
+static void fill_bytes(uint8_t bytes[BYTES_K + ROOM]) {
+    memset(bytes, 0xa5, BYTES_K + ROOM);
+}
+
+/* The first `length` bytes are those of `written`, and the others what they were. */
+static void expect_bytes(const uint8_t bytes[BYTES_K + ROOM], const uint8_t *written,
+                         size_t length, const char *what) {
+    for (size_t i = 0; i < BYTES_K + ROOM; i++) {
+        expect(bytes[i] == (i < length ? written[i] : 0xa5), what);
+    }
+}
+
+/* A transcript is refused, and every byte left alone. */
+static void expect_writing_refused(struct lengths n, const uint64_t *points, size_t queries,
+                                   size_t length, struct rz_answer due) {
+    const struct rz_run run = {n.k, n.rate, n.step, 8, {points, n.basis},
+                               {challenges_k, n.challenges}, {word_k, n.word}};
+    uint64_t answer[ROOM];
+    uint8_t bytes[BYTES_K + ROOM];
+
+    fill(answer);
+    fill_bytes(bytes);
+    rz_write_transcript(n.k, n.rate, n.step, 8, points, n.basis, challenges_k, n.challenges,
+                        queries_k, queries, word_k, n.word, layer_k, n.store, last_k, n.last,
+                        bytes, length, answer, RZ_ANSWER_LENGTH);
+    expect_raw(answer, RZ_ANSWER_LENGTH, due, "rz_write_transcript: refusal");
+    expect_answer(rz_write_transcript_answer(&run, rz_list_of(queries_k, queries),
+                                             rz_list_of(layer_k, n.store),
+                                             rz_list_of(last_k, n.last), bytes, length),
+                  due, "rz_write_transcript_answer: refusal");
+    expect_bytes(bytes, bytes, 0, "bytes after a refusal");
+}
+
+/* Each argument stands in its own place: prover, judge and writer refuse it alike, and what they
+ * would write to is left alone. */
 static void expect_run_refused(struct lengths n, struct rz_answer due) {
     const struct rz_run run = {n.k, n.rate, n.step, 8, {basis_k, n.basis},
                                {challenges_k, n.challenges}, {word_k, n.word}};
@@ -380,6 +416,8 @@ static void expect_run_refused(struct lengths n, struct rz_answer due) {
     expect_answer(rz_judge_answer(&run, rz_list_of(queries_k, 1), rz_list_of(layer_k, n.store),
                                   rz_list_of(last_k, n.last)),
                   due, "rz_judge_answer: refusal");
+
+    expect_writing_refused(n, basis_k, 1, BYTES_K, due);
 }
 
 static void expect_runs_refused(void) {
@@ -505,6 +543,101 @@ static void expect_transcripts(void) {
     expect_transcript(changed, sizeof changed, refused(RZ_COUNT_DIFFERS, 1));
 }
 
+/* A section of a transcript: its count and its entries, the lowest byte first. Answers where it
+ * ends. */
+static size_t put_section(uint8_t *bytes, size_t at, struct rz_list list) {
+    for (size_t i = 0; i < 4; i++) {
+        bytes[at++] = (uint8_t)(list.length >> (8 * i));
+    }
+    for (size_t i = 0; i < 8 * list.length; i++) {
+        bytes[at++] = (uint8_t)(list.entries[i / 8] >> (8 * (i % 8)));
+    }
+    return at;
+}
+
+/* Case K with query 5 and a last coefficient, as a transcript. */
+static void transcript_k(uint8_t bytes[BYTES_K], struct rz_list last) {
+    static const uint64_t parameters[] = {3, 1, 1}, coset[] = {8, 1, 2, 4};
+    const struct rz_list lists[] = {
+        RZ_LIST(parameters),      RZ_LIST(coset),   RZ_LIST(challenges_k),
+        rz_list_of(queries_k, 1), RZ_LIST(word_k),  RZ_LIST(layer_k),
+        last,
+    };
+    size_t at = 0;
+
+    for (size_t i = 0; i < LENGTH(lists); i++) {
+        at = put_section(bytes, at, lists[i]);
+    }
+    expect(at == BYTES_K, "the length of case K as a transcript");
+}
+
+/* Case K written, with an answer's list of any length. */
+static void expect_raw_writing(size_t length) {
+    uint64_t answer[ROOM];
+    uint8_t bytes[BYTES_K + ROOM], due[BYTES_K];
+
+    transcript_k(due, RZ_LIST(last_k));
+    fill(answer);
+    fill_bytes(bytes);
+    rz_write_transcript(3, 1, 1, 8, basis_k, 3, challenges_k, 2, queries_k, 1, word_k, 8, layer_k,
+                        4, last_k, 1, bytes, BYTES_K, answer, length);
+    expect_raw(answer, length, done(), "rz_write_transcript: answer");
+    expect_bytes(bytes, due, length == RZ_ANSWER_LENGTH ? BYTES_K : 0,
+                 "rz_write_transcript: bytes");
+}
+
+/* Case K written with a last coefficient, whatever the judge says of it. */
+static void expect_written(const uint64_t *last, struct rz_answer verdict) {
+    const struct rz_run run = run_k();
+    uint8_t bytes[BYTES_K + ROOM], due[BYTES_K];
+
+    transcript_k(due, rz_list_of(last, 1));
+    fill_bytes(bytes);
+    expect_answer(rz_write_transcript_answer(&run, rz_list_of(queries_k, 1), RZ_LIST(layer_k),
+                                             rz_list_of(last, 1), bytes, BYTES_K),
+                  done(), "rz_write_transcript_answer");
+    expect_bytes(bytes, due, BYTES_K, "rz_write_transcript_answer: bytes");
+    expect_answer(rz_judge_transcript_answer(bytes, BYTES_K), verdict, "what was written");
+}
+
+static void expect_writing(void) {
+    const uint64_t zero[] = {0};
+    const struct rz_run run = run_g();
+    uint8_t bytes[sizeof case_g];
+
+    expect_written(last_k, accepted(4));
+    expect_written(zero, answer_with(RZ_ROUND_CHECK_FAILS, 0, 1, 4, RZ_NONE));
+    expect_answer(rz_write_transcript_answer(&run, RZ_LIST(queries_g), rz_list_of(NULL, 0),
+                                             RZ_LIST(last_g), bytes, sizeof bytes),
+                  done(), "rz_write_transcript_answer: case G");
+    expect(memcmp(bytes, case_g, sizeof case_g) == 0, "case G as it is written");
+}
+
+/* List 8, whose length goes by the number of queries, before 8, 9 and 10. */
+static void expect_writings_refused(void) {
+    static const uint64_t dependent[] = {1, 2, 3};
+    static const struct {
+        size_t queries, length;
+        uint64_t number, place;
+    } calls[] = {
+        {1, 0, RZ_WRONG_LENGTH, 8},
+        {1, BYTES_K - 1, RZ_WRONG_LENGTH, 8},
+        {1, BYTES_K + 1, RZ_WRONG_LENGTH, 8},
+        {0, BYTES_K, RZ_WRONG_LENGTH, 8},
+        {0, BYTES_K - 8, RZ_QUERY_COUNT_OUT_OF_RANGE, RZ_NONE},
+        {2, BYTES_K, RZ_WRONG_LENGTH, 8},
+        {2, BYTES_K + 8, RZ_QUERY_OUT_OF_RANGE, 1},
+    };
+    const struct lengths n = {3, 1, 1, 3, 2, 8, 4, 1};
+
+    for (size_t i = 0; i < LENGTH(calls); i++) {
+        expect_writing_refused(n, basis_k, calls[i].queries, calls[i].length,
+                               refused(calls[i].number, calls[i].place));
+    }
+    expect_writing_refused(n, dependent, 2, BYTES_K, refused(RZ_WRONG_LENGTH, 8));
+    expect_writing_refused(n, dependent, 2, BYTES_K + 8, refused(RZ_BASIS_DEPENDENT, 2));
+}
+
 /* The trap of the raw functions: a list of zeros with its length in bytes reads as accepted, on a
  * damaged store. What the caller should call instead refuses it. */
 static void expect_trap(void) {
@@ -547,7 +680,26 @@ static void expect_layers(size_t k, size_t rate, size_t step) {
     expect(end == store.length, "rz_store_length: the layers fill it");
 }
 
+static void expect_transcript_length(size_t k, size_t rate, size_t step) {
+    static const size_t queries[] = {0, 1, 256, 257, ((size_t)1 << 60) - 1};
+    const size_t rounds = rz_rounds(k, rate, step);
+    const size_t entries = 4 + k + rounds + ((size_t)1 << (k % 64)) +
+                           rz_store_length(k, rate, step) + rz_last_length(k, rate, step);
+
+    for (size_t i = 0; i < LENGTH(queries); i++) {
+        uint64_t due = 4 * (5 + rounds) + 8 * (entries + queries[i]);
+
+        expect(rz_transcript_length(k, rate, step, queries[i]) ==
+                   (in_range(k, rate, step) ? due : 0),
+               "rz_transcript_length");
+    }
+    expect(rz_transcript_length(k, rate, step, (size_t)1 << 60) == 0 &&
+               rz_transcript_length(k, rate, step, SIZE_MAX) == 0,
+           "rz_transcript_length: more queries than any list has");
+}
+
 static void expect_lengths(size_t k, size_t rate, size_t step) {
+    expect_transcript_length(k, rate, step);
     if (!in_range(k, rate, step)) {
         expect(rz_rounds(k, rate, step) == 0, "rz_rounds: out of range");
         expect(rz_store_length(k, rate, step) == 0, "rz_store_length: out of range");
@@ -576,6 +728,8 @@ static void expect_all_lengths(void) {
     expect(rz_store_length(2, 1, 1) == 0, "rz_store_length: one round");
     expect(rz_store_length(3, 1, 1) == 4, "rz_store_length: case K");
     expect(rz_store_length(20, 6, 3) == 149504, "rz_store_length: case O");
+    expect(rz_transcript_length(2, 1, 1, 2) == sizeof case_g, "rz_transcript_length: case G");
+    expect(rz_transcript_length(20, 1, 1, 256) == 16779680, "rz_transcript_length: the largest");
 }
 
 /* Null pointers. One with length 0 is a list without entries; with another length it leaves all
@@ -656,15 +810,19 @@ static void expect_nulls_in_folds(void) {
     expect(list[0] != PATTERN, "null: the value of a fold to one point");
 }
 
-/* Prover and judge with what they share. */
-static void expect_both(const struct rz_run *run, struct rz_answer due, const char *what) {
+/* Prover, judge and writer with what they share. */
+static void expect_all(const struct rz_run *run, struct rz_answer due, const char *what) {
     uint64_t last[ROOM];
+    uint8_t bytes[sizeof case_g];
 
     fill(last);
     expect_answer(rz_prove_answer(run, no_room, rz_output_of(last, 1)), due, what);
     expect_untouched(last, what);
     expect_answer(rz_judge_answer(run, RZ_LIST(queries_g), no_entries, RZ_LIST(last_g)), due,
                   what);
+    expect_answer(rz_write_transcript_answer(run, RZ_LIST(queries_g), no_entries, RZ_LIST(last_g),
+                                             bytes, sizeof bytes),
+                  due, what);
 }
 
 static void expect_nulls_in_shared_lists(void) {
@@ -674,11 +832,11 @@ static void expect_nulls_in_shared_lists(void) {
     for (size_t i = 0; i < LENGTH(lists); i++) {
         run = run_g();
         *lists[i] = missing;
-        expect_both(&run, nothing_done(), "null: a list of the run");
+        expect_all(&run, nothing_done(), "null: a list of the run");
         *lists[i] = no_entries;
-        expect_both(&run, refused(RZ_WRONG_LENGTH, i + 1), "null: no entries in the run");
+        expect_all(&run, refused(RZ_WRONG_LENGTH, i + 1), "null: no entries in the run");
     }
-    expect_both(NULL, nothing_done(), "null: run");
+    expect_all(NULL, nothing_done(), "null: run");
 }
 
 /* Case G's one round: its store is a list without entries. */
@@ -713,6 +871,29 @@ static void expect_nulls_in_judging(void) {
     expect_answer(rz_judge_answer(&run, queries, no_entries, last), accepted(4), "null: no store");
 }
 
+/* Case G again. Bytes that are not there are list 8 without entries. */
+static void expect_nulls_in_writing(void) {
+    const struct rz_run run = run_g();
+    const struct rz_list queries = RZ_LIST(queries_g), last = RZ_LIST(last_g);
+    uint8_t bytes[sizeof case_g];
+    const size_t all = sizeof bytes, none = sizeof bytes - 8 * LENGTH(queries_g);
+
+    memset(bytes, 0, sizeof bytes);
+    expect_answer(rz_write_transcript_answer(&run, missing, no_entries, last, bytes, all),
+                  nothing_done(), "null: queries written");
+    expect_answer(rz_write_transcript_answer(&run, queries, missing, last, bytes, all),
+                  nothing_done(), "null: store written");
+    expect_answer(rz_write_transcript_answer(&run, queries, no_entries, missing, bytes, all),
+                  nothing_done(), "null: last written");
+    expect_answer(rz_write_transcript_answer(&run, queries, no_entries, last, NULL, all),
+                  nothing_done(), "null: bytes to be written");
+    expect_answer(rz_write_transcript_answer(&run, queries, no_entries, last, NULL, 0),
+                  refused(RZ_WRONG_LENGTH, 8), "null: no bytes to be written");
+    expect_answer(rz_write_transcript_answer(&run, no_entries, no_entries, last, bytes, none),
+                  refused(RZ_QUERY_COUNT_OUT_OF_RANGE, RZ_NONE), "null: no queries written");
+    expect(bytes[0] == 0, "null: bytes where nothing was done");
+}
+
 static void expect_other_nulls(void) {
     const struct rz_answer empty_part = answer_with(RZ_ACCEPTED, 0, RZ_NONE, 0, 0);
 
@@ -729,6 +910,7 @@ static void expect_nulls(void) {
     expect_nulls_in_shared_lists();
     expect_nulls_in_proofs();
     expect_nulls_in_judging();
+    expect_nulls_in_writing();
     expect_other_nulls();
 }
 
@@ -742,6 +924,7 @@ int main(void) {
         expect_raw_fold(length);
         expect_raw_run(length);
         expect_raw_transcripts(length);
+        expect_raw_writing(length);
     }
     expect_codes();
     expect_codes_refused();
@@ -751,6 +934,8 @@ int main(void) {
     expect_runs_refused();
     expect_own_numbers();
     expect_transcripts();
+    expect_writing();
+    expect_writings_refused();
     expect_trap();
     expect_all_lengths();
     expect_nulls();
