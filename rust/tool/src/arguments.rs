@@ -1,6 +1,6 @@
 //! What the command is asked for.
 
-use crate::files::STANDARD_INPUT;
+use crate::files::STANDARD;
 use crate::lines::shown;
 use std::ffi::{OsStr, OsString};
 use std::num::NonZero;
@@ -16,6 +16,7 @@ pub fn usage() -> &'static str {
 
 pub enum Command {
     Judge(Request),
+    Write(Writing),
     Help,
     Version,
 }
@@ -26,11 +27,19 @@ pub struct Request {
     pub jobs: usize,
 }
 
+pub struct Writing {
+    pub assignment: OsString,
+    pub out: OsString,
+    /// Whether a file that is there is written over.
+    pub force: bool,
+}
+
 /// The command that the arguments ask for, or what is wrong with them.
 pub fn command(mut arguments: impl Iterator<Item = OsString>) -> Result<Command, String> {
     let name = arguments.next().ok_or("no command")?;
     match name.to_str() {
         Some("judge") => to_judge(arguments),
+        Some("write") => to_write(arguments),
         Some("--help" | "-h") => Ok(Command::Help),
         Some("--version" | "-V") => Ok(Command::Version),
         _ => Err(format!("no such command: {}", shown(&name))),
@@ -50,15 +59,37 @@ fn to_judge(mut arguments: impl Iterator<Item = OsString>) -> Result<Command, St
             Some("--explain") => request.explain = true,
             Some("--jobs") => request.jobs = jobs(arguments.next().as_deref())?,
             Some("--") => request.files.extend(&mut arguments),
-            Some(STANDARD_INPUT) => request.files.push(argument),
+            Some(STANDARD) => request.files.push(argument),
             _ => return Err(format!("no such option: {}", shown(&argument))),
         }
     }
-    match request.files.iter().filter(|file| *file == STANDARD_INPUT).count() {
+    match request.files.iter().filter(|file| *file == STANDARD).count() {
         _ if request.files.is_empty() => Err("no file".to_string()),
         0 | 1 => Ok(Command::Judge(request)),
         _ => Err("standard input can be read only once".to_string()),
     }
+}
+
+fn to_write(mut arguments: impl Iterator<Item = OsString>) -> Result<Command, String> {
+    let (mut names, mut force) = (Vec::new(), false);
+    while let Some(argument) = arguments.next() {
+        if !argument.as_encoded_bytes().starts_with(b"-") {
+            names.push(argument);
+            continue;
+        }
+        unless_a_file(&argument)?;
+        match argument.to_str() {
+            Some("--help" | "-h") => return Ok(Command::Help),
+            Some("--force") => force = true,
+            Some("--") => names.extend(&mut arguments),
+            Some(STANDARD) => names.push(argument),
+            _ => return Err(format!("no such option: {}", shown(&argument))),
+        }
+    }
+    let [assignment, out] = <[OsString; 2]>::try_from(names).map_err(|names| {
+        format!("write takes two names, ASSIGNMENT and OUT; given: {}", names.len())
+    })?;
+    Ok(Command::Write(Writing { assignment, out, force }))
 }
 
 /// An option that is also the name of a file may come from a pattern like `*`: the file would go
@@ -84,11 +115,12 @@ fn cores() -> usize {
 #[cfg(test)]
 mod tests {
     use super::*;
-    use crate::files::LONGEST;
+    use crate::{assignment, files};
 
     #[test]
     fn the_help_names_what_is_read() {
-        let read = (LONGEST + 1).to_string();
-        assert!(HELP.replace(',', "").contains(&format!("at most {read} bytes")));
+        for most in [files::LONGEST + 1, assignment::LONGEST] {
+            assert!(HELP.replace(',', "").contains(&format!("at most {most} bytes")), "{most}");
+        }
     }
 }

@@ -15,17 +15,18 @@ const AFTER_ACCEPTANCE: &str =
 pub fn text(verdict: &Verdict) -> String {
     match verdict {
         Ok(_) => format!("    number 0: accepted\n    {AFTER_ACCEPTANCE}"),
-        Err(refusal) => {
-            // The library may add a cause that has no row yet.
-            let next = after_refusal(refusal.cause).unwrap_or("Hold.");
-            format!("    {refusal}\n    {next}")
-        }
+        Err(refusal) => format!("    {refusal}\n    {}", after_refusal(refusal.cause)),
     }
 }
 
-/// What an operator does next after a refusal: in the table of numbers, behind number, cause,
-/// place and round.
-fn after_refusal(cause: Cause) -> Option<&'static str> {
+/// What an operator does next after a refusal.
+pub fn after_refusal(cause: Cause) -> &'static str {
+    // The library may add a cause that has no row yet.
+    documented(cause).unwrap_or("Hold.")
+}
+
+/// The same in the table of numbers, behind number, cause, place and round.
+fn documented(cause: Cause) -> Option<&'static str> {
     let front = format!("| {} | {} |", cause.number(), cause.words());
     let rest = NUMBERS.lines().find_map(|line| line.strip_prefix(&front))?;
     rest.split('|').nth(2).map(str::trim)
@@ -38,7 +39,7 @@ mod tests {
     #[test]
     fn every_cause_has_its_next_step() {
         for cause in Cause::ALL {
-            let next = after_refusal(*cause).unwrap_or_else(|| panic!("no row for {cause}"));
+            let next = documented(*cause).unwrap_or_else(|| panic!("no row for {cause}"));
             assert!(next.starts_with("Hold") || next.starts_with("Nothing to settle"), "{cause}");
             assert!(next.ends_with('.'), "{cause}");
         }

@@ -5,8 +5,8 @@ use std::fs::File;
 use std::io::{self, Read};
 use std::os::fd::AsFd;
 
-/// The name that stands for standard input.
-pub const STANDARD_INPUT: &str = "-";
+/// The name that stands for standard input, or for standard output where something is written.
+pub const STANDARD: &str = "-";
 
 /// The length in bytes of the longest transcript that can pass: k 20, rate 1, step 1, so 19
 /// rounds. A section is a count in 4 bytes and entries in 8. The sections are parameters,
@@ -14,13 +14,14 @@ pub const STANDARD_INPUT: &str = "-";
 /// 2^19 .. 2^2 entries have 2^21 - 4 together.
 pub const LONGEST: usize = 4 * (4 + 19 + 1) + 8 * (3 + 21 + 19 + 256 + ((1 << 21) - 4) + 1);
 
-/// Makes `bytes` those of the file, or its first `LONGEST` + 1 where it has more: it is proved
-/// that these get the verdict of all (`LongTranscripts`, crates/transcript/specs/Theorems.antt).
-pub fn read(file: &OsStr, bytes: &mut Vec<u8>) -> io::Result<()> {
-    if file == STANDARD_INPUT {
-        fill(bytes, descriptor(io::stdin())?)
+/// Makes `bytes` those of the file, or its first `most` where it has more. Of a transcript it is
+/// proved that its first `LONGEST` + 1 bytes get the verdict of all (`LongTranscripts`,
+/// crates/transcript/specs/Theorems.antt).
+pub fn read(file: &OsStr, most: usize, bytes: &mut Vec<u8>) -> io::Result<()> {
+    if file == STANDARD {
+        fill(bytes, most, descriptor(io::stdin())?)
     } else {
-        fill(bytes, File::open(file)?)
+        fill(bytes, most, File::open(file)?)
     }
 }
 
@@ -30,26 +31,18 @@ pub fn descriptor(stream: impl AsFd) -> io::Result<File> {
     Ok(File::from(stream.as_fd().try_clone_to_owned()?))
 }
 
-fn fill(bytes: &mut Vec<u8>, source: impl Read) -> io::Result<()> {
+fn fill(bytes: &mut Vec<u8>, most: usize, source: impl Read) -> io::Result<()> {
     bytes.clear();
     // Room for all from the start: a list that grows as it is read takes up to twice of it.
-    bytes.reserve_exact(LONGEST + 1);
-    source.take(LONGEST as u64 + 1).read_to_end(bytes)?;
+    bytes.reserve_exact(most);
+    source.take(most as u64).read_to_end(bytes)?;
     Ok(())
 }
 
 #[cfg(test)]
 mod tests {
     use super::*;
-    use razgwilh::{judge_transcript, last_length, rounds, store_length, Accepted, Cause};
-
-    /// The length of a transcript with these parameters and 256 queries.
-    fn length(k: usize, rate: usize, step: usize) -> usize {
-        let rounds = rounds(k, rate, step);
-        let layers = (1 << k) + store_length(k, rate, step);
-        let entries = 3 + (1 + k) + rounds + 256 + layers + last_length(k, rate, step);
-        4 * (4 + rounds + 1) + 8 * entries
-    }
+    use razgwilh::{judge_transcript, transcript_length, Accepted, Cause};
 
     #[test]
     fn no_transcript_is_longer() {
@@ -57,7 +50,7 @@ mod tests {
         for k in 2..=20 {
             for rate in 1..=6 {
                 for step in 1..=3 {
-                    longest = longest.max(length(k, rate, step));
+                    longest = longest.max(transcript_length(k, rate, step, 256));
                 }
             }
         }
@@ -88,7 +81,7 @@ mod tests {
         for length in [LONGEST - 1, LONGEST, LONGEST + 1, LONGEST + 10, 2 * LONGEST] {
             let mut bytes = whole.clone();
             bytes.resize(length, 0xa5);
-            fill(&mut read, bytes.as_slice()).unwrap();
+            fill(&mut read, LONGEST + 1, bytes.as_slice()).unwrap();
             assert_eq!(read.len(), length.min(LONGEST + 1));
             assert!(read.capacity() <= LONGEST + 1);
 

@@ -2,31 +2,16 @@
 
 use crate::arguments::Request;
 use crate::lines::{line, shown, Verdict, HEADER};
-use crate::{complain, explain, files, pool};
+use crate::{complain, explain, files, pool, Status};
 use std::ffi::{OsStr, OsString};
 use std::io::{self, IsTerminal, LineWriter, Write};
-use std::process::ExitCode;
-
-/// The exit status, the worst one last.
-#[derive(Clone, Copy, Debug, PartialEq, Eq, PartialOrd, Ord)]
-pub enum Status {
-    Accepted = 0,
-    Refused = 1,
-    Failed = 2,
-}
-
-impl From<Status> for ExitCode {
-    fn from(status: Status) -> ExitCode {
-        ExitCode::from(status as u8)
-    }
-}
 
 /// Judges all files and gives the worst status. Fails where standard output cannot be written;
 /// a file that cannot be read does not keep the others from being judged.
 pub fn judge(request: &Request) -> io::Result<Status> {
     let mut out = LineWriter::new(files::descriptor(io::stdout())?);
     let mut progress = Progress::of(request.files.len());
-    let mut worst = Status::Accepted;
+    let mut worst = Status::Done;
     writeln!(out, "{HEADER}")?;
     progress.show();
     pool::in_order(&request.files, request.jobs, verdict, |file, verdict| {
@@ -42,7 +27,7 @@ pub fn judge(request: &Request) -> io::Result<Status> {
 }
 
 fn verdict(file: &OsString, buffer: &mut Vec<u8>) -> io::Result<Verdict> {
-    files::read(file, buffer)?;
+    files::read(file, files::LONGEST + 1, buffer)?;
     Ok(razgwilh::judge_transcript(buffer))
 }
 
@@ -63,7 +48,7 @@ fn report(
     if explained {
         writeln!(out, "{}", explain::text(&verdict))?;
     }
-    Ok(if verdict.is_ok() { Status::Accepted } else { Status::Refused })
+    Ok(if verdict.is_ok() { Status::Done } else { Status::Refused })
 }
 
 /// A line on standard error that says how far the judging is, where that is a terminal.

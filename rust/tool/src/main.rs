@@ -1,18 +1,33 @@
-//! The command `razgwilh`: transcripts from files, judged by the proved library. `HELP` says
-//! what it prints and what of it is proved.
+//! The command `razgwilh`: transcripts from files, judged by the proved library, and written by
+//! it from assignments. `HELP` says what it prints and what of it is proved.
 
 mod arguments;
+mod assignment;
 mod explain;
 mod files;
 mod judge;
 mod lines;
 mod pool;
+mod write;
 
 use arguments::{Command, HELP};
-use judge::Status;
 use std::env;
 use std::io::{self, Write};
 use std::process::ExitCode;
+
+/// The exit status, the worst one last.
+#[derive(Clone, Copy, Debug, PartialEq, Eq, PartialOrd, Ord)]
+pub enum Status {
+    Done = 0,
+    Refused = 1,
+    Failed = 2,
+}
+
+impl From<Status> for ExitCode {
+    fn from(status: Status) -> ExitCode {
+        ExitCode::from(status as u8)
+    }
+}
 
 fn main() -> ExitCode {
     match arguments::command(env::args_os().skip(1)) {
@@ -31,6 +46,7 @@ fn main() -> ExitCode {
 fn run(command: Command) -> io::Result<ExitCode> {
     match command {
         Command::Judge(request) => judge::judge(&request).map(ExitCode::from),
+        Command::Write(request) => Ok(write::write(&request).into()),
         Command::Help => print(HELP),
         Command::Version => print(concat!("razgwilh ", env!("CARGO_PKG_VERSION"), "\n")),
     }
