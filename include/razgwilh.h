@@ -117,7 +117,7 @@ enum rz_number {
     /* layer r has degree d or more; the prover alone gives it */
     RZ_DEGREE_TOO_LARGE = 12,
     /* a lent list has the wrong length: 1 basis, 2 challenges, 3 word or encoder coefficients,
-     * 4 store, 5 last coefficients, 6 output values, 7 next basis */
+     * 4 store, 5 last coefficients, 6 output values, 7 next basis, 8 bytes of a transcript */
     RZ_WRONG_LENGTH = 13,
     /* the program's input has over 65,536 bytes; the program `judge` alone gives it, and no
      * function of this header */

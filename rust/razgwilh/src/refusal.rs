@@ -36,7 +36,8 @@ pub enum Cause {
     /// that degree. Only a prover refuses so.
     DegreeTooLarge = 12,
     /// A lent list has the wrong length; the place is the list: 1 basis, 2 challenges, 3 word
-    /// or encoder coefficients, 4 store, 5 last coefficients, 6 output values, 7 next basis.
+    /// or encoder coefficients, 4 store, 5 last coefficients, 6 output values, 7 next basis, 8
+    /// bytes of a transcript.
     WrongLength = 13,
     /// The input of the program `judge` has over 65,536 bytes. No call of this crate refuses
     /// so.
@@ -97,7 +98,8 @@ impl Cause {
             Cause::DegreeTooLarge => "layer r has degree d or more",
             Cause::WrongLength => {
                 "a lent list has the wrong length: 1 basis, 2 challenges, 3 word or encoder \
-                 coefficients, 4 store, 5 last coefficients, 6 output values, 7 next basis"
+                 coefficients, 4 store, 5 last coefficients, 6 output values, 7 next basis, \
+                 8 bytes of a transcript"
             }
             Cause::InputTooLong => "the program's input has over 65,536 bytes",
             Cause::InverseOfZero => "the inverse of zero",
