@@ -1,7 +1,7 @@
 //! The causes are those of docs/NUMBERS.md, and no answer reads as accepted but number 0.
 
 use razgwilh::raw::{Answer, NONE};
-use razgwilh::{Cause, Refusal, Run};
+use razgwilh::{transcript_length, write_transcript, Cause, Refusal, Run};
 
 #[test]
 fn causes_are_those_of_the_table() {
@@ -45,4 +45,21 @@ fn a_run_tells_its_lengths() {
     let run = Run { k: 20, rate: 6, step: 3, offset: 0, basis, challenges, word };
     let store_length = (1 << 17) + (1 << 14) + (1 << 11);
     assert_eq!((run.rounds(), run.store_length(), run.last_length()), (4, store_length, 4));
+    let entries = 3 + 21 + 4 + 256 + (1 << 20) + store_length + 4;
+    assert_eq!(run.transcript_length(256), 4 * 9 + 8 * entries);
+    assert_eq!([transcript_length(21, 6, 3, 1), transcript_length(20, 6, 3, 1 << 60)], [0, 0]);
+}
+
+#[test]
+fn a_list_of_bytes_that_does_not_fit_is_left_alone() {
+    let (basis, challenges, word) = (&[1, 2], &[4], &[7, 4, 1, 2]);
+    let run = Run { k: 2, rate: 1, step: 1, offset: 0, basis, challenges, word };
+    let mut bytes = vec![0xa5; run.transcript_length(2) + 1];
+    let refusal = write_transcript(run, &[0, 3], &[], &[0xb], &mut bytes).unwrap_err();
+    assert_eq!((refusal.cause, refusal.place), (Cause::WrongLength, Some(8)));
+    assert!(bytes.iter().all(|byte| *byte == 0xa5));
+
+    bytes.pop();
+    assert_eq!(write_transcript(run, &[0, 3], &[], &[0xb], &mut bytes), Ok(()));
+    assert_eq!(bytes, include_bytes!("../../../examples/g.transcript"));
 }
