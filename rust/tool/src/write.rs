@@ -131,3 +131,34 @@ fn discard(out: &OsStr, file: &File) {
         let _ = fs::canonicalize(out).and_then(fs::remove_file);
     }
 }
+
+#[cfg(test)]
+mod tests {
+    use super::*;
+    use razgwilh::judge_transcript;
+
+    /// Case K with any byte made any other: most are no assignment, or are refused.
+    #[test]
+    fn what_is_written_is_accepted() {
+        let case_k = include_bytes!("../../../examples/k.assignment");
+        let (mut refused, mut accepted) = (0, 0);
+        for place in 0..case_k.len() {
+            for byte in 0..=u8::MAX {
+                let mut bytes = case_k.to_vec();
+                bytes[place] = byte;
+                let Ok(assignment) = Assignment::read(&bytes) else { continue };
+                match transcript(&assignment) {
+                    Ok(transcript) => {
+                        assert!(judge_transcript(&transcript).is_ok(), "{place}, {byte}");
+                        accepted += 1;
+                    }
+                    Err(refusal) => {
+                        assert!(spoken_of(&refusal).is_some(), "{refusal}");
+                        refused += 1;
+                    }
+                }
+            }
+        }
+        assert!(refused > 50 && accepted > 50, "{refused} refused, {accepted} accepted");
+    }
+}
