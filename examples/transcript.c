@@ -1,6 +1,6 @@
-/* Case K from its polynomial to a file: encoded, proved, written as a transcript and judged. Prints
- * the bytes of examples/k.transcript where the judge accepts them; exits with 1 where anything is
- * refused. */
+/* Case K from its polynomial to a file: encoded, proved, written as a transcript and judged.
+ * Prints the bytes of examples/k.transcript where the judge accepts them; exits with 1 where
+ * anything is refused or cannot be printed. */
 #include "razgwilh.h"
 
 #include <inttypes.h>
