@@ -1,12 +1,14 @@
-//! The judge over the bytes of a transcript beside the judge over the same lists.
+//! The judge over the bytes of a transcript beside the judge over the same lists; the writing of
+//! those bytes beside the same method in Rust and beside a copy.
 
 use super::inputs::{Inputs, RATE};
 use super::judge::{Proof, TURNS};
-use super::layers::{dimension, layer_start};
+use super::layers::{check_bases, dimension, layer_start};
 use super::prover::proved;
+use crate::arithmetic::{Arithmetic, Windowed};
 use crate::beside::{work, Operation};
 use crate::clock::{table, Work};
-use razgwilh::judge_transcript;
+use razgwilh::{judge_transcript, write_transcript, Refusal};
 use std::hint::black_box;
 
 /// With few queries the sections weigh most, which only the judge over bytes walks through.
@@ -18,19 +20,31 @@ pub fn report(inputs: &Inputs) {
          1.15 of the judge over lists:",
         inputs.word.len()
     );
+    with_proofs(inputs, |proof| {
+        for count in QUERIES {
+            compare_judges(Proof { queries: &proof.queries[..count], ..proof });
+        }
+    });
+    println!(
+        "\nwriting the transcript of {} entries with rate {RATE} and {} queries, wanted at most \
+         1.30 of the same method:",
+        inputs.word.len(),
+        inputs.queries.len()
+    );
+    with_proofs(inputs, |proof| compare_writers(Transcript(proof)));
+}
+
+/// Lends what is proved with each step.
+fn with_proofs(inputs: &Inputs, compare: impl Fn(Proof)) {
     for step in 1..=3 {
         let run = inputs.run(step);
         let (store, last) = proved(run);
-        for count in QUERIES {
-            let queries = &inputs.queries[..count];
-            compare_judges(Proof { run, queries, store: &store, last: &last });
-        }
+        compare(Proof { run, queries: &inputs.queries, store: &store, last: &last });
     }
 }
 
 fn compare_judges(proof: Proof) {
-    let mut bytes = vec![0; length(&proof)];
-    write(&proof, &mut bytes);
+    let bytes = Transcript(proof).written();
     let accepted = proof.by_library(&mut ()).expect("what was proved is accepted");
     assert_eq!(judge_transcript(&bytes), Ok(accepted));
     println!("  step {}, queries {}:", proof.run.step, proof.queries.len());
@@ -40,12 +54,56 @@ fn compare_judges(proof: Proof) {
     table([over_bytes, over_lists], TURNS, "µs", 1e3);
 }
 
-/// How many bytes the transcript has.
-fn length(proof: &Proof) -> usize {
-    let Proof { run, queries, store, last } = proof;
-    let rounds = run.challenges.len();
-    let small = 3 + 1 + run.k + rounds + queries.len() + last.len();
-    4 * (5 + rounds) + 8 * (small + run.word.len() + store.len())
+fn compare_writers(transcript: Transcript) {
+    let (bytes, mut by_rust) = (transcript.written(), transcript.room());
+    transcript.by(Windowed, &mut by_rust).expect("nothing to refuse");
+    assert!(by_rust == bytes, "the two differ");
+    println!("  step {}, {} bytes:", transcript.0.run.step, bytes.len());
+    let mut room = transcript.room();
+    let copy = || {
+        room.copy_from_slice(black_box(&bytes));
+        black_box(&room).len() as u64
+    };
+    let works = [
+        work(transcript, ("the library", Operation::by_library)),
+        work(transcript, ("the same method in Rust", |given, room| given.by(Windowed, room))),
+        Work { name: "a copy of as many bytes", run: Box::new(copy) },
+    ];
+    table(works, TURNS, "ms", 1e6);
+}
+
+/// What a transcript is written of.
+#[derive(Clone, Copy)]
+struct Transcript<'a>(Proof<'a>);
+
+impl Transcript<'_> {
+    fn written(self) -> Vec<u8> {
+        let mut bytes = self.room();
+        self.by_library(&mut bytes).expect("nothing to refuse");
+        bytes
+    }
+}
+
+/// The library's method: the checks, then section after section, entry by entry. Of the checks
+/// only those of the bases are made; the others compare some three hundred numbers.
+impl Operation for Transcript<'_> {
+    type Room = Vec<u8>;
+    type Answer = Result<(), Refusal>;
+
+    fn room(self) -> Vec<u8> {
+        vec![0; self.0.run.transcript_length(self.0.queries.len())]
+    }
+
+    fn by_library(self, bytes: &mut Vec<u8>) -> Self::Answer {
+        let Proof { run, queries, store, last } = self.0;
+        write_transcript(run, queries, store, last, bytes)
+    }
+
+    fn by(self, arithmetic: impl Arithmetic, bytes: &mut Vec<u8>) -> Self::Answer {
+        check_bases(arithmetic, &self.0.run);
+        write(&self.0, bytes);
+        Ok(())
+    }
 }
 
 /// Fills in the transcript: parameters, offset and basis, challenges, queries, layers, last
