@@ -1,3 +1,2 @@
 mod Lengths
 mod Checks
-mod Sections

@@ -1,7 +1,7 @@
--- The writer's promise in named parts, and what its parts check and put.
+-- The writer's promise in named parts, and the checks after those of lists 1 to 5.
 use mathlib.Core.Path.{_≡_}
-use mathlib.Core.List.{List, [], _∷_}
-use Prim.Native.Nat.{ℕ, zero, suc}
+use mathlib.Core.List.{List}
+use Prim.Native.Nat.{ℕ}
 use lib.Dec.{eqb}
 use lib.ListN.{length}
 use Rattle.refusal.specs.declared.Cause.the-variants.{WrongLength}
@@ -10,7 +10,6 @@ use Rattle.refusal.specs.declared.Outcome.the-variants.{Done}
 use Rattle.refusal.specs.Checks.{refusedUnless, andThen}
 use Rattle.fri.specs.Run.{Run}
 use Rattle.fri.specs.Layout.{stepAt}
-use Rattle.fri.specs.Lookup.{layerPart}
 use Rattle.fri.specs.Checks.{basesOutcome, queriesOutcome}
 use Rattle.layout.specs.declared.Parameters.{Parameters}
 use Rattle.layout.specs.Parameters.{stepsBy}
@@ -28,9 +27,3 @@ sizedOutcome p basis queries size =
     let needed = transcriptLength (p .k) (p .rate) (stepsBy p) (length queries) in
     andThen (refusedUnless (eqb size needed) (WrongLength 8) Done)
     (andThen (basesOutcome (stepsBy p) basis) (queriesOutcome (p .k) (stepAt (stepsBy p) 0) queries))
-
--- layer i of a store and those after it, `left` of them, as the lookup hands them back
-unfoldable pub storedLayers : (p : Parameters) (store : List ℕ) (i left : ℕ) → List (List ℕ)
-storedLayers p store i zero = []
-storedLayers p store i (suc left) =
-    layerPart (p .k) (p .rate) (p .step) store i ∷ storedLayers p store (suc i) left

@@ -9,6 +9,7 @@ use Rattle.fri.specs.Run.{Run}
 use Rattle.layout.specs.Parameters.{runOf}
 use Rattle.written.specs.Transcript.{transcriptOf}
 use Rattle.written.specs.Writer.{writeOutcome}
+use Rattle.writer.proofs.Checks.{passed-valid, passed-fits, passed-size}
 use Rattle.writer.proofs.write.Statement.{statement}
 use Rattle.writer.proofs.write.Tie as tie
 
@@ -44,7 +45,17 @@ enum-told : tie.Need-enum-told
 enum-told c = search needs
 
 put-transcript-requires : tie.Need-put-transcript-requires
-put-transcript-requires c κs = passed (c .before)
+put-transcript-requires c κs =
+    let told = c .before in
+    let checked = told .before .before in
+    let a = start-of checked .args in
+    let run = run-at checked in
+    let asked = a .queries .now in
+    let size = length (a .bytes .now) in (
+      passed-valid run asked size (passed told),
+      passed-fits run asked size (passed told),
+      passed-size run asked size (passed told),
+    )
 
 enum-known-outcome : tie.Need-enum-known-outcome
 enum-known-outcome c = search needs

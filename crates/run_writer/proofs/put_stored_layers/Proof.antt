@@ -1,5 +1,5 @@
--- `writer::put_stored_layers` meets its contract. The loop's invariant: the layers before the i-th are put, and the
--- others are to come. Assumes nothing.
+-- `run_writer::put_stored_layers` meets its contract. The loop's invariant: the layers before the i-th are put, and
+-- the others are to come. Assumes nothing.
 use mathlib.Core.Path.{_≡_, sym, ap, _∙_}
 use mathlib.Core.List.{List, _++_}
 use Prim.Native.Nat.{ℕ, _+_, _-_, _≤_, _<_}
@@ -11,10 +11,10 @@ use Rattle.layout.specs.Parameters.{stepsBy}
 use Rattle.layout.proofs.Sizes.{one-round}
 use Rattle.section_writer.proofs.Pieces.{PutUpTo, nothing-put, next-piece, all-put}
 use Rattle.written.specs.Bytes.{sectionBytes, sectionsBytes}
-use Rattle.writer.specs.Written.{storedLayers}
-use Rattle.writer.proofs.Sections.{section-fits, layers-from, layers-none}
-use Rattle.writer.proofs.put_stored_layers.Statement.{statement}
-use Rattle.writer.proofs.put_stored_layers.Tie as tie
+use Rattle.run_writer.specs.Layers.{storedLayers}
+use Rattle.run_writer.proofs.Sections.{section-fits, layers-from, layers-none}
+use Rattle.run_writer.proofs.put_stored_layers.Statement.{statement}
+use Rattle.run_writer.proofs.put_stored_layers.Tie as tie
 
 abbrev Inv-loop : tie.InvT-loop
 Inv-loop parameters store at out₀ rounds place₀ i₀ out place i =

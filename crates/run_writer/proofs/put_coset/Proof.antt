@@ -1,13 +1,13 @@
--- `writer::put_coset` meets its contract: the count, then the offset, then the basis. Assumes nothing.
+-- `run_writer::put_coset` meets its contract: the count, then the offset, then the basis. Assumes nothing.
 use native.Mathlib.Omega.{arith}
 use Prim.Native.Nat.{_+_}
 use lib.ListN.{length}
 use borrow.Author.Needs.{needs}
 use Rattle.placing.proofs.Placing.{put-append, put-same, length-put}
 use Rattle.written.proofs.Bytes.{length-number}
-use Rattle.writer.proofs.Sections.{coset-section}
-use Rattle.writer.proofs.put_coset.Statement.{statement}
-use Rattle.writer.proofs.put_coset.Tie as tie
+use Rattle.run_writer.proofs.Sections.{coset-section}
+use Rattle.run_writer.proofs.put_coset.Statement.{statement}
+use Rattle.run_writer.proofs.put_coset.Tie as tie
 
 add-put-count : tie.Need-add-put-count
 add-put-count c = search needs

@@ -1,23 +1,22 @@
--- `writer::put_transcript` meets its contract. After each section is said what stands in the list and what is to come.
--- Assumes nothing.
-use mathlib.Core.Path.{_≡_, refl}
+-- `run_writer::put_transcript` meets its contract. After each section is said what stands in the list and what is to
+-- come. Assumes nothing.
+use mathlib.Core.Path.{refl}
 use mathlib.Core.List.{List, [], _∷_}
 use Prim.Native.Nat.{ℕ, _+_, _-_, _≤_}
 use native.Mathlib.Omega.{arith}
 use lib.ListN.{length}
 use borrow.Author.Needs.{needs}
 use Rattle.fri.specs.Run.{Run, roundsIn}
-use Rattle.fri.specs.Theorems.{Fit}
-use Rattle.layout.specs.Parameters.{Valid, runOf}
+use Rattle.layout.specs.Parameters.{runOf}
 use Rattle.section_writer.proofs.Pieces.{PutUpTo, nothing-put, next-piece, piece-fits, all-put, whole-list}
 use Rattle.written.specs.Bytes.{sectionsBytes}
 use Rattle.written.specs.Transcript.{transcriptOf}
-use Rattle.writer.specs.Written.{storedLayers}
-use Rattle.writer.proofs.Checks.{passed-valid, passed-fits, passed-size}
-use Rattle.writer.proofs.Sections.{from-coset, from-challenges, from-queries, from-word, from-store, from-last}
-use Rattle.writer.proofs.Sections.{section-fits, all-sections}
-use Rattle.writer.proofs.put_transcript.Statement.{statement}
-use Rattle.writer.proofs.put_transcript.Tie as tie
+use Rattle.run_writer.specs.Layers.{storedLayers}
+use Rattle.run_writer.proofs.Sections.{from-coset, from-challenges, from-queries, from-word}
+use Rattle.run_writer.proofs.Sections.{from-store, from-last}
+use Rattle.run_writer.proofs.Sections.{section-fits, all-sections}
+use Rattle.run_writer.proofs.put_transcript.Statement.{statement}
+use Rattle.run_writer.proofs.put_transcript.Tie as tie
 
 -- the run of the call
 abbrev run-at : tie.Start → Run
@@ -29,34 +28,15 @@ run-at c =
 abbrev queries-at : tie.Start → List ℕ
 queries-at c = c .args .queries .now
 
--- what the checks leave known
-abbrev ValidAt : tie.Start → Type 0
-ValidAt c = Valid (c .args .parameters)
-
-valid : (c : tie.Start) → ValidAt c
-valid c = passed-valid (run-at c) (queries-at c) (length (c .args .bytes .now)) (c .pre)
-
-abbrev FitAt : tie.Start → Type 0
-FitAt c = Fit (run-at c)
-
-fits : (c : tie.Start) → FitAt c
-fits c = passed-fits (run-at c) (queries-at c) (length (c .args .bytes .now)) (c .pre)
-
--- what is to be put, and that the list is as long
+-- what is to be put, for which there is room
 abbrev whole : tie.Start → List ℕ
 whole c = transcriptOf (run-at c) (queries-at c)
-
-abbrev Sized : tie.Start → Type 0
-Sized c = length (c .args .bytes .now) ≡ length (whole c)
-
-sized : (c : tie.Start) → Sized c
-sized c = passed-size (run-at c) (queries-at c) (length (c .args .bytes .now)) (c .pre)
 
 abbrev Room : tie.Start → Type 0
 Room c = 0 + length (whole c) ≤ length (c .args .bytes .now)
 
 room : (c : tie.Start) → Room c
-room c = omega (arith, sized c)
+room c = omega (arith, c .pre .2)
 
 -- the sections before `place` stand in the list, and the rest is to come
 abbrev UpTo : (c : tie.Start) (rest : List ℕ) (place : ℕ) (left : List ℕ) → Type 0
@@ -75,7 +55,7 @@ numbers-put : (c : tie.After-put-section) → NumbersPut c
 numbers-put c =
     let s = numbers-start c in
     next-piece (nothing-put (s .args .bytes .now) (whole s) 0 (omega arith))
-    (all-sections (run-at s) (queries-at s) (valid s) (fits s)) (c .put-section .ensures)
+    (all-sections (run-at s) (queries-at s) (s .pre .0) (s .pre .1)) (c .put-section .ensures)
 
 -- the coset stands
 abbrev coset-start : tie.After-put-coset → tie.Start
@@ -158,7 +138,7 @@ put-section-requires c κs =
     let s = c .before .before .before .before .before .before .before .before .before in
     let p = s .args .parameters in
     section-fits (p .k ∷ p .rate ∷ p .step ∷ []) (from-coset (run-at s) (queries-at s))
-    (all-sections (run-at s) (queries-at s) (valid s) (fits s))
+    (all-sections (run-at s) (queries-at s) (s .pre .0) (s .pre .1))
     (nothing-put (s .args .bytes .now) (whole s) 0 (omega arith)) (room s)
 
 put-coset-requires : tie.Need-put-coset-requires
@@ -197,7 +177,7 @@ put-stored-layers-requires c κs =
     let a = s .args in
     let run = run-at s in
     let layers = sectionsBytes (storedLayers (a .parameters) (a .store .now) 1 (roundsIn run - 1)) in
-    (valid s, piece-fits (word-put before) layers (from-last run (a .queries .now)) refl (room s))
+    (s .pre .0, piece-fits (word-put before) layers (from-last run (a .queries .now)) refl (room s))
 
 put-section-requires-5 : tie.Need-put-section-requires-5
 put-section-requires-5 c κs =
@@ -211,7 +191,7 @@ same-length c = search needs
 returns : tie.Need-returns
 returns c =
     let before = c .before .before in
-    whole-list (all-put (last-put before) refl) (sized (last-start before))
+    whole-list (all-put (last-put before) refl) (last-start before .pre .2)
 
 pub put-transcript-spec : {M : Type 1} → statement M
 put-transcript-spec =

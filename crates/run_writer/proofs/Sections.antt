@@ -16,7 +16,7 @@ use Rattle.section_writer.proofs.Pieces.{PutUpTo, piece-fits}
 use Rattle.written.specs.Bytes.{countBytes, entryBytes, entriesBytes, sectionBytes, sectionsBytes}
 use Rattle.written.specs.Transcript.{layersThenLast, transcriptOf}
 use Rattle.written.proofs.Bytes.{length-sectionBytes}
-use Rattle.writer.specs.Written.{storedLayers}
+use Rattle.run_writer.specs.Layers.{storedLayers}
 
 -- there is room for a section that is to come
 pub section-fits : {held : List ℕ} {at : ℕ} {whole rest : List ℕ} {place : ℕ} {left : List ℕ}
