@@ -11,7 +11,11 @@ use Rattle.fri.specs.Judge.{verdictOf}
 use Rattle.fri.specs.Demand.{Any, Accepted, Visits}
 use Rattle.fri.proofs.Soundness.{soundness}
 use Rattle.fri.proofs.Completeness.{completeness, honest-proofs}
-use Rattle.end_to_end.specs.Theorems.{leaving, Judging, Judged, ProvedIsAccepted, JudgedSoundness}
+use Rattle.transcript.specs.Judge.{transcriptVerdict}
+use Rattle.written.specs.Writer.{writeOutcome, bytesAfter}
+use Rattle.written.proofs.Written.{written-bytes}
+use Rattle.end_to_end.specs.Theorems.{leaving, Judging, Judged, ProvedIsAccepted, WrittenIsAccepted}
+use Rattle.end_to_end.specs.Theorems.{JudgedSoundness}
 
 pub proved-is-accepted : ProvedIsAccepted
 proved-is-accepted run queries outcome store last verdict h proved v =
@@ -21,6 +25,17 @@ proved-is-accepted run queries outcome store last verdict h proved v =
     in (
       proved .answer ∙ honest .0,
       v ∙ left ∙ completeness run queries (h .coset) (h .input) (h .low) (h .queries-valid),
+    )
+
+pub written-is-accepted : WrittenIsAccepted
+written-is-accepted run queries held proved written store last bytes verdict h size p w v =
+    let done = honest-proofs .proves run (h .coset) (h .input) (h .low) (h .store-fits) (h .last-fits) in
+    let same = ap₂ (leaving run) (p .store ∙ done .1) (p .last ∙ done .2) in (
+      p .answer ∙ done .0,
+      w .answer ∙ ap₂ (λ (x : Run) (n : ℕ). writeOutcome x queries n) same size
+          ∙ written-bytes .honest-done run queries (h .coset) (h .input) (h .queries-valid),
+      v ∙ ap transcriptVerdict (w .bytes ∙ ap (λ (x : Run). bytesAfter x queries held) same)
+          ∙ written-bytes .honest-accepted run queries held (h .coset) (h .input) (h .low) (h .queries-valid) size,
     )
 
 lists : List Judging → List (List ℕ)

@@ -1,6 +1,7 @@
 -- Demand 3, stated of what the functions return: an outcome, lists and verdicts that are what the contracts of `prove`
 -- and `judge` say they are. The numbers of a call are 64-bit numbers, so that `Elements` holds of its run.
--- proofs/Theorems.antt has the values; `prove_and_judge` calls both functions.
+-- proofs/Theorems.antt has the values; `prove_and_judge` calls both functions, `prove_write_and_judge` calls `prove`,
+-- `write` and the judge over bytes.
 use mathlib.Core.Path.{_≡_}
 use mathlib.Core.List.{List}
 use Prim.Native.Nat.{ℕ, _*_, _-_, _^_, _<_}
@@ -13,7 +14,10 @@ use Rattle.fri.specs.declared.Verdict.{Verdict}
 use Rattle.fri.specs.Layout.{lastCount, storeLength}
 use Rattle.fri.specs.Run.{Run, stepsIn, roundsIn, stepIn}
 use Rattle.fri.specs.Judge.{verdictOf}
+use Rattle.transcript.specs.Judge.{transcriptVerdict}
+use Rattle.written.specs.Transcript.{transcriptLength}
 use Rattle.prover.specs.Proved.{Proved}
+use Rattle.writer.specs.Written.{Written}
 use Rattle.fri.specs.Demand.{ValidCoset, ProverInput, LowDegree, ValidQueries, Any, Visits, Elements, Sound}
 
 -- a word of low degree over a valid coset, any challenges, two lent lists of the lengths due, and a valid query list
@@ -50,6 +54,16 @@ ProvedIsAccepted =
     (run : Run) (queries : List ℕ) (outcome : Outcome) (store last : List ℕ) (verdict : Verdict)
     → Honest run queries → Proved run outcome store last → verdict ≡ verdictOf (leaving run store last) queries
     → (outcome ≡ Done) × (verdict ≡ accepted run queries)
+
+-- the same through bytes: `write` puts what `prove` leaves of such a word into as many bytes as are needed, and these are
+-- accepted
+abbrev pub WrittenIsAccepted : Type 0
+WrittenIsAccepted =
+    (run : Run) (queries held : List ℕ) (proved written : Outcome) (store last bytes : List ℕ) (verdict : Verdict)
+    → Honest run queries → length held ≡ transcriptLength (run .k) (run .rate) (stepsIn run) (length queries)
+    → Proved run proved store last → Written (leaving run store last) queries held written bytes
+    → verdict ≡ transcriptVerdict bytes
+    → (proved ≡ Done) × (written ≡ Done) × (verdict ≡ accepted run queries)
 
 -- a query list and the verdict on it
 pub record Judging : Type 0 where

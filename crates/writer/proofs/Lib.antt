@@ -1,2 +1,3 @@
 mod Lengths
 mod Checks
+mod Theorems
