@@ -57,6 +57,11 @@ module _ {held : List ℕ} {at : ℕ} {whole rest : List ℕ} {place : ℕ} {lef
       → place + length piece ≤ length left
   piece-fits piece after e h = omega (arith, rest-fits h, ap length e ∙ length-append piece after)
 
+-- where a text of so many bytes ends
+pub ends-after : {held text left : List ℕ} {at end : ℕ} → Put held at text end left → (width : ℕ) → length text ≡ width
+    → end ≡ at + width
+ends-after {at = at} put width e = put .ends ∙ ap (λ (n : ℕ). at + n) e
+
 -- a text that fills the whole list
 pub whole-list : {held text : List ℕ} {end : ℕ} {left : List ℕ} → Put held 0 text end left → length held ≡ length text
     → left ≡ text

@@ -1,9 +1,8 @@
 -- `run_writer::put_coset` meets its contract: the count, then the offset, then the basis. Assumes nothing.
 use native.Mathlib.Omega.{arith}
-use Prim.Native.Nat.{_+_}
-use lib.ListN.{length}
 use borrow.Author.Needs.{needs}
 use Rattle.placing.proofs.Placing.{put-append, put-same, length-put}
+use Rattle.section_writer.proofs.Pieces.{ends-after}
 use Rattle.written.proofs.Bytes.{length-number}
 use Rattle.run_writer.proofs.Sections.{coset-section}
 use Rattle.run_writer.proofs.put_coset.Statement.{statement}
@@ -19,13 +18,7 @@ put-entry-requires : tie.Need-put-entry-requires
 put-entry-requires c κs =
     let start = c .before .before .before .before .before .before .before in
     let count = c .before .before .before .put-count .ensures in
-    omega (
-      arith,
-      length-put count,
-      count .ends,
-      length-number 4 (length (start .args .basis .now) + 1),
-      start .pre,
-    )
+    omega (arith, length-put count, ends-after count 4 (length-number 4 _), start .pre)
 
 put-entries-requires : tie.Need-put-entries-requires
 put-entries-requires c κs =
@@ -36,11 +29,9 @@ put-entries-requires c κs =
     omega (
       arith,
       length-put count,
-      count .ends,
-      length-number 4 (length (start .args .basis .now) + 1),
+      ends-after count 4 (length-number 4 _),
       length-put entry,
-      entry .ends,
-      length-number 8 (start .args .offset .0),
+      ends-after entry 8 (length-number 8 _),
       start .pre,
     )
 

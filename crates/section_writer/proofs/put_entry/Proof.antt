@@ -3,6 +3,7 @@ use native.Mathlib.Omega.{arith}
 use borrow.Author.Needs.{needs}
 use Rattle.placing.proofs.Placing.{put-append, put-same, length-put}
 use Rattle.written.proofs.Bytes.{length-number}
+use Rattle.section_writer.proofs.Pieces.{ends-after}
 use Rattle.section_writer.proofs.Numbers.{halves}
 use Rattle.section_writer.proofs.put_entry.Statement.{statement}
 use Rattle.section_writer.proofs.put_entry.Tie as tie
@@ -14,7 +15,7 @@ put-count-requires-2 : tie.Need-put-count-requires-2
 put-count-requires-2 c κs =
     let start = c .before .before .before .before .before .before in
     let low = c .before .before .before .put-count .ensures in
-    omega (arith, length-put low, low .ends, length-number 4 (start .args .entry), start .pre)
+    omega (arith, length-put low, ends-after low 4 (length-number 4 _), start .pre)
 
 same-length : tie.Need-same-length
 same-length c = search needs

@@ -4,6 +4,7 @@ use lib.ListN.{length}
 use borrow.Author.Needs.{needs}
 use Rattle.placing.proofs.Placing.{put-append, put-same, length-put}
 use Rattle.written.proofs.Bytes.{length-number}
+use Rattle.section_writer.proofs.Pieces.{ends-after}
 use Rattle.section_writer.proofs.Entries.{section-is}
 use Rattle.section_writer.proofs.put_section.Statement.{statement}
 use Rattle.section_writer.proofs.put_section.Tie as tie
@@ -15,7 +16,7 @@ put-entries-requires : tie.Need-put-entries-requires
 put-entries-requires c κs =
     let start = c .before .before .before .before .before .before .before in
     let count = c .before .before .before .put-count .ensures in
-    omega (arith, length-put count, count .ends, length-number 4 (length (start .args .entries .now)), start .pre)
+    omega (arith, length-put count, ends-after count 4 (length-number 4 _), start .pre)
 
 same-length : tie.Need-same-length
 same-length c = search needs

@@ -1,6 +1,7 @@
 -- `writer::checked_size` meets its contract. Assumes nothing.
 use mathlib.Core.Path.{_≡_, sym, ap, _∙_}
 use Prim.Native.Nat.{ℕ}
+use native.Mathlib.Omega.{arith}
 use borrow.Author.Needs.{needs}
 use Rattle.refusal.specs.declared.Outcome.{Outcome}
 use Rattle.refusal.specs.declared.Outcome.the-variants.{Done}
@@ -33,7 +34,7 @@ returns : tie.Need-returns
 returns c =
     let a = start-of (c .before) .args in
     size-refused (a .parameters) (a .basis .now) (a .queries .now) (a .size)
-    (λ e. c .if1 .taken (e ∙ sym (c .before .length-due .ensures)))
+    (λ e. omega (arith, c .before .length-due .ensures))
 
 checked-bases-requires : tie.Need-checked-bases-requires
 checked-bases-requires c κs = search needs
@@ -59,7 +60,7 @@ returns-2 c =
     ∙ ap (λ (n : ℕ). queriesOutcome (p .k) n (a .queries .now))
     (sym (first-step (p .k) (p .rate) (p .step) (v .step-least) (v .k-enough)))
     ∙ then-passed (bases sized) (of-queries sized) (sym (based .checked-bases .ensures) ∙ done)
-    ∙ size-passed p (a .basis .now) (a .queries .now) (a .size) (based .before .if1 .left ∙ sized .length-due .ensures)
+    ∙ size-passed p (a .basis .now) (a .queries .now) (a .size) (omega (arith, sized .length-due .ensures))
 
 returns-3 : tie.Need-returns-3
 returns-3 c =
@@ -69,7 +70,7 @@ returns-3 c =
     let refused = c .before .bases .given in
     then-refused (bases sized) (of-queries sized) (refused .0 .0) (sym (based .checked-bases .ensures) ∙ refused .1)
     ∙ size-passed (a .parameters) (a .basis .now) (a .queries .now) (a .size)
-    (based .before .if1 .left ∙ sized .length-due .ensures)
+    (omega (arith, sized .length-due .ensures))
 
 pub checked-size-spec : {M : Type 1} → statement M
 checked-size-spec =
