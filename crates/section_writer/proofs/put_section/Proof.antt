@@ -1,6 +1,5 @@
 -- `section_writer::put_section` meets its contract: the entries stand behind the count. Assumes nothing.
 use native.Mathlib.Omega.{arith}
-use lib.ListN.{length}
 use borrow.Author.Needs.{needs}
 use Rattle.placing.proofs.Placing.{put-append, put-same, length-put}
 use Rattle.written.proofs.Bytes.{length-number}
