@@ -232,21 +232,20 @@ impl Sent<'_> {
 
 /// All causes that a prover and a judge share.
 pub fn may_take(run: &Run) -> Result<(), Answer> {
-    run.parameters.may_use()?;
-    right_lengths(run)?;
-    independent(&run.basis)?;
-    later_layers_independent(&cosets(run))
+    right_lists(run)?;
+    right_bases(run)
 }
 
 /// All causes but a round check.
 pub fn may_judge(run: &Run, queries: &[u64]) -> Result<(), Answer> {
     may_take(run)?;
-    right_query_count(queries.len())?;
-    queries_in_range(run.parameters, queries)
+    right_queries(run.parameters, queries)
 }
 
-fn right_lengths(run: &Run) -> Result<(), Answer> {
+/// Bad parameters and lists of wrong lengths.
+pub fn right_lists(run: &Run) -> Result<(), Answer> {
     let parameters = run.parameters;
+    parameters.may_use()?;
     let due = [
         (LIST_OF_THE_BASIS, &run.basis, parameters.k as usize),
         (LIST_OF_THE_CHALLENGES, &run.challenges, parameters.rounds() as usize),
@@ -260,12 +259,23 @@ fn right_lengths(run: &Run) -> Result<(), Answer> {
     Ok(())
 }
 
+/// The basis and all later ones, where the lists have the right lengths.
+pub fn right_bases(run: &Run) -> Result<(), Answer> {
+    independent(&run.basis)?;
+    later_layers_independent(&cosets(run))
+}
+
 /// Round i leads to the basis of layer i + 1. The cosets are those of layers 0 to r.
 pub fn later_layers_independent(cosets: &[Coset]) -> Result<(), Answer> {
     for (round, later) in (0..).zip(&cosets[1..]) {
         later_independent(&later.basis, round)?;
     }
     Ok(())
+}
+
+pub fn right_queries(parameters: Parameters, queries: &[u64]) -> Result<(), Answer> {
+    right_query_count(queries.len())?;
+    queries_in_range(parameters, queries)
 }
 
 pub fn right_query_count(count: usize) -> Result<(), Answer> {

@@ -17,6 +17,8 @@ pub const LIST_OF_THE_LAST: u64 = 5;
 pub const LIST_OF_THE_OUTPUT: u64 = 6;
 /// The list that the next basis is written to.
 pub const LIST_OF_THE_NEXT_BASIS: u64 = 7;
+/// The list that the bytes of a transcript are written to.
+pub const LIST_OF_THE_BYTES: u64 = 8;
 
 /// Goes on if this holds.
 pub fn required(holds: bool, refusal: Answer) -> Result<(), Answer> {

@@ -1,18 +1,19 @@
-//! Transcripts, from the definitions alone: how the lists of a judging are written as bytes,
-//! how they are read and judged, and what the program prints.
+//! Transcripts, from the definitions alone: how the lists of a judging are written as bytes, what
+//! a writer of them refuses, how they are read and judged, and what the program prints.
 //!
 //! Reading takes byte after byte and never goes back or ahead: no place of a section is
 //! computed. What it gives is lists, and the judge over lists decides about them.
 
 use crate::answer::{
-    refused, refused_at, Answer, BYTES_END, BYTES_FOLLOW, INPUT_TOO_LONG, WRONG_COUNT,
+    done, refused, refused_at, Answer, BYTES_END, BYTES_FOLLOW, INPUT_TOO_LONG, WRONG_COUNT,
 };
 use crate::fold::Coset;
 use crate::parameters::Parameters;
 use crate::protocol::{
-    self, cosets_from, later_layers_independent, queries_in_range, right_query_count, Run,
+    self, cosets_from, later_layers_independent, queries_in_range, right_bases, right_lists,
+    right_queries, right_query_count, Run,
 };
-use crate::refusal::{independent, required};
+use crate::refusal::{independent, required, right_length, LIST_OF_THE_BYTES};
 use std::slice::Iter;
 
 // Writing, right transcripts and others.
@@ -53,6 +54,42 @@ pub fn written(sections: &[Section]) -> Vec<u8> {
 /// The transcript of such a run.
 pub fn transcript(run: &Run, queries: &[u64]) -> Vec<u8> {
     written(&sections(run, queries))
+}
+
+// The writer.
+
+/// No list of numbers has more of them: what it takes is counted in 63 bits.
+pub const LONGEST_LIST: u64 = (1 << 60) - 1;
+
+/// How many bytes the transcript of a run has, with parameters that may be used and any number of
+/// queries that a list can have.
+pub fn length(parameters: Parameters, queries: u64) -> u64 {
+    let first = [3, 1 + parameters.k, parameters.rounds(), queries];
+    let layers = (0..parameters.rounds()).map(|i| parameters.layer_length(i) as u64);
+    let counts = first.into_iter().chain(layers).chain([parameters.last_count() as u64]);
+    counts.map(|count| 4 + 8 * count).sum()
+}
+
+/// Writes the transcript, whether or not a judge would accept it. A refusal leaves all bytes as
+/// they were.
+pub fn write(run: &Run, queries: &[u64], bytes: &mut [u8]) -> Answer {
+    match may_write(run, queries, bytes.len()) {
+        Ok(()) => {
+            bytes.copy_from_slice(&transcript(run, queries));
+            done()
+        }
+        Err(refusal) => refusal,
+    }
+}
+
+/// All causes, in the paper's order. The list of the bytes is the last of the lists, and how long
+/// it must be goes by the queries as they are given, even if they are too many.
+pub fn may_write(run: &Run, queries: &[u64], bytes: usize) -> Result<(), Answer> {
+    right_lists(run)?;
+    let due = length(run.parameters, queries.len() as u64);
+    right_length(LIST_OF_THE_BYTES, bytes as u64 == due)?;
+    right_bases(run)?;
+    right_queries(run.parameters, queries)
 }
 
 // The judge.
@@ -179,25 +216,4 @@ fn decimal_or_hyphen(number: Option<u64>) -> String {
 }
 
 #[cfg(test)]
-mod tests {
-    use super::*;
-    use crate::answer::{accepted, failed};
-    use crate::cases::{judgings, of_case_f};
-
-    /// Case O has no transcript that the program takes.
-    #[test]
-    fn cases_g_to_p() {
-        for (run, queries, due) in judgings() {
-            assert_eq!(judge_of_program(&transcript(&run, &queries)), due);
-        }
-        assert_eq!(judge_of_program(&[]), refused_at(1, 1));
-    }
-
-    #[test]
-    fn the_length_and_the_lines_of_the_paper() {
-        assert_eq!(transcript(&of_case_f(), &[0, 3]).len(), 136);
-        let header = "answer number place round reads\n";
-        assert_eq!(lines(&accepted(4)), format!("{header}accepted 0 - - 4\n"));
-        assert_eq!(lines(&failed(1, 0, 4)), format!("{header}refused 11 1 0 4\n"));
-    }
-}
+mod tests;
