@@ -228,6 +228,12 @@ impl Show for u64 {
     }
 }
 
+impl Show for u8 {
+    fn show(&self) -> String {
+        format!("{self:02x}")
+    }
+}
+
 /// Numbers with few bits are small, and among them the lesser ones.
 impl Input for u64 {
     type Size = (u32, u64);

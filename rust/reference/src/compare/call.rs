@@ -20,10 +20,17 @@ pub enum Number {
     Offset,
     Challenge,
     Layer,
+    /// How many queries there are, where they are not given themselves.
+    QueryCount,
 }
 
+/// How many numbers and lists there are.
+const NUMBERS: usize = 7;
+const LISTS: usize = 9;
+
 impl Number {
-    const NAMES: [&'static str; 6] = ["k", "rate", "step", "offset", "challenge", "layer"];
+    const NAMES: [&'static str; NUMBERS] =
+        ["k", "rate", "step", "offset", "challenge", "layer", "count of queries"];
 
     pub fn name(self) -> &'static str {
         Number::NAMES[self as usize]
@@ -51,12 +58,14 @@ pub enum List {
     Last,
     Output,
     NextBasis,
+    /// The only list of bytes. It is always lent for writing.
+    Bytes,
     Queries,
 }
 
 impl List {
-    const NAMES: [&'static str; 8] =
-        ["basis", "challenges", "list 3", "store", "last", "list 6", "list 7", "queries"];
+    const NAMES: [&'static str; LISTS] =
+        ["basis", "challenges", "list 3", "store", "last", "list 6", "list 7", "list 8", "queries"];
 
     /// The number that a refusal names the list by.
     pub fn number(self) -> u64 {
@@ -72,8 +81,8 @@ impl List {
 #[derive(Clone)]
 pub struct Call {
     pub operation: &'static Operation,
-    pub numbers: [u64; 6],
-    pub lists: [Vec<u64>; 8],
+    pub numbers: [u64; NUMBERS],
+    pub lists: [Vec<u64>; LISTS],
     /// The length of the list for the answer.
     pub answer: usize,
     /// What the lists that are written to are filled from.
@@ -133,6 +142,15 @@ impl Call {
     /// With zeros in a list, as one that is lent for writing has them.
     pub fn with_length(self, list: List, length: usize) -> Call {
         self.with_list(list, vec![0; length])
+    }
+
+    /// With these queries, and as many bytes to write to as are then due.
+    pub fn with_queries(self, queries: Vec<u64>) -> Call {
+        let call = self.with_list(Queries, queries);
+        match call.operation.lent.contains(&Bytes) {
+            true => call.with_due_length(Bytes),
+            false => call,
+        }
     }
 
     /// With zeros in as many places as are due.
@@ -197,7 +215,7 @@ impl Show for Call {
 // Making a call smaller.
 
 impl Input for Call {
-    type Size = ([u64; 3], usize, u32, [u64; 6], [Vec<u64>; 8]);
+    type Size = ([u64; 3], usize, u32, [u64; NUMBERS], [Vec<u64>; LISTS]);
 
     /// Low parameters are small, then short lists, and among them those with few bits.
     fn size(&self) -> Self::Size {
@@ -220,7 +238,7 @@ impl Input for Call {
         for list in self.operation.all_lists() {
             all.extend(self.with_simpler_list(list));
         }
-        let others = [Offset, Challenge, Layer].into_iter();
+        let others = [Offset, Challenge, Layer, QueryCount].into_iter();
         for number in others.filter(|&number| self.operation.takes(number)) {
             let simpler = simpler_numbers(self[number], self.is_small()).into_iter();
             all.extend(simpler.map(|value| self.clone().with(number, value)));
@@ -245,7 +263,15 @@ impl Call {
 
     /// Lists are as much too long or too short as they were. Small calls are mended as well, for
     /// a difference that only calls show which nothing is wrong with.
+    ///
+    /// A call above the range must have lost its lists first: long ones would make much work, and
+    /// right ones in range even more.
     fn with_lower_parameters(&self) -> Vec<Call> {
+        let empty = self.clone().without_lists();
+        let is_above = self.k() > *self.operation.dimensions.end();
+        if is_above && empty.length_of_lists() < self.length_of_lists() {
+            return Vec::new();
+        }
         let mut all = self.with_lower_dimensions();
         for number in [Rate, Step] {
             let lower = lower_than(self[number]).into_iter();
@@ -257,16 +283,11 @@ impl Call {
         all
     }
 
-    /// With half of the basis, and with all of it but one element. A call above the range must
-    /// have lost its lists first, since in range right ones would make much work.
+    /// With half of the basis, and with all of it but one element.
     fn with_lower_dimensions(&self) -> Vec<Call> {
         let (k, largest) = (self.k(), *self.operation.dimensions.end());
-        let empty = self.clone().without_lists();
-        if k > largest && empty.length_of_lists() < self.length_of_lists() {
-            return Vec::new();
-        }
         if k > largest && self.operation.takes(K) {
-            return [largest + 1, k / 2, k - 1].map(|k| empty.clone().with(K, k)).to_vec();
+            return [largest + 1, k / 2, k - 1].map(|k| self.clone().with(K, k)).to_vec();
         }
         left_out(k as usize).into_iter().flat_map(|places| self.without(places)).collect()
     }
@@ -317,8 +338,12 @@ impl Call {
         if list == Basis && self.operation.takes(K) {
             simpler.extend(halved.map(shorter));
         }
-        let mut calls: Vec<Call> =
-            simpler.into_iter().map(|numbers| self.clone().with_list(list, numbers)).collect();
+        let with = |numbers| match list {
+            // How many bytes are due goes by the queries.
+            Queries => self.fitted_to(self.clone().with_list(list, numbers)),
+            _ => self.clone().with_list(list, numbers),
+        };
+        let mut calls: Vec<Call> = simpler.into_iter().map(with).collect();
         if small && list == Given {
             let mended: Vec<Call> = calls.iter().filter_map(self.operation.mended).collect();
             calls.extend(mended);

@@ -202,6 +202,7 @@ pub const FULL: Amounts = Amounts {
         several_lists: 8,
         largest_dependent: 12,
         several_causes: 12,
+        most_causes: usize::MAX,
         every_sort: (&[2, 3, 4, 5], 35),
     },
 };

@@ -5,8 +5,35 @@ use super::Show;
 use crate::answer::ANSWER_LENGTH;
 use std::ops::Range;
 
-/// How many numbers before and after a lent list are watched as well.
-pub const MARGIN: usize = 8;
+/// What a list is lent of: numbers or bytes.
+pub trait Unit: Copy + PartialEq + Show {
+    /// How many before and after a lent list are watched as well.
+    const MARGIN: usize;
+
+    /// What a place is filled with. None is as its neighbours are, so that none can be moved
+    /// unseen.
+    fn filled(fill: u64, place: usize) -> Self;
+}
+
+impl Unit for u64 {
+    const MARGIN: usize = 8;
+
+    fn filled(fill: u64, place: usize) -> u64 {
+        fill + place as u64
+    }
+}
+
+impl Unit for u8 {
+    /// Nothing says that bytes lie at an even place: these do not.
+    const MARGIN: usize = 61;
+
+    /// The two fills differ in all bits of every place. So whatever is due there, one of them
+    /// shows that it was not written.
+    fn filled(fill: u64, place: usize) -> u8 {
+        let [highest, ..] = fill.to_be_bytes();
+        highest ^ place as u8
+    }
+}
 
 /// What lent lists are filled from. A call takes one of the two, so that numbers which are
 /// written but happen to be those of one fill are seen with the other.
@@ -23,23 +50,23 @@ pub fn other_answer_lengths() -> impl Iterator<Item = usize> {
     lengths.filter(|&length| length != ANSWER_LENGTH)
 }
 
-/// A lent list with the numbers around it.
+/// A lent list with the numbers, or the bytes, around it.
 #[derive(PartialEq)]
-pub struct Lent {
-    pub numbers: Vec<u64>,
+pub struct Lent<N = u64> {
+    pub numbers: Vec<N>,
     /// The place of the list among the numbers.
     pub list: Range<usize>,
     fill: u64,
 }
 
-impl Lent {
-    /// Every number differs from its neighbours, so that none can be moved unseen.
-    pub fn filled(length: usize, fill: u64) -> Lent {
-        let whole = length + 2 * MARGIN;
-        Lent { numbers: (fill..).take(whole).collect(), list: MARGIN..MARGIN + length, fill }
+impl<N: Unit> Lent<N> {
+    pub fn filled(length: usize, fill: u64) -> Lent<N> {
+        let places = 0..length + 2 * N::MARGIN;
+        let numbers = places.map(|place| N::filled(fill, place)).collect();
+        Lent { numbers, list: N::MARGIN..N::MARGIN + length, fill }
     }
 
-    pub fn list(&mut self) -> &mut [u64] {
+    pub fn list(&mut self) -> &mut [N] {
         &mut self.numbers[self.list.clone()]
     }
 
@@ -51,14 +78,14 @@ impl Lent {
         }
     }
 
-    fn filled_with(&self, place: usize) -> u64 {
-        self.fill + place as u64
+    fn filled_with(&self, place: usize) -> N {
+        N::filled(self.fill, place)
     }
 }
 
 /// A number that is as the list was filled is shown as left, and the numbers around a list are
 /// shown only if one of them was written to.
-impl Show for Lent {
+impl<N: Unit> Show for Lent<N> {
     fn show(&self) -> String {
         let Range { start, end } = self.list;
         let is_left = |place: usize| self.numbers[place] == self.filled_with(place);
@@ -82,7 +109,7 @@ mod tests {
 
     #[test]
     fn what_was_left_is_shown_as_left() {
-        let mut lent = Lent::filled(3, 0x100);
+        let mut lent: Lent = Lent::filled(3, 0x100);
         assert_eq!(lent.show(), "left (3 times)");
         lent.list()[1] = 0xabc;
         assert_eq!(lent.show(), "left, abc, left");
@@ -93,5 +120,13 @@ mod tests {
         lent.numbers.fill(7);
         lent.keep(|place| place == 1);
         assert_eq!(lent.show(), "left, 7, left, before it 7 (8 times), behind it 7 (8 times)");
+    }
+
+    #[test]
+    fn one_of_the_fills_shows_that_a_byte_is_left() {
+        let [mut one, mut other] = FILLS.map(|fill| Lent::<u8>::filled(1_000, fill));
+        assert!(one.list().iter().zip(other.list()).all(|(one, other)| *one == !*other));
+        assert!(one.list().windows(2).all(|two| two[0] != two[1]));
+        assert_eq!(one.list().as_ptr() as usize % 2, 1);
     }
 }

@@ -4,13 +4,18 @@
 use super::call::*;
 use super::cosets::longest_basis;
 use super::lent::{Lent, APART, FILLS};
-use super::{compare, Comparison, Fixed, Show, PAPER_AND_LIBRARY, REFERENCE_AND_LIBRARY};
+use super::{compare, library, Comparison, Fixed, Show};
+use super::{PAPER_AND_LIBRARY, REFERENCE_AND_LIBRARY};
 use crate::answer::{raw, Answer, ANSWER_LENGTH};
 use crate::random::Random;
+use crate::transcript;
 use std::ops::RangeInclusive;
 
 /// Dimension, rate and step; zero for those that an operation does not take.
 pub type Setting = [u64; 3];
+
+/// How many queries a call has, unless they are given.
+pub const ANY_QUERIES: usize = 3;
 
 /// How many calls of each dimension, from 0 to 12.
 pub type Turns = [usize; 13];
@@ -133,13 +138,17 @@ impl Operation {
         for number in [Offset, Challenge] {
             call[number] = if self.takes(number) { random.number() } else { 0 };
         }
-        for list in self.lists().into_iter().filter(|&list| list != Basis) {
+        let has_length = |list: &List| ![Basis, Queries].contains(list);
+        for &list in self.given.iter().filter(|&list| has_length(list)) {
             let due = call.due_length(list);
             call = call.with_any(random, list, due);
         }
         if self.given.contains(&Queries) {
             let in_range = 1 << call.k().min(*self.dimensions.end());
-            call[Queries] = (0..3).map(|_| random.below(in_range) as u64).collect();
+            call[Queries] = (0..ANY_QUERIES).map(|_| random.below(in_range) as u64).collect();
+        }
+        for &list in self.lent {
+            call = call.with_due_length(list);
         }
         call.with_fill(FILLS[random.below(2)])
     }
@@ -181,6 +190,12 @@ pub trait Library {
     fn raw(&self, call: &Call, outputs: &mut Outputs, answer: &mut [u64]) {
         into_five(answer, || self.safe(call, outputs))
     }
+
+    /// The judge over the bytes of a transcript: that of the reference, where only calls are
+    /// under test.
+    fn judge_transcript(&self, bytes: &[u8]) -> Answer {
+        transcript::judge(bytes)
+    }
 }
 
 /// Makes the call and writes its answer if there are five numbers for it.
@@ -201,6 +216,10 @@ impl Library for Razgwilh {
     fn raw(&self, call: &Call, outputs: &mut Outputs, answer: &mut [u64]) {
         (call.operation.raw)(call, outputs, answer)
     }
+
+    fn judge_transcript(&self, bytes: &[u8]) -> Answer {
+        library::judge_transcript(bytes)
+    }
 }
 
 /// The reference in the place of the library.
@@ -214,20 +233,31 @@ impl Library for Reference {
 
 // What the lists hold after a call.
 
-/// The lists lent for writing, with the numbers around them, in the order of the operation.
+/// The lists lent for writing, with the numbers around them, in the order of the operation, or
+/// the list of bytes, with the bytes around it.
 #[derive(PartialEq)]
 pub struct Outputs {
     names: &'static [List],
     pub lent: Vec<Lent>,
+    pub bytes: Option<Lent<u8>>,
 }
 
 impl Outputs {
     fn of(call: &Call) -> Outputs {
         let names = call.operation.lent;
+        if names == [Bytes] {
+            let bytes = Some(Lent::filled(call[Bytes].len(), call.fill));
+            return Outputs { names, lent: Vec::new(), bytes };
+        }
         let fills = (0..).map(|place| call.fill + place * APART);
         let lent = names.iter().zip(fills);
         let lent = lent.map(|(&list, fill)| Lent::filled(call[list].len(), fill)).collect();
-        Outputs { names, lent }
+        Outputs { names, lent, bytes: None }
+    }
+
+    /// The bytes of an operation that is lent such a list.
+    pub fn bytes(&mut self) -> &mut [u8] {
+        self.bytes.as_mut().expect("a list of bytes").list()
     }
 
     /// All lists at once, of which there are N.
@@ -256,8 +286,10 @@ pub struct After<A> {
 
 impl<A: Show> Show for After<A> {
     fn show(&self) -> String {
-        let lists = self.outputs.names.iter().zip(&self.outputs.lent);
-        let shown = lists.map(|(list, lent)| format!("; {}: {}", list.name(), lent.show()));
+        let Outputs { names, lent, bytes } = &self.outputs;
+        let lists = lent.iter().map(Show::show).chain(bytes.iter().map(Show::show));
+        let lists = names.iter().zip(lists);
+        let shown = lists.map(|(list, shown)| format!("; {}: {shown}", list.name()));
         format!("answer: {}{}", self.answer.show(), shown.collect::<String>())
     }
 }

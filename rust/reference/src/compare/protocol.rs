@@ -15,7 +15,7 @@ use crate::answer::{refused_at, Answer, DEGREE_TOO_HIGH};
 use crate::parameters::Parameters;
 use crate::protocol::{self, may_take, Proved, Run};
 use crate::random::Random;
-use crate::transcript::Judging;
+use crate::transcript::{self, Judging};
 use inputs::{any_queries, damaged, known, queries, right, Turns};
 
 // The operations.
@@ -84,6 +84,7 @@ fn due_length(call: &Call, list: List) -> usize {
         Given => nearest.layer_length(0),
         Store => nearest.store_length(),
         Last => nearest.last_count(),
+        Bytes => transcript::length(nearest, call[Queries].len() as u64) as usize,
         _ => 0,
     }
 }
@@ -230,6 +231,7 @@ pub const FULL: Amounts = Amounts {
         several_lists: 4,
         largest_dependent: 10,
         several_causes: 2,
+        most_causes: usize::MAX,
         every_sort: (&[2, 3, 4], 14),
     },
 };

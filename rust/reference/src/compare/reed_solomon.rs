@@ -138,6 +138,7 @@ pub const FULL: Amounts = Amounts {
         several_lists: 200,
         largest_dependent: 12,
         several_causes: 24,
+        most_causes: usize::MAX,
         every_sort: (&[0, 1, 2, 3, 4], 60),
     },
 };

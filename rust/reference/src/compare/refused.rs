@@ -29,8 +29,9 @@ pub struct Amounts {
     pub several_lists: usize,
     /// The largest dimension of calls with a dependent basis.
     pub largest_dependent: usize,
-    /// How often each choice of several causes.
+    /// How often each choice of several causes, and how many causes at most.
     pub several_causes: usize,
+    pub most_causes: usize,
     /// The dimensions of calls of every sort, and how many of them are safe.
     pub every_sort: (&'static [u64], usize),
 }
@@ -103,7 +104,7 @@ impl Sort {
             Sort::Dependent(sort) => {
                 plans::dependent(random, operation, DEPENDENT[sort].1, amounts.largest_dependent)
             }
-            Sort::SeveralCauses => plans::several_causes(random, operation, amounts.several_causes),
+            Sort::SeveralCauses => plans::several_causes(random, operation, amounts),
         }
     }
 }
@@ -193,6 +194,7 @@ mod tests {
         several_lists: 3,
         largest_dependent: 5,
         several_causes: 3,
+        most_causes: usize::MAX,
         every_sort: (&[2, 3], 1),
     };
 

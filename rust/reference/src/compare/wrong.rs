@@ -205,13 +205,41 @@ pub fn changing(change: impl Fn(&mut Call) + 'static) -> Wrong {
 pub fn always_instead(other: impl Fn(Call) -> Call + 'static) -> Wrong {
     alike(move |call, outputs| {
         let mut done = after_safe(&Reference, &other(call.clone()));
-        for (lent, written) in outputs.lent.iter_mut().zip(&mut done.outputs.lent) {
-            for (number, written) in lent.list().iter_mut().zip(written.list()) {
-                *number = *written;
-            }
-        }
+        outputs.take(&mut done.outputs);
         done.answer
     })
+}
+
+impl Outputs {
+    /// Writes zeros to all lists.
+    fn clear(&mut self) {
+        self.lent.iter_mut().for_each(|lent| lent.list().fill(0));
+        self.bytes.iter_mut().for_each(|lent| lent.list().fill(0));
+    }
+
+    /// Changes the first number, or byte, of a list that is not empty.
+    fn change_first(&mut self, list: usize) {
+        match &mut self.bytes {
+            Some(lent) => lent.list().iter_mut().take(1).for_each(|first| *first ^= 1),
+            None => self.lent[list].list().iter_mut().take(1).for_each(|first| *first ^= 1),
+        }
+    }
+
+    /// Takes what was written to the lists of another call, for as far as it fits.
+    fn take(&mut self, other: &mut Outputs) {
+        for (lent, written) in self.lent.iter_mut().zip(&mut other.lent) {
+            copy_what_fits(written.list(), lent.list());
+        }
+        for (lent, written) in self.bytes.iter_mut().zip(&mut other.bytes) {
+            copy_what_fits(written.list(), lent.list());
+        }
+    }
+}
+
+/// Copies to a list that may be shorter, or longer.
+pub fn copy_what_fits<N: Copy>(due: &[N], list: &mut [N]) {
+    let length = due.len().min(list.len());
+    list[..length].copy_from_slice(&due[..length]);
 }
 
 /// Takes the points 0, 1, 2 and so on for those of the coset.
@@ -286,9 +314,7 @@ pub fn first_of_all(cause: impl Fn(&Call) -> Option<Answer> + 'static) -> Wrong 
 
 /// Writes an answer to a list of any length.
 pub fn write_what_fits(due: Answer, answer: &mut [u64]) {
-    for (number, due) in answer.iter_mut().zip(raw(&due)) {
-        *number = due;
-    }
+    copy_what_fits(&raw(&due), answer);
 }
 
 /// Changes one of the five numbers of an answer.

@@ -28,6 +28,7 @@ const FEW: Amounts = Amounts {
         several_lists: 4,
         largest_dependent: 4,
         several_causes: 3,
+        most_causes: usize::MAX,
         every_sort: (&[2, 3, 4], 2),
     },
 };

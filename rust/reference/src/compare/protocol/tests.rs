@@ -39,6 +39,7 @@ const FEW: Amounts = Amounts {
         several_lists: 1,
         largest_dependent: 4,
         several_causes: 1,
+        most_causes: usize::MAX,
         every_sort: (&[2, 3, 4], 1),
     },
 };

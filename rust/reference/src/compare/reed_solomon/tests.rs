@@ -17,6 +17,7 @@ const FEW: Amounts = Amounts {
         several_lists: 200,
         largest_dependent: 4,
         several_causes: 3,
+        most_causes: usize::MAX,
         every_sort: (&[0, 1, 2, 3, 4], 5),
     },
 };

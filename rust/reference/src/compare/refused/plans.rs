@@ -5,7 +5,7 @@ use super::Amounts;
 use crate::answer::{refused, refused_at, Answer};
 use crate::compare::call::*;
 use crate::compare::cosets::{any_dependent, wrong_lengths, Bases};
-use crate::compare::operation::{Op, Operation, Setting};
+use crate::compare::operation::{Op, Operation, Setting, ANY_QUERIES};
 use crate::protocol::QUERY_COUNTS;
 use crate::random::Random;
 use std::ops::RangeInclusive;
@@ -45,8 +45,16 @@ impl Plan {
 
     /// With one number too many in a list.
     fn with_longer(self, operation: Op, list: List) -> Plan {
-        let due = due_length(operation, self.lists_for, list);
+        let due = self.due_length(operation, list);
         self.with_length(list, due + 1)
+    }
+
+    /// The length that a list has unless it is given another one.
+    fn due_length(&self, operation: Op, list: List) -> usize {
+        let basis = if operation.takes(K) { 0 } else { self.lists_for[0] as usize };
+        let queries = self.queries.as_ref().map_or(ANY_QUERIES, Vec::len);
+        let blank = Call::of(operation).with_setting(self.lists_for);
+        blank.with_length(Basis, basis).with_length(Queries, queries).due_length(list)
     }
 
     pub fn without_lists(self, operation: &Operation) -> Plan {
@@ -54,7 +62,11 @@ impl Plan {
     }
 
     pub fn call(self, random: &mut Random, operation: Op) -> Call {
-        let mut call = operation.any(random, self.lists_for).with_setting(self.setting);
+        let mut call = operation.any(random, self.lists_for);
+        if let Some(queries) = self.queries {
+            call = call.with_queries(queries);
+        }
+        call = call.with_setting(self.setting);
         for (list, length) in self.lengths {
             call = call.with_any(random, list, length);
         }
@@ -64,17 +76,8 @@ impl Plan {
             (Elements::Given(basis), _) => call[Basis] = basis,
             _ => (),
         }
-        if let Some(queries) = self.queries {
-            call[Queries] = queries;
-        }
         call
     }
-}
-
-fn due_length(operation: Op, setting: Setting, list: List) -> usize {
-    let basis = if operation.takes(K) { 0 } else { setting[0] as usize };
-    let blank = Call::of(operation).with_setting(setting).with_length(Basis, basis);
-    blank.due_length(list)
 }
 
 // Ranges.
@@ -230,7 +233,7 @@ pub fn too_small(random: &mut Random, operation: Op, times: usize) -> Vec<Plan> 
                 2 => plan.clone().without_lists(operation),
                 3 => Plan { basis: Elements::WithZero, ..plan.clone() },
                 _ => operation.lists().into_iter().fold(plan.clone(), |plan, list| {
-                    let length = due_length(operation, setting, list) + random.below(4);
+                    let length = plan.due_length(operation, list) + random.below(4);
                     plan.with_length(list, length.saturating_sub(2))
                 }),
             });
@@ -245,7 +248,7 @@ pub fn too_small(random: &mut Random, operation: Op, times: usize) -> Vec<Plan> 
 const MUCH_LONGER: usize = 1_000;
 
 fn lengths_out_of_range(operation: Op, setting: Setting, list: List) -> Vec<usize> {
-    let due = due_length(operation, setting, list);
+    let due = Plan::of(setting).due_length(operation, list);
     let mut lengths = wrong_lengths(due, |length| (operation.fits)(list, length, due));
     lengths.push(due + MUCH_LONGER);
     lengths
@@ -325,11 +328,14 @@ pub fn all_causes(operation: Op) -> Vec<Answer> {
     all
 }
 
-/// All choices of two causes or more, each some times.
-pub fn several_causes(random: &mut Random, operation: Op, times: usize) -> Vec<Plan> {
+/// All choices of two causes or more, up to the most, each some times.
+pub fn several_causes(random: &mut Random, operation: Op, amounts: &Amounts) -> Vec<Plan> {
+    let mut chosen = choices(&all_causes(operation));
+    chosen.retain(|chosen| chosen.len() <= amounts.most_causes);
     let mut plans = Vec::new();
-    for chosen in choices(&all_causes(operation)) {
-        plans.extend((0..times).map(|_| with_causes(random, operation, &chosen)));
+    for chosen in chosen {
+        let times = 0..amounts.several_causes;
+        plans.extend(times.map(|_| with_causes(random, operation, &chosen)));
     }
     plans
 }
@@ -337,13 +343,8 @@ pub fn several_causes(random: &mut Random, operation: Op, times: usize) -> Vec<P
 fn with_causes(random: &mut Random, operation: Op, chosen: &[Answer]) -> Plan {
     let is_chosen = |number: u64| chosen.iter().any(|cause| cause.number == number);
     let mut plan = Plan::of(setting_with(random, operation, is_chosen));
-    let mut k = plan.setting[0] as usize;
-    for list in operation.lists() {
-        if chosen.contains(&refused_at(13, list.number())) {
-            k += usize::from(list == Basis);
-            plan = plan.with_longer(operation, list);
-        }
-    }
+    let longer_basis = chosen.contains(&refused_at(13, Basis.number()));
+    let k = plan.setting[0] as usize + usize::from(longer_basis);
     if is_chosen(8) {
         plan.basis = Elements::Given(any_dependent(random, k));
     }
@@ -354,9 +355,11 @@ fn with_causes(random: &mut Random, operation: Op, chosen: &[Answer]) -> Plan {
     }
     if is_chosen(10) {
         let out_of_range = u64::MAX - random.below(1 << k) as u64;
-        plan.queries.get_or_insert(vec![0; 3]).push(out_of_range);
+        plan.queries.get_or_insert(vec![0; ANY_QUERIES]).push(out_of_range);
     }
-    plan
+    let wrong = |list: &List| chosen.contains(&refused_at(13, list.number()));
+    let wrong = operation.lists().into_iter().filter(wrong);
+    wrong.fold(plan, |plan, list| plan.with_longer(operation, list))
 }
 
 /// Any setting that has the chosen causes. One whose dimension is out of range may be too small

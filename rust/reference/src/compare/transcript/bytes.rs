@@ -8,7 +8,7 @@ pub type Bytes = Vec<u8>;
 
 impl Show for Bytes {
     fn show(&self) -> String {
-        let shown = show_list(self.iter().map(|byte| format!("{byte:02x}")));
+        let shown = show_list(self.iter().map(Show::show));
         format!("{} bytes: {shown}", self.len())
     }
 }

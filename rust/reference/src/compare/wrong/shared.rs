@@ -77,15 +77,11 @@ fn wrong_writing(names: &Names, others: &Others) -> Vec<Row<Wrong>> {
         .differs(&[&refused[..], others.right, others.safely].concat())
         .agrees(&[names.other_answer])];
     if !names.operation.lent.is_empty() {
-        let clearing = when_refused(|_, outputs| {
-            outputs.lent.iter_mut().for_each(|lent| lent.list().fill(0));
-        });
+        let clearing = when_refused(|_, outputs| outputs.clear());
         rows.push(row("a refusal clears the lists", clearing).differs(&refused));
     }
     for (place, list) in names.operation.lent.iter().enumerate() {
-        let first_number = when_refused(move |_, outputs| {
-            outputs.lent[place].list().iter_mut().take(1).for_each(|first| *first ^= 1);
-        });
+        let first_number = when_refused(move |_, outputs| outputs.change_first(place));
         // Of dimensions out of range only the first is left, which may leave the list empty.
         let mut shown = refused.clone();
         shown.retain(|name| *name != names.k_out);
