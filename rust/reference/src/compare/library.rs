@@ -135,6 +135,12 @@ pub fn last_length(call: &Call, _: &mut Outputs) -> Answer {
     went_well(razgwilh::last_length(k, rate, step) as u64)
 }
 
+pub fn transcript_length(call: &Call, _: &mut Outputs) -> Answer {
+    let [k, rate, step] = parameters_of(call);
+    let queries = call[QueryCount] as usize;
+    went_well(razgwilh::transcript_length(k, rate, step, queries) as u64)
+}
+
 // The field and transcripts.
 
 pub fn inverse(a: u64) -> Answer {
