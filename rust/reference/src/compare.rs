@@ -8,6 +8,7 @@ pub mod fold;
 pub mod protocol;
 pub mod reed_solomon;
 pub mod transcript;
+pub mod write;
 
 mod call;
 mod cosets;

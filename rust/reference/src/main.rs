@@ -17,6 +17,7 @@ fn main() -> ExitCode {
         compare::reed_solomon::comparisons(&Razgwilh, &compare::reed_solomon::FULL),
         compare::fold::comparisons(&Razgwilh, &compare::fold::FULL),
         compare::protocol::comparisons(&Razgwilh, &compare::protocol::FULL),
+        compare::write::comparisons(&Razgwilh, &compare::write::FULL),
         transcripts.comparisons,
     ];
     let report = compare::report(&parts.concat(), &transcripts.table);

@@ -103,6 +103,17 @@ pub fn raw_judge(call: &Call, _: &mut Outputs, answer: &mut [u64]) {
     raw::judge(run_of(call), queries, store, last, answer)
 }
 
+pub fn write(call: &Call, outputs: &mut Outputs) -> Answer {
+    let [queries, store, last] = [Queries, Store, Last].map(|list| &call[list]);
+    let bytes = outputs.bytes();
+    answer_of(razgwilh::write_transcript(run_of(call), queries, store, last, bytes))
+}
+
+pub fn raw_write(call: &Call, outputs: &mut Outputs, answer: &mut [u64]) {
+    let [queries, store, last] = [Queries, Store, Last].map(|list| &call[list]);
+    raw::write_transcript(run_of(call), queries, store, last, outputs.bytes(), answer)
+}
+
 /// The part as the answer of a raw call has it: where it begins in the store, and its length.
 pub fn layer(call: &Call, _: &mut Outputs) -> Answer {
     let [k, rate, step] = parameters_of(call);

@@ -366,6 +366,7 @@ mod tests {
     use super::*;
     use crate::answer::NONE;
     use crate::compare::fold::FOLD;
+    use crate::compare::write::WRITE;
 
     /// A safe function cannot write beside its list, so this stands where the library is called.
     #[test]
@@ -381,6 +382,22 @@ mod tests {
                 lent.numbers[edge] = number;
                 assert!(after != due);
             }
+        }
+    }
+
+    /// As many as would be written with one section too many.
+    #[test]
+    fn a_byte_beside_a_list_of_bytes_shows() {
+        let call = WRITE.any(&mut Random::named("beside bytes"), [3, 1, 1]);
+        let due = after_raw(&Reference, &call);
+        let behind = call[Bytes].len() as isize;
+        for place in (-40..0).chain(behind..behind + 40) {
+            let mut after = after_raw(&Reference, &call);
+            assert!(after == due);
+            let lent = after.outputs.bytes.as_mut().expect("a list of bytes");
+            let place = lent.list.start.checked_add_signed(place).expect("a place that is watched");
+            lent.numbers[place] ^= 1;
+            assert!(after != due);
         }
     }
 }

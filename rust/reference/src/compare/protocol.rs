@@ -21,7 +21,7 @@ use inputs::{any_queries, damaged, known, queries, right, Turns};
 // The operations.
 
 /// What the prover and the judge have in common.
-const OVER_A_RUN: Operation = Operation {
+pub(super) const OVER_A_RUN: Operation = Operation {
     name: "",
     numbers: &[K, Rate, Step, Offset],
     given: &[],
@@ -68,7 +68,7 @@ pub static JUDGE: Operation = Operation {
     ..OVER_A_RUN
 };
 
-fn with([k, rate, step]: Setting) -> Parameters {
+pub(super) fn with([k, rate, step]: Setting) -> Parameters {
     Parameters { k, rate, step }
 }
 
@@ -91,7 +91,7 @@ fn due_length(call: &Call, list: List) -> usize {
 
 // Calls of runs.
 
-fn call_of(operation: Op, run: Run) -> Call {
+pub(super) fn call_of(operation: Op, run: Run) -> Call {
     let Parameters { k, rate, step } = run.parameters;
     Call::of(operation)
         .with_setting([k, rate, step])
@@ -110,7 +110,7 @@ fn prove_call(mut run: Run) -> Call {
     call_of(&PROVE, run)
 }
 
-fn judge_call(Judging { run, queries }: Judging) -> Call {
+pub(super) fn judge_call(Judging { run, queries }: Judging) -> Call {
     call_of(&JUDGE, run).with_list(Queries, queries)
 }
 
@@ -118,7 +118,7 @@ fn parameters_of(call: &Call) -> Parameters {
     with([K, Rate, Step].map(|number| call[number]))
 }
 
-fn run_of(call: &Call) -> Run {
+pub(super) fn run_of(call: &Call) -> Run {
     Run {
         parameters: parameters_of(call),
         offset: call[Offset],
@@ -356,4 +356,4 @@ fn judgings(library: &dyn Library, amounts: &Amounts) -> Vec<Comparison> {
 }
 
 #[cfg(test)]
-mod tests;
+pub(super) mod tests;

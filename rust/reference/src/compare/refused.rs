@@ -181,11 +181,12 @@ mod tests {
     use crate::compare::operation::{after_raw, after_safe, Reference};
     use crate::compare::protocol::{JUDGE, PROVE};
     use crate::compare::reed_solomon::{ENCODE, INTERPOLATE};
+    use crate::compare::write::WRITE;
     use crate::compare::wrong::{causes, first_of_all, refusing, right_library, Wrong};
     use crate::coset::first_dependent;
     use std::collections::HashSet;
 
-    const OPERATIONS: [Op; 5] = [&ENCODE, &INTERPOLATE, &FOLD, &PROVE, &JUDGE];
+    const OPERATIONS: [Op; 6] = [&ENCODE, &INTERPOLATE, &FOLD, &PROVE, &JUDGE, &WRITE];
 
     const FEW: Amounts = Amounts {
         out_of_range: &[1 << 8, 37],

@@ -12,7 +12,7 @@ use crate::random::Random;
 pub type Turns = [usize; 10];
 
 /// All parameters that there are turns for, with the number of each turn.
-fn turns(amounts: &[usize]) -> impl Iterator<Item = (Parameters, usize)> + '_ {
+pub fn turns(amounts: &[usize]) -> impl Iterator<Item = (Parameters, usize)> + '_ {
     let of = |parameters: Parameters| {
         (0..amounts[parameters.k as usize]).map(move |turn| (parameters, turn))
     };

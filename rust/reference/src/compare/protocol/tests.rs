@@ -7,7 +7,7 @@ mod judges;
 mod lengths;
 mod lookups;
 mod provers;
-mod refusals;
+pub(in crate::compare) mod refusals;
 
 use super::*;
 use crate::compare::operation::Reference;

@@ -1,10 +1,10 @@
-//! Provers and judges that are wrong alike in what they refuse.
+//! Provers, judges and writers that are wrong alike in what they refuse.
 
 use super::*;
 use crate::answer::{done, refused};
 use crate::compare::wrong::{causes, first_of_all, refusing};
 
-// Each name is the end of that of a comparison of the prover, and of one of the judge.
+// Each name is the end of that of a comparison of each of them.
 
 const K_OUT: &str = "k out of range";
 const K_OUT_AND_DAMAGED: &str = "k out of range and damaged";
