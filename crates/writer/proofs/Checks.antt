@@ -23,7 +23,7 @@ use Rattle.layout.specs.Parameters.{stepsBy}
 use Rattle.written.specs.Transcript.{transcriptOf, transcriptLength}
 use Rattle.written.specs.Writer.{sizeOutcome, writeOutcome}
 use Rattle.written.proofs.Lengths.{transcript-size}
-use Rattle.writer.specs.Written.{sizedOutcome}
+use Rattle.writer.specs.Written.{afterListsOutcome}
 
 module _ (p : Parameters) (basis queries : List ℕ) (size : ℕ) where
   abbrev needed : ℕ
@@ -35,12 +35,12 @@ module _ (p : Parameters) (basis queries : List ℕ) (size : ℕ) where
   abbrev after-size : Outcome
   after-size = andThen (basesOutcome (stepsBy p) basis) (queriesOutcome (p .k) (stepAt (stepsBy p) 0) queries)
 
-  pub size-refused : size ≢ needed → Refused (WrongLength 8) ≡ sizedOutcome p basis queries size
+  pub size-refused : size ≢ needed → Refused (WrongLength 8) ≡ afterListsOutcome p basis queries size
   size-refused n =
       then-refused of-size after-size (WrongLength 8)
       (sym (refused-by (eqb size needed) (WrongLength 8) Done (ne-eqb size needed n)))
 
-  pub size-passed : size ≡ needed → after-size ≡ sizedOutcome p basis queries size
+  pub size-passed : size ≡ needed → after-size ≡ afterListsOutcome p basis queries size
   size-passed e =
       then-passed of-size after-size (sym (passed-by (eqb size needed) (WrongLength 8) Done (eq-eqb size needed e)))
 
@@ -63,7 +63,7 @@ module _ (run : Run) (queries : List ℕ) (size : ℕ) where
 
   -- the formula says how long the transcript is
   pub sized-is : ValidParameters (run .k) (run .rate) (run .step) → Fit run
-      → sizedOutcome (record { k = run .k; rate = run .rate; step = run .step }) (run .basis) queries size
+      → afterListsOutcome (record { k = run .k; rate = run .rate; step = run .step }) (run .basis) queries size
       ≡ after-lengths
   sized-is valid fits =
       ap (λ (n : ℕ). andThen (refusedUnless (eqb size n) (WrongLength 8) Done) (andThen bases of-queries))

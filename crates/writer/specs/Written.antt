@@ -16,14 +16,14 @@ use Rattle.layout.specs.Parameters.{stepsBy}
 use Rattle.written.specs.Transcript.{transcriptLength}
 use Rattle.written.specs.Writer.{writeOutcome, bytesAfter}
 
--- what it answers on a run and its queries, and what it leaves in the lent list of bytes
-pub record Written (run : Run) (queries held : List ℕ) (outcome : Outcome) (left : List ℕ) : Type 0 where
+-- what it answers on a run and its queries, and what the lent list of bytes, which held `held`, holds after it
+pub record Written (run : Run) (queries held : List ℕ) (outcome : Outcome) (after : List ℕ) : Type 0 where
   pub answer : outcome ≡ writeOutcome run queries (length held)
-  pub bytes : left ≡ bytesAfter run queries held
+  pub bytes : after ≡ bytesAfter run queries held
 
 -- the checks after those of lists 1 to 5, with the needed length by its formula
-abbrev pub sizedOutcome : (p : Parameters) (basis queries : List ℕ) (size : ℕ) → Outcome
-sizedOutcome p basis queries size =
+abbrev pub afterListsOutcome : (p : Parameters) (basis queries : List ℕ) (size : ℕ) → Outcome
+afterListsOutcome p basis queries size =
     let needed = transcriptLength (p .k) (p .rate) (stepsBy p) (length queries) in
     andThen (refusedUnless (eqb size needed) (WrongLength 8) Done)
     (andThen (basesOutcome (stepsBy p) basis) (queriesOutcome (p .k) (stepAt (stepsBy p) 0) queries))

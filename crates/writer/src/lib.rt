@@ -11,7 +11,7 @@ ghost use Rattle.layout.specs.Parameters.{stepsBy, Valid, runOf};
 ghost use Rattle.written.specs.Transcript.{transcriptLength};
 ghost use Rattle.written.specs.Writer.{writeOutcome};
 ghost use Rattle.writer.specs.Lengths.{transcriptLengthOf};
-ghost use Rattle.writer.specs.Written.{sizedOutcome, Written};
+ghost use Rattle.writer.specs.Written.{afterListsOutcome, Written};
 
 // No list of 64-bit numbers has as many entries.
 const LIST_LIMIT: usize = 1 << 60;
@@ -113,7 +113,7 @@ fn checked(
                 last,
             );
             match lengths {
-                Outcome::Done => checked_size(parameters, basis, queries, size),
+                Outcome::Done => checked_after_lists(parameters, basis, queries, size),
                 Outcome::Refused(cause) => Outcome::Refused(cause),
             }
         }
@@ -122,9 +122,14 @@ fn checked(
 }
 
 // The checks after those of lists 1 to 5: list 8 (13), the bases (8, 16), the queries (9, 10).
-fn checked_size(parameters: Parameters, basis: &[u64], queries: &[u64], size: usize) -> Outcome
+fn checked_after_lists(
+    parameters: Parameters,
+    basis: &[u64],
+    queries: &[u64],
+    size: usize,
+) -> Outcome
     requires { ⌜ Valid parameters × (length (now basis) ≡ parameters .k) ⌝ }
-    ensures { λ r. ⌜ r ≡ sizedOutcome parameters (now (basis .entry)) (now (queries .entry)) size ⌝ }
+    ensures { λ r. ⌜ r ≡ afterListsOutcome parameters (now (basis .entry)) (now (queries .entry)) size ⌝ }
 {
     if size != length_due(parameters, queries.len()) {
         return Outcome::Refused(Cause::WrongLength { list: 8 });

@@ -72,8 +72,8 @@ checked-lengths-requires c κs = valid c
 enum-told-2 : tie.Need-enum-told-2
 enum-told-2 c = search needs
 
-checked-size-requires : tie.Need-checked-size-requires
-checked-size-requires c κs =
+checked-after-lists-requires : tie.Need-checked-after-lists-requires
+checked-after-lists-requires c κs =
     let told = c .before .before .before in
     (valid told, lengths-fit (run-at (told .before .before)) (fitting c) .basis)
 
@@ -89,7 +89,7 @@ returns c =
     let first = told .before .before in
     let a = start-of first .args in
     let run = run-at first in
-    c .checked-size .ensures
+    c .checked-after-lists .ensures
     ∙ sized-is run (a .queries .now) (a .size) (valid told) (lengths-fit run (fitting (c .before)))
     ∙ then-passed (lengthsOutcome run) (lengths-left first) (fitting (c .before))
     ∙ then-passed (ranges-of first) (ranges-left first) (in-range told)
@@ -117,7 +117,7 @@ checked-spec =
     enum-told
     checked-lengths-requires
     enum-told-2
-    checked-size-requires
+    checked-after-lists-requires
     enum-known-lengths
     enum-known-ranges
     returns

@@ -1,4 +1,4 @@
--- `writer::checked_size` meets its contract. Assumes nothing.
+-- `writer::checked_after_lists` meets its contract. Assumes nothing.
 use mathlib.Core.Path.{_≡_, sym, ap, _∙_}
 use Prim.Native.Nat.{ℕ}
 use native.Mathlib.Omega.{arith}
@@ -11,8 +11,8 @@ use Rattle.fri.specs.Checks.{basesOutcome, queriesOutcome}
 use Rattle.fri.proofs.Layouts.{first-step}
 use Rattle.layout.specs.Parameters.{stepsBy}
 use Rattle.writer.proofs.Checks.{size-refused, size-passed}
-use Rattle.writer.proofs.checked_size.Statement.{statement}
-use Rattle.writer.proofs.checked_size.Tie as tie
+use Rattle.writer.proofs.checked_after_lists.Statement.{statement}
+use Rattle.writer.proofs.checked_after_lists.Tie as tie
 
 -- where the lists are known
 abbrev start-of : tie.After-length-due → tie.Start
@@ -72,8 +72,8 @@ returns-3 c =
     ∙ size-passed (a .parameters) (a .basis .now) (a .queries .now) (a .size)
     (omega (arith, sized .length-due .ensures))
 
-pub checked-size-spec : {M : Type 1} → statement M
-checked-size-spec =
+pub checked-after-lists-spec : {M : Type 1} → statement M
+checked-after-lists-spec =
     tie.close
     (tie.spec
     length-due-requires
