@@ -276,7 +276,7 @@ static inline struct rz_answer rz_fold_answer(const struct rz_fold_call *call,
  * interpolant, constant first. They are those of the last polynomial. A coset of a layer's fold is
  * the 2^step points that q sends to one point, as rz_fold_answer has it. */
 
-/* What prover and judge are both given. */
+/* What the prover, the judge and the writer of transcripts are all given. */
 struct rz_run {
     size_t k, rate, step;
     uint64_t offset;

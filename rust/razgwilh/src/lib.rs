@@ -155,7 +155,7 @@ pub fn fold(given: Fold, values: &mut [u64], next_basis: &mut [u64]) -> Result<u
     Ok(done.value)
 }
 
-/// What a prover and a judge are both given.
+/// What the prover, the judge and the writer of transcripts are all given.
 #[derive(Clone, Copy, Debug)]
 pub struct Run<'a> {
     /// The dimension of the word's coset, 2 to 20, and at least rate + step.
