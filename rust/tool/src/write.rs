@@ -8,7 +8,7 @@ use crate::{complain, explain, Status};
 use razgwilh::{encode, prove, rounds, write_transcript, Cause, Refusal, Run};
 use std::borrow::Cow;
 use std::ffi::OsStr;
-use std::fs::{self, File, OpenOptions};
+use std::fs::{self, File, Metadata, OpenOptions};
 use std::io::{self, ErrorKind, Write};
 use std::os::unix::fs::MetadataExt;
 
@@ -94,7 +94,7 @@ fn put(request: &Writing, transcript: &[u8]) -> Result<(), String> {
             .map_err(|error| format!("standard output: {error}"));
     }
     let named = |what: &str| format!("{}: {what}", shown(&request.out));
-    if same_file(&request.assignment, &request.out) {
+    if is_assignment(request) {
         return Err(named("this is the assignment"));
     }
     let file = open(&request.out, request.force).map_err(|error| match error.kind() {
@@ -107,9 +107,17 @@ fn put(request: &Writing, transcript: &[u8]) -> Result<(), String> {
     })
 }
 
-fn same_file(one: &OsStr, other: &OsStr) -> bool {
-    let identity = |name| fs::metadata(name).map(|found| (found.dev(), found.ino()));
-    matches!((identity(one), identity(other)), (Ok(one), Ok(other)) if one == other)
+/// Whether OUT is the file that the assignment was read from, by any name or as standard input.
+fn is_assignment(request: &Writing) -> bool {
+    let assignment = match request.assignment == STANDARD {
+        true => files::descriptor(io::stdin()).and_then(|file| file.metadata()),
+        false => fs::metadata(&request.assignment),
+    };
+    let identity = |found: Metadata| (found.dev(), found.ino());
+    match (assignment, fs::metadata(&request.out)) {
+        (Ok(one), Ok(other)) => identity(one) == identity(other),
+        _ => false,
+    }
 }
 
 fn open(out: &OsStr, force: bool) -> io::Result<File> {
