@@ -71,7 +71,31 @@ fn word(assignment: &Assignment) -> Result<Cow<'_, [u64]>, Refusal> {
 fn told(name: &str, assignment: &Assignment, refusal: &Refusal) -> String {
     let line = spoken_of(refusal).and_then(|name| assignment.line(name));
     let line = line.map_or(String::new(), |line| format!("line {line}: "));
-    format!("{name}: {line}{refusal}\n    {}", explain::after_refusal(refusal.cause))
+    let more = more(assignment, refusal);
+    format!("{name}: {line}{refusal}{more}\n    {}", explain::after_refusal(refusal.cause))
+}
+
+/// What number and place do not tell: the length of a list and the one due; that the encoder,
+/// which was given good parameters, takes fewer points than the prover.
+fn more(assignment: &Assignment, refusal: &Refusal) -> String {
+    let Assignment { k, rate, step, ref basis, ref challenges, ref given, .. } = *assignment;
+    let rounds = rounds(k, rate, step);
+    match (refusal.cause, refusal.place, given) {
+        (Cause::WrongLength, Some(1), _) => format!(" has length {}, not {k}", basis.len()),
+        (Cause::WrongLength, Some(2), _) => {
+            format!(" has length {}, not {rounds}", challenges.len())
+        }
+        (Cause::WrongLength, Some(3), Given::Word(word)) => {
+            format!(" has length {}, not {}", word.len(), 1 << k)
+        }
+        (Cause::WrongLength, Some(3), Given::Coefficients(coefficients)) => {
+            format!(" has length {}, over {}", coefficients.len(), 1 << k)
+        }
+        (Cause::DimensionOutOfRange, ..) if rounds > 0 => {
+            "; coefficients are for k up to 12: give the word".to_string()
+        }
+        _ => String::new(),
+    }
 }
 
 fn spoken_of(refusal: &Refusal) -> Option<Name> {
