@@ -160,6 +160,8 @@ fn fill(mut file: &File, transcript: &[u8]) -> io::Result<()> {
 /// Leaves no part of a transcript behind, where it went into a file and not into a device.
 fn discard(out: &OsStr, file: &File) {
     if file.metadata().is_ok_and(|found| found.is_file()) {
+        // Its name may be one that cannot be removed.
+        let _ = file.set_len(0);
         let _ = fs::canonicalize(out).and_then(fs::remove_file);
     }
 }
