@@ -55,8 +55,8 @@ ProvedIsAccepted =
     → Honest run queries → Proved run outcome store last → verdict ≡ verdictOf (leaving run store last) queries
     → (outcome ≡ Done) × (verdict ≡ accepted run queries)
 
--- the same through bytes: `write` puts what `prove` leaves of such a word into as many bytes as are needed, and these are
--- accepted
+-- the same through bytes: `write` puts what `prove` leaves of such a word into as many bytes as are needed, and these
+-- are accepted
 abbrev pub WrittenIsAccepted : Type 0
 WrittenIsAccepted =
     (run : Run) (queries held : List ℕ) (proved written : Outcome) (store last bytes : List ℕ) (verdict : Verdict)

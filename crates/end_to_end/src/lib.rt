@@ -51,9 +51,9 @@ pub fn prove_and_judge(
     ProvedAndJudged { outcome, verdict }
 }
 
-// Proves, writes what the two lent lists hold then as a transcript, and judges the bytes that list 8 holds then, whatever
-// prover and writer answered. Where the word has low degree, the other input is valid and list 8 has the needed length,
-// it is proved, written and accepted.
+// Proves, writes what the two lent lists hold then as a transcript, and judges the bytes that list 8 holds then,
+// whatever prover and writer answered. Where the word has low degree, the other input is valid and list 8 has the
+// needed length, it is proved, written and accepted.
 pub fn prove_write_and_judge(
     parameters: Parameters,
     offset: Element,

@@ -32,8 +32,8 @@ twoRoundsBytes =
     ++ (count 8 ++ entry 0 ++ entry 1 ++ entry 4 ++ entry 5 ++ entry 0x10 ++ entry 0x11 ++ entry 0x14 ++ entry 0x15)
     ++ (count 4 ++ entry 2 ++ entry 4 ++ entry 0x16 ++ entry 0x10) ++ (count 1 ++ entry 1)
 
--- they are what is written of Table A's runs; 136 bytes; G is accepted with 4 reads, H refused by 11 at query 1 in round
--- 0 with 4 reads
+-- they are what is written of Table A's runs; 136 bytes; G is accepted with 4 reads, H refused by 11 at query 1 in
+-- round 0 with 4 reads
 pub record TranscriptCases : Type 0 where
   pub written-g : transcriptOf (small 4 (7 ∷ 4 ∷ 1 ∷ 2 ∷ []) (0xb ∷ [])) (0 ∷ 3 ∷ []) ≡ oneRound 2
   pub written-h : transcriptOf (small 4 (7 ∷ 4 ∷ 1 ∷ 3 ∷ []) (0xb ∷ [])) (0 ∷ 3 ∷ []) ≡ oneRound 3

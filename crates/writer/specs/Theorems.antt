@@ -9,8 +9,8 @@ use Rattle.layout.specs.Parameters.{runOf}
 use Rattle.written.specs.Writer.{writeOutcome}
 use Rattle.writer.specs.Lengths.{transcriptLengthOf}
 
--- with a list 8 of that length the writer refuses what the judge over lists refuses before its round checks, and nothing
--- else; no list has 2^60 queries
+-- with a list 8 of that length the writer refuses what the judge over lists refuses before its round checks, and
+-- nothing else; no list has 2^60 queries
 abbrev pub LengthTold : Type 0
 LengthTold =
     (p : Parameters) (offset : ℕ) (basis challenges queries word store last : List ℕ) → length queries < 2 ^ 60
