@@ -7,4 +7,13 @@ pub fold-numbers : FoldNumbers
 fold-numbers = record { done = refl; wrong-length = refl; later-basis = refl }
 
 pub run-numbers : RunNumbers
-run-numbers = record { proved = refl; degree = refl; store = refl; accepted = refl; refused = refl; part = part-taken }
+run-numbers =
+    record {
+      proved = refl;
+      degree = refl;
+      store = refl;
+      accepted = refl;
+      refused = refl;
+      shared = refl;
+      part = part-taken;
+    }

@@ -5,6 +5,7 @@ use mathlib.Core.List.{List, [], _∷_}
 use Prim.Native.Nat.{ℕ}
 use lib.ListN.{length, take, drop}
 use Rattle.refusal.specs.declared.Cause.the-variants.{WrongLength, LaterBasisDependent, DegreeTooLarge, RoundCheckFails}
+use Rattle.refusal.specs.declared.Cause.the-variants.{CosetShared}
 use Rattle.refusal.specs.declared.Outcome.the-variants as outcomes
 use Rattle.fold.specs.declared.Folded.the-variants.{NextOffset, Refused}
 use Rattle.fri.specs.declared.Answer.the-variants as answers
@@ -30,6 +31,9 @@ pub record RunNumbers : Type 0 where
       ≡ 0 ∷ none ∷ none ∷ 4 ∷ none ∷ []
   pub refused : numbersOf (answerOfVerdict (record { answer = answers.Refused (RoundCheckFails 1 0); reads = 4 }))
       ≡ 11 ∷ 1 ∷ 0 ∷ 4 ∷ none ∷ []
+  -- two queries in one first-layer coset
+  pub shared : numbersOf (answerOfVerdict (record { answer = answers.Refused (CosetShared 1); reads = 0 }))
+      ≡ 17 ∷ 1 ∷ none ∷ 0 ∷ none ∷ []
   -- as many entries as the value says, from the place on, are what the lookup hands back
   pub part : (p : Parameters) (store : List ℕ) (i : ℕ)
       → (let answer = answerOfPart (partOf p (length store) i) in take (answer .value) (drop (answer .place) store))

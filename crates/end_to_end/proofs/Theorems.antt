@@ -24,7 +24,7 @@ proved-is-accepted run queries outcome store last verdict h proved v =
     ap₂ (λ (x y : List ℕ). verdictOf (leaving run x y) queries) (proved .store ∙ honest .1) (proved .last ∙ honest .2)
     in (
       proved .answer ∙ honest .0,
-      v ∙ left ∙ completeness run queries (h .coset) (h .input) (h .low) (h .queries-valid),
+      v ∙ left ∙ completeness run queries (h .coset) (h .input) (h .low) (h .queries-valid) (h .queries-apart),
     )
 
 pub written-is-accepted : WrittenIsAccepted
@@ -33,9 +33,10 @@ written-is-accepted run queries held proved written store last bytes verdict h s
     let same = ap₂ (leaving run) (p .store ∙ done .1) (p .last ∙ done .2) in (
       p .answer ∙ done .0,
       w .answer ∙ ap₂ (λ (x : Run) (n : ℕ). writeOutcome x queries n) same size
-          ∙ written-bytes .honest-done run queries (h .coset) (h .input) (h .queries-valid),
+          ∙ written-bytes .honest-done run queries (h .coset) (h .input) (h .queries-valid) (h .queries-apart),
       v ∙ ap transcriptVerdict (w .bytes ∙ ap (λ (x : Run). bytesAfter x queries held) same)
-          ∙ written-bytes .honest-accepted run queries held (h .coset) (h .input) (h .low) (h .queries-valid) size,
+          ∙ written-bytes .honest-accepted run queries held (h .coset) (h .input) (h .low) (h .queries-valid)
+          (h .queries-apart) size,
     )
 
 lists : List Judging → List (List ℕ)

@@ -18,9 +18,10 @@ use Rattle.transcript.specs.Judge.{transcriptVerdict}
 use Rattle.written.specs.Transcript.{transcriptLength}
 use Rattle.prover.specs.Proved.{Proved}
 use Rattle.writer.specs.Written.{Written}
-use Rattle.fri.specs.Demand.{ValidCoset, ProverInput, LowDegree, ValidQueries, Any, Visits, Elements, Sound}
+use Rattle.fri.specs.Demand.{ValidCoset, ProverInput, LowDegree, ValidQueries, Apart, Any, Visits, Elements, Sound}
 
--- a word of low degree over a valid coset, any challenges, two lent lists of the lengths due, and a valid query list
+-- a word of low degree over a valid coset, any challenges, two lent lists of the lengths due, and a valid query list in
+-- which no two queries share a first-layer coset
 pub record Honest (run : Run) (queries : List ℕ) : Type 0 where
   pub coset : ValidCoset run
   pub input : ProverInput run
@@ -28,6 +29,7 @@ pub record Honest (run : Run) (queries : List ℕ) : Type 0 where
   pub store-fits : length (run .store) ≡ storeLength (run .k) (stepsIn run)
   pub last-fits : length (run .last) ≡ lastCount (run .k) (run .rate) (stepsIn run)
   pub queries-valid : ValidQueries (run .k) queries
+  pub queries-apart : Apart (stepIn run 0) queries
 
 -- accepted, with queries · r · 2^η entries read
 abbrev pub accepted : (run : Run) (queries : List ℕ) → Verdict

@@ -20,8 +20,8 @@ pub struct ProvedWrittenJudged {
     pub verdict: Verdict,
 }
 
-// Proves, and judges what the two lent lists hold then, whatever the prover answered. Where the word has low degree and
-// the other input is valid, it is proved and accepted.
+// Proves, and judges what the two lent lists hold then, whatever the prover answered. Where the word has low degree,
+// the other input is valid and no two queries share a first-layer coset, it is proved and accepted.
 pub fn prove_and_judge(
     parameters: Parameters,
     offset: Element,
@@ -52,8 +52,8 @@ pub fn prove_and_judge(
 }
 
 // Proves, writes what the two lent lists hold then as a transcript, and judges the bytes that list 8 holds then,
-// whatever prover and writer answered. Where the word has low degree, the other input is valid and list 8 has the
-// needed length, it is proved, written and accepted.
+// whatever prover and writer answered. Where the word has low degree, the other input is valid, no two queries share a
+// first-layer coset and list 8 has the needed length, it is proved, written and accepted.
 pub fn prove_write_and_judge(
     parameters: Parameters,
     offset: Element,

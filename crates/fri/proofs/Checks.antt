@@ -13,16 +13,16 @@ use borrow.Author.Tests.{le-leb, lt-leb, lt-ltb, eq-eqb, ne-eqb, ltb-true, ltb-f
 use Rattle.gf64.specs.Field.{IsElement}
 use Rattle.refusal.specs.declared.Cause.the-variants.{DimensionOutOfRange, RateOutOfRange, StepOutOfRange}
 use Rattle.refusal.specs.declared.Cause.the-variants.{DimensionTooSmall, WrongLength, BasisDependent}
-use Rattle.refusal.specs.declared.Cause.the-variants.{QueryCountOutOfRange, QueryOutOfRange}
+use Rattle.refusal.specs.declared.Cause.the-variants.{QueryCountOutOfRange, QueryOutOfRange, CosetShared}
 use Rattle.refusal.specs.declared.Outcome.{Outcome}
 use Rattle.refusal.specs.declared.Outcome.the-variants.{Done, Refused}
 use Rattle.refusal.specs.declared.Position.{Position}
 use Rattle.refusal.specs.declared.Position.the-variants.{At, Absent}
 use Rattle.refusal.specs.Checks.{refusedUnless, andThen}
-use Rattle.refusal.specs.Numbers.{numberOfOutcome}
+use Rattle.refusal.specs.Numbers.{numberOfOutcome, placeOfOutcome}
 use Rattle.refusal.proofs.Checks.{equal-of-test, le-of-test, refused-not-done, passed-by}
 use Rattle.refusal.proofs.Checks.{refused-by, unless-done, then-passed, then-refused, then-done}
-use Rattle.refusal.proofs.Checks.{number-unless, number-then, within, within-of, outside}
+use Rattle.refusal.proofs.Checks.{number-unless, number-then, within, within-of, outside, Either, which}
 use Rattle.poly.specs.Polynomial.{All}
 use Rattle.coset.specs.Span.{firstDependent, Independent}
 use Rattle.coset.specs.Answers.{outcomeOfBasis, outcomeOfLaterBasis}
@@ -31,10 +31,12 @@ use Rattle.fri.specs.Layout.{lastCount, storeLength}
 use Rattle.fri.specs.Run.{Run, stepsIn, roundsIn}
 use Rattle.fri.specs.Layers.{basisIn}
 use Rattle.fri.specs.Checks.{parametersOutcome, lengthsOutcome, laterBasesOutcome, basesOutcome, runOutcome}
-use Rattle.fri.specs.Checks.{firstOutside, outcomeOfOutside, indicesOutcome, queriesOutcome}
-use Rattle.fri.specs.Demand.{ValidParameters, ValidQueries}
+use Rattle.fri.specs.Checks.{firstOutside, outcomeOfOutside, firstShared, outcomeOfShared}
+use Rattle.fri.specs.Checks.{indicesOutcome, queriesOutcome}
+use Rattle.fri.specs.Demand.{ValidParameters, ValidQueries, Apart}
 use Rattle.fri.specs.Theorems.{Fit}
 use Rattle.fri.proofs.Cosets.{later-independent}
+use Rattle.fri.proofs.Shared.{none-shared}
 
 -- ---- parameters, check by check
 
@@ -304,6 +306,10 @@ all-inside : (p : Position) → outcomeOfOutside p ≡ Done → p ≡ Absent
 all-inside (At query) e = absurd (refused-not-done (QueryOutOfRange query) e)
 all-inside Absent e = refl
 
+none-together : (p : Position) → outcomeOfShared p ≡ Done → p ≡ Absent
+none-together (At query) e = absurd (refused-not-done (CosetShared query) e)
+none-together Absent e = refl
+
 abbrev counted : List ℕ → Bool
 counted queries = leb 1 (length queries) && leb (length queries) 256
 
@@ -311,22 +317,40 @@ module _ (k first : ℕ) (queries : List ℕ) where
   abbrev indices : Outcome
   indices = indicesOutcome k first queries
 
-  pub queries-pass : ValidQueries k queries → queriesOutcome k first queries ≡ Done
-  queries-pass v =
+  abbrev outside-outcome : Outcome
+  outside-outcome = outcomeOfOutside (firstOutside (2 ^ k) queries 0)
+
+  abbrev shared-outcome : Outcome
+  shared-outcome = outcomeOfShared (firstShared first queries)
+
+  -- all indices are below 2^k
+  inside-passes : ValidQueries k queries → queriesOutcome k first queries ≡ shared-outcome
+  inside-passes v =
       sym
       (passed-by (counted queries) QueryCountOutOfRange indices (within 1 256 (length queries) (v .least) (v .most)))
-      ∙ ap outcomeOfOutside (none-outside (2 ^ k) queries 0 (v .within))
+      ∙ sym (then-passed outside-outcome shared-outcome
+      (ap outcomeOfOutside (none-outside (2 ^ k) queries 0 (v .within))))
 
-  pub queries-valid : queriesOutcome k first queries ≡ Done → ValidQueries k queries
-  queries-valid e =
-      let both = unless-done (counted queries) QueryCountOutOfRange indices e in
-      let count = within-of 1 256 (length queries) (both .0) in
-      let inside = all-inside (firstOutside (2 ^ k) queries 0) (both .1) in
+  pub queries-pass : ValidQueries k queries → Apart first queries → queriesOutcome k first queries ≡ Done
+  queries-pass v apart = inside-passes v ∙ ap outcomeOfShared (none-shared first queries .1 apart)
+
+  inside-valid : (counted queries ≡ true) → outside-outcome ≡ Done → ValidQueries k queries
+  inside-valid c e =
+      let count = within-of 1 256 (length queries) c in
+      let inside = all-inside (firstOutside (2 ^ k) queries 0) e in
       record {
         least = count .0;
         most = count .1;
         within = subst (Outside (2 ^ k) queries 0) inside (outside-told (2 ^ k) queries 0);
       }
+
+  pub queries-valid : queriesOutcome k first queries ≡ Done → ValidQueries k queries × Apart first queries
+  queries-valid e =
+      let both = unless-done (counted queries) QueryCountOutOfRange indices e in
+      let each = then-done outside-outcome shared-outcome (both .1) in (
+        inside-valid (both .0) (each .0),
+        none-shared first queries .0 (none-together (firstShared first queries) (each .1)),
+      )
 
   pub count-refused : (length queries < 1) ⊎ (256 < length queries)
       → queriesOutcome k first queries ≡ Refused QueryCountOutOfRange
@@ -336,7 +360,11 @@ module _ (k first : ℕ) (queries : List ℕ) where
       → firstOutside (2 ^ k) queries 0 ≡ At query → queriesOutcome k first queries ≡ Refused (QueryOutOfRange query)
   outside-refused query l m e =
       sym (passed-by (counted queries) QueryCountOutOfRange indices (within 1 256 (length queries) l m))
-      ∙ ap outcomeOfOutside e
+      ∙ sym (then-refused outside-outcome shared-outcome (QueryOutOfRange query) (ap outcomeOfOutside e))
+
+  pub shared-refused : (query : ℕ) → ValidQueries k queries → firstShared first queries ≡ At query
+      → queriesOutcome k first queries ≡ Refused (CosetShared query)
+  shared-refused query v e = inside-passes v ∙ ap outcomeOfShared e
 
 -- ---- which numbers there are
 
@@ -383,13 +411,14 @@ pub run-number : (P : ℕ → Type 0) → P 0 → ((n : ℕ) → 4 ≤ n → n �
 run-number P p0 low p13 run h =
     run-number-by P p0 low p13 run (bases-number P p0 (low 8 (omega arith) (omega arith)) run h)
 
--- numbers other than 9 to 12, which no check of a run gives, whatever its basis
+-- the numbers that the checks of a run give, whatever its basis: none from 9 to 12, and none from 17 on
 abbrev pub Early : ℕ → Type 0
-Early n = (n < 9) ⊎ (12 < n)
+Early n = (n < 9) ⊎ ((12 < n) × (n < 17))
 
-pub early-not : (m n : ℕ) → 9 ≤ m → m ≤ 12 → Early n → n ≢ m
+pub early-not : (m n : ℕ) → 9 ≤ m → (m ≤ 12) ⊎ (17 ≤ m) → Early n → n ≢ m
 early-not m n l u (inl h) e = omega arith
-early-not m n l u (inr h) e = omega arith
+early-not m n l (inl u) (inr h) e = omega (arith, h .0)
+early-not m n l (inr u) (inr h) e = omega (arith, h .1)
 
 later-bases-early : (run : Run) (round left : ℕ)
     → Early (numberOfOutcome (laterBasesOutcome (stepsIn run) (run .basis) round left))
@@ -401,7 +430,7 @@ later-bases-early run round (suc left) =
     (by (firstDependent (basisIn run (suc round)))) (later-bases-early run (suc round) left)
   where
     by : (p : Position) → Early (numberOfOutcome (outcomeOfLaterBasis round p))
-    by (At place) = inr (omega arith)
+    by (At place) = inr (omega arith, omega arith)
     by Absent = inl (omega arith)
 
 pub bases-early : (run : Run) → Early (numberOfOutcome (basesOutcome (stepsIn run) (run .basis)))
@@ -416,18 +445,54 @@ bases-early run =
 
 pub run-early : (run : Run) → Early (numberOfOutcome (runOutcome run))
 run-early run =
-    run-number-by Early (inl (omega arith)) (λ n l u. inl (omega arith)) (inr (omega arith)) run (bases-early run)
+    run-number-by Early (inl (omega arith)) (λ n l u. inl (omega arith)) (inr (omega arith, omega arith)) run
+    (bases-early run)
 
 outside-number : (P : ℕ → Type 0) → P 0 → P 10 → (p : Position) → P (numberOfOutcome (outcomeOfOutside p))
 outside-number P p0 p10 (At query) = p10
 outside-number P p0 p10 Absent = p0
 
-pub indices-number : (P : ℕ → Type 0) → P 0 → P 10 → (k first : ℕ) (queries : List ℕ)
-    → P (numberOfOutcome (indicesOutcome k first queries))
-indices-number P p0 p10 k first queries = outside-number P p0 p10 (firstOutside (2 ^ k) queries 0)
+shared-number : (P : ℕ → Type 0) → P 0 → P 17 → (p : Position) → P (numberOfOutcome (outcomeOfShared p))
+shared-number P p0 p17 (At query) = p17
+shared-number P p0 p17 Absent = p0
 
-pub queries-number : (P : ℕ → Type 0) → P 0 → P 9 → P 10 → (k first : ℕ) (queries : List ℕ)
+pub indices-number : (P : ℕ → Type 0) → P 0 → P 10 → P 17 → (k first : ℕ) (queries : List ℕ)
+    → P (numberOfOutcome (indicesOutcome k first queries))
+indices-number P p0 p10 p17 k first queries =
+    number-then P (outside-outcome k first queries) (shared-outcome k first queries)
+    (outside-number P p0 p10 (firstOutside (2 ^ k) queries 0)) (shared-number P p0 p17 (firstShared first queries))
+
+pub queries-number : (P : ℕ → Type 0) → P 0 → P 9 → P 10 → P 17 → (k first : ℕ) (queries : List ℕ)
     → P (numberOfOutcome (queriesOutcome k first queries))
-queries-number P p0 p9 p10 k first queries =
+queries-number P p0 p9 p10 p17 k first queries =
     number-unless P (counted queries) QueryCountOutOfRange (indicesOutcome k first queries) p9
-    (indices-number P p0 p10 k first queries)
+    (indices-number P p0 p10 p17 k first queries)
+
+-- ---- which query list is refused by 17
+
+outside-not-shared : (p : Position) (query : ℕ) → outcomeOfOutside p ≢ Refused (CosetShared query)
+outside-not-shared (At other) query e = let impossible : _≡_ {A = ℕ} 10 17 = ap numberOfOutcome e in omega arith
+outside-not-shared Absent query e = let impossible : _≡_ {A = ℕ} 0 17 = ap numberOfOutcome e in omega arith
+
+shared-at : (p : Position) (query : ℕ) → outcomeOfShared p ≡ Refused (CosetShared query) → p ≡ At query
+shared-at (At other) query e = ap placeOfOutcome e
+shared-at Absent query e = absurd (let impossible : _≡_ {A = ℕ} 0 17 = ap numberOfOutcome e in omega arith)
+
+module _ (k first : ℕ) (queries : List ℕ) (query : ℕ) where
+  pub shared-of : queriesOutcome k first queries ≡ Refused (CosetShared query)
+      → ValidQueries k queries × (firstShared first queries ≡ At query)
+  shared-of e = by-count (counted queries) refl e
+    where
+      by-index : counted queries ≡ true
+          → Either (outside-outcome k first queries) (shared-outcome k first queries) (CosetShared query)
+          → ValidQueries k queries × (firstShared first queries ≡ At query)
+      by-index c (inl f) = absurd (outside-not-shared (firstOutside (2 ^ k) queries 0) query f)
+      by-index c (inr f) =
+          (inside-valid k first queries c (f .0), shared-at (firstShared first queries) query (f .1))
+
+      by-count : (test : Bool) → counted queries ≡ test
+          → refusedUnless test QueryCountOutOfRange (indicesOutcome k first queries) ≡ Refused (CosetShared query)
+          → ValidQueries k queries × (firstShared first queries ≡ At query)
+      by-count true c f =
+          by-index c (which (outside-outcome k first queries) (shared-outcome k first queries) (CosetShared query) f)
+      by-count false c f = absurd (let impossible : _≡_ {A = ℕ} 9 17 = ap numberOfOutcome f in omega arith)

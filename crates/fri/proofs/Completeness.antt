@@ -38,7 +38,7 @@ use Rattle.fri.specs.Checks.{runOutcome}
 use Rattle.fri.specs.Judge.{verdictOf, numberOfAnswer}
 use Rattle.fri.specs.Rounds.{valueComputed, valueFound}
 use Rattle.fri.specs.Prover.{degreeOutcome, proveOutcome, storeAfter, lastAfter}
-use Rattle.fri.specs.Demand.{ValidCoset, ProverInput, LowDegree, ValidQueries, Any, Accepted}
+use Rattle.fri.specs.Demand.{ValidCoset, ProverInput, LowDegree, ValidQueries, Apart, Any, Accepted}
 use Rattle.fri.specs.Demand.{Visits, Covered, Elements, Completeness, HonestProofs}
 use Rattle.fri.specs.Theorems.{PassesEveryRound, Fit, JudgeNumber, ProverNumber}
 use Rattle.fri.proofs.Layouts.{index-within}
@@ -156,12 +156,13 @@ module _ (run : Run) (v : ValidCoset run) (p : ProverInput run) where
       }
 
   pub honest-accepted : LowDegree run → (queries : List ℕ) → ValidQueries (run .k) queries
+      → Apart (stepIn run 0) queries
       → verdictOf (honest run) queries
       ≡ record { answer = answers.Accepted; reads = length queries * roundsIn run * 2 ^ run .step }
-  honest-accepted low queries q =
+  honest-accepted low queries q apart =
       accepted-verdict (honest run) queries
       (checks-pass (honest run) queries
-      (run-passes (honest run) (v .basis-elements) (v .parameters) honest-fit (v .independent)) q)
+      (run-passes (honest run) (v .basis-elements) (v .parameters) honest-fit (v .independent)) q apart)
       (honest-passes low queries (q .within))
 
 -- ---- numbers that are never given
@@ -169,14 +170,15 @@ module _ (run : Run) (v : ValidCoset run) (p : ProverInput run) where
 never12 : (run : Run) → ValidCoset run → ProverInput run → LowDegree run → numberOfOutcome (proveOutcome run) ≢ 12
 never12 run v p low =
     number-then (λ n. n ≢ 12) (runOutcome run) (degreeOutcome run)
-    (early-not 12 (numberOfOutcome (runOutcome run)) (omega arith) (omega arith) (run-early run))
+    (early-not 12 (numberOfOutcome (runOutcome run)) (omega arith) (inl (omega arith)) (run-early run))
     (subst (λ (o : Outcome). numberOfOutcome o ≢ 12) (sym (degree-passes run (low-last run v p low)))
     (λ (e : _≡_ {A = ℕ} 0 12). omega arith))
 
 judge-not-16 : (n : ℕ) → JudgeNumber n → n ≢ 16
 judge-not-16 n (inl z) e = omega arith
 judge-not-16 n (inr (inl h)) e = omega (arith, h .1)
-judge-not-16 n (inr (inr t)) e = omega arith
+judge-not-16 n (inr (inr (inl t))) e = omega arith
+judge-not-16 n (inr (inr (inr t))) e = omega arith
 
 prover-not-16 : (n : ℕ) → ProverNumber n → n ≢ 16
 prover-not-16 n (inl z) e = omega arith
@@ -260,7 +262,8 @@ covered run v p low = (
       let inside : m < 2 ^ (run .k - step) = omega (arith, h, pow-pos (run .k - step)) in
       any-one (λ queries. Accepted (honest run) queries × Visits (honest run) queries m) (λ n. n * 2 ^ step) 0
       (2 ^ (run .k - step)) m (omega arith) (omega arith) (
-        ap (λ (verdict : Verdict). verdict .answer) (honest-accepted run v p low (m * 2 ^ step ∷ []) (valid m inside)),
+        ap (λ (verdict : Verdict). verdict .answer)
+            (honest-accepted run v p low (m * 2 ^ step ∷ []) (valid m inside) (record {}, record {})),
         inl (shl-shr m step),
       ),
 )
@@ -280,7 +283,7 @@ covered run v p low = (
         }
 
 pub completeness : Completeness
-completeness run queries v p low q = honest-accepted run v p low queries q
+completeness run queries v p low q apart = honest-accepted run v p low queries q apart
 
 pub honest-proofs : HonestProofs
 honest-proofs =

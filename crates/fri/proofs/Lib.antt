@@ -1,6 +1,7 @@
 pub mod Layouts
 pub mod Cosets
 pub mod Rounds
+pub mod Shared
 pub mod Checks
 pub mod Verdicts
 pub mod Values

@@ -1,6 +1,6 @@
 -- What the prover answers and leaves. Assumes nothing.
 use mathlib.Core.Path.{_≡_, refl, sym, ap, _∙_}
-use mathlib.Core.Logic.{⊎-elim}
+use mathlib.Core.Logic.{inl, ⊎-elim}
 use mathlib.Core.Bool.{Bool, true, false}
 use Prim.Native.Nat.{ℕ, suc, _-_, _≤_, _<_}
 use native.Mathlib.Omega.{arith}
@@ -14,7 +14,7 @@ use Rattle.refusal.specs.declared.Outcome.the-variants.{Done, Refused}
 use Rattle.refusal.specs.Checks.{refusedUnless, afterwards}
 use Rattle.refusal.specs.Numbers.{numberOfOutcome}
 use Rattle.refusal.proofs.Checks.{le-of-test, refused-not-done, passed-by, refused-by, unless-done}
-use Rattle.refusal.proofs.Checks.{then-passed, then-refused, then-done, number-unless}
+use Rattle.refusal.proofs.Checks.{then-passed, then-refused, then-done, which, number-unless}
 use Rattle.fri.specs.Layout.{lastCount}
 use Rattle.fri.specs.Run.{Run, stepsIn}
 use Rattle.fri.specs.Layers.{honestStore, lastInterpolant, honestLast}
@@ -22,7 +22,6 @@ use Rattle.fri.specs.Checks.{runOutcome}
 use Rattle.fri.specs.Prover.{degreeOutcome, proveOutcome, storeAfter, lastAfter}
 use Rattle.fri.specs.Theorems.{ProverAnswers}
 use Rattle.fri.proofs.Checks as checks
-use Rattle.fri.proofs.Verdicts.{which}
 
 module _ (run : Run) where
   abbrev bound : ℕ
@@ -58,7 +57,8 @@ module _ (run : Run) where
   high-degree degree e =
       ⊎-elim
       (λ (h : runOutcome run ≡ Refused (DegreeTooLarge degree)). absurd (checks.early-not 12
-      (numberOfOutcome (runOutcome run)) (omega arith) (omega arith) (checks.run-early run) (ap numberOfOutcome h)))
+      (numberOfOutcome (runOutcome run)) (omega arith) (inl (omega arith)) (checks.run-early run)
+      (ap numberOfOutcome h)))
       (λ (h : (runOutcome run ≡ Done) × (degreeOutcome run ≡ Refused (DegreeTooLarge degree))).
       let told = degree-refused degree (leb bound d) refl (h .1) in
       (h .0, told .0, told .1))

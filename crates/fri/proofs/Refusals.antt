@@ -1,7 +1,7 @@
 -- The checks before the round checks: what passes, what the first failing one refuses, and which numbers
 -- there are. Assumes nothing.
 use mathlib.Core.Path.{_≡_, refl, sym, ap, _∙_, subst}
-use mathlib.Core.Logic.{inl, inr}
+use mathlib.Core.Logic.{inl, inr, ⊎-elim}
 use mathlib.Core.List.{List}
 use Prim.Native.Nat.{ℕ}
 use native.Mathlib.Omega.{arith}
@@ -10,22 +10,26 @@ use Rattle.poly.specs.Polynomial.{All}
 use Rattle.refusal.specs.declared.Cause.{Cause}
 use Rattle.refusal.specs.declared.Cause.the-variants.{DimensionOutOfRange, RateOutOfRange, StepOutOfRange}
 use Rattle.refusal.specs.declared.Cause.the-variants.{DimensionTooSmall, WrongLength, BasisDependent}
-use Rattle.refusal.specs.declared.Cause.the-variants.{QueryCountOutOfRange, QueryOutOfRange}
+use Rattle.refusal.specs.declared.Cause.the-variants.{QueryCountOutOfRange, QueryOutOfRange, CosetShared}
 use Rattle.refusal.specs.declared.Outcome.{Outcome}
 use Rattle.refusal.specs.declared.Outcome.the-variants.{Done, Refused}
 use Rattle.refusal.specs.declared.Position.the-variants.{At, Absent}
 use Rattle.refusal.specs.Checks.{andThen}
 use Rattle.refusal.specs.Numbers.{numberOf, placeOf, roundOf, numberOfOutcome, placeOfOutcome, roundOfOutcome}
-use Rattle.refusal.proofs.Checks.{then-passed, then-refused, number-then}
+use Rattle.refusal.proofs.Checks.{then-passed, then-refused, which, number-then}
 use Rattle.coset.specs.Span.{firstDependent}
 use Rattle.fri.specs.Layout.{dimension}
 use Rattle.fri.specs.Run.{Run, stepsIn, stepIn}
-use Rattle.fri.specs.Checks.{parametersOutcome, lengthsOutcome, basesOutcome, runOutcome, queriesOutcome}
+use Rattle.fri.specs.declared.Answer.the-variants as answers
+use Rattle.fri.specs.Checks.{parametersOutcome, lengthsOutcome, basesOutcome, runOutcome}
+use Rattle.fri.specs.Checks.{queriesOutcome}
 use Rattle.fri.specs.Judge.{checksOutcome, verdictOf, numberOfAnswer}
 use Rattle.fri.specs.Rounds.{roundsOutcome}
 use Rattle.fri.specs.Prover.{degreeOutcome, proveOutcome}
 use Rattle.fri.specs.Demand.{ValidParameters}
-use Rattle.fri.specs.Theorems.{Fit, Passing, Tells, BothRefuse, Refusals, JudgeNumber, ProverNumber, OnlyNumbers}
+use Rattle.fri.specs.Theorems.{Fit, Passing, Tells, BothRefuse, Refusals, SharedAt, SharedCosets}
+use Rattle.fri.specs.Theorems.{JudgeNumber, ProverNumber, OnlyNumbers}
+use Rattle.fri.proofs.Shared.{shared-found, shared-earliest, none-shared, apart-few}
 use Rattle.fri.proofs.Rounds.{refused-by-round}
 use Rattle.fri.proofs.Provers.{refused-prove, refused-holds-both, degree-number}
 use Rattle.fri.proofs.Checks as checks
@@ -36,7 +40,7 @@ passing =
     record {
       common = λ run h. (λ e. checks.run-valid run e, λ t. checks.run-passes run h (t .0) (t .1) (t .2));
       all = λ run queries.
-          (λ e. verdicts.checks-valid run queries e, λ t. verdicts.checks-pass run queries (t .0) (t .1));
+          (λ e. verdicts.checks-valid run queries e, λ t. verdicts.checks-pass run queries (t .0) (t .1) (t .2));
     }
 
 both-refuse : (run : Run) (cause : Cause) → roundOf cause ≡ Absent → runOutcome run ≡ Refused cause
@@ -117,6 +121,52 @@ refusals =
           by-queries run queries (QueryOutOfRange query) d
           (checks.outside-refused (run .k) (stepIn run 0) queries query l m e);
       first-outside = checks.first-outside;
+      query-shared = λ run queries query d v e.
+          by-queries run queries (CosetShared query) d
+          (checks.shared-refused (run .k) (stepIn run 0) queries query v e);
+    }
+
+-- ---- queries that share a first-layer coset
+
+module _ (run : Run) (queries : List ℕ) (query : ℕ) where
+  shared-of-checks : checksOutcome run queries ≡ Refused (CosetShared query) → SharedAt run queries query
+  shared-of-checks e =
+      ⊎-elim
+      (λ (h : runOutcome run ≡ Refused (CosetShared query)). absurd
+      (checks.early-not 17 (numberOfOutcome (runOutcome run)) (omega arith) (inr (omega arith)) (checks.run-early run)
+      (ap numberOfOutcome h)))
+      (λ (h : (runOutcome run ≡ Done) × (queriesOutcome (run .k) (stepIn run 0) queries ≡ Refused (CosetShared query))).
+      let told = checks.shared-of (run .k) (stepIn run 0) queries query (h .1) in
+      (h .0, told .0, told .1))
+      (which (runOutcome run) (queriesOutcome (run .k) (stepIn run 0) queries) (CosetShared query) e)
+
+  shared-of-verdict : verdictOf run queries .answer ≡ answers.Refused (CosetShared query) → SharedAt run queries query
+  shared-of-verdict e =
+      ⊎-elim shared-of-checks
+      (λ (h : (checksOutcome run queries ≡ Done) × (roundsOutcome run queries 0 ≡ Refused (CosetShared query))).
+      absurd (let impossible : _≡_ {A = ℕ} 17 11 = refused-by-round run queries (CosetShared query) (h .1) in
+      omega arith))
+      (verdicts.refused-which run queries (CosetShared query) e)
+
+  checks-of-shared : SharedAt run queries query → checksOutcome run queries ≡ Refused (CosetShared query)
+  checks-of-shared t =
+      sym (then-passed (runOutcome run) (queriesOutcome (run .k) (stepIn run 0) queries) (t .0))
+      ∙ checks.shared-refused (run .k) (stepIn run 0) queries query (t .1) (t .2)
+
+pub shared-cosets : SharedCosets
+shared-cosets =
+    record {
+      found = shared-found;
+      earliest = shared-earliest;
+      none = none-shared;
+      checks = λ run queries query. (shared-of-checks run queries query, checks-of-shared run queries query);
+      refused = λ run queries query. (
+        shared-of-verdict run queries query,
+        λ t. verdicts.refused-early run queries (CosetShared query) (checks-of-shared run queries query t) .0,
+      );
+      accepted = λ run queries e.
+          verdicts.checks-valid run queries (verdicts.accepted-checks run queries e .0) .2;
+      most = apart-few;
     }
 
 -- ---- numbers
@@ -127,9 +177,9 @@ judge-number run queries h =
     subst JudgeNumber (sym (verdicts.same-number (andThen (checksOutcome run queries) (roundsOutcome run queries 0))))
     (number-then JudgeNumber (checksOutcome run queries) (roundsOutcome run queries 0)
     (number-then JudgeNumber (runOutcome run) (queriesOutcome (run .k) (stepIn run 0) queries)
-    (checks.run-number JudgeNumber (inl refl) (λ n l u. inr (inl (l, omega arith))) (inr (inr refl)) run h)
+    (checks.run-number JudgeNumber (inl refl) (λ n l u. inr (inl (l, omega arith))) (inr (inr (inl refl))) run h)
     (checks.queries-number JudgeNumber (inl refl) (inr (inl (omega arith, omega arith)))
-    (inr (inl (omega arith, omega arith))) (run .k) (stepIn run 0) queries))
+    (inr (inl (omega arith, omega arith))) (inr (inr (inr refl))) (run .k) (stepIn run 0) queries))
     (by (roundsOutcome run queries 0) refl))
   where
     by : (o : Outcome) → roundsOutcome run queries 0 ≡ o → JudgeNumber (numberOfOutcome o)

@@ -1,6 +1,5 @@
 -- What a verdict tells: which judgings are accepted, which refused and with how many reads. Assumes nothing.
 use mathlib.Core.Path.{_≡_, refl, sym, ap, ap₂, _∙_}
-use mathlib.Core.Logic.{_⊎_, inl, inr}
 use mathlib.Core.List.{List}
 use Prim.Native.Nat.{ℕ, _+_, _*_, _^_, _<_, min}
 use native.Mathlib.Nat.{mul-assoc, zero-add}
@@ -12,7 +11,7 @@ use Rattle.refusal.specs.declared.Outcome.{Outcome}
 use Rattle.refusal.specs.declared.Outcome.the-variants.{Done, Refused}
 use Rattle.refusal.specs.Checks.{andThen}
 use Rattle.refusal.specs.Numbers.{numberOf, placeOf, roundOf, numberOfOutcome}
-use Rattle.refusal.proofs.Checks.{then-passed, then-refused, then-done}
+use Rattle.refusal.proofs.Checks.{then-passed, then-refused, then-done, Either, which}
 use Rattle.fri.specs.declared.Answer.{Answer}
 use Rattle.fri.specs.declared.Answer.the-variants as answers
 use Rattle.fri.specs.Run.{Run, roundsIn, stepIn}
@@ -21,7 +20,7 @@ use Rattle.fri.specs.Judge.{checksOutcome, answerOf, readsAfter, verdict
 use Rattle.fri.specs.Judge.{numberOfAnswer, placeOfAnswer, roundOfAnswer}
 use Rattle.fri.specs.Rounds.{roundsOutcome}
 use Rattle.fri.specs.Reads.{entriesRead}
-use Rattle.fri.specs.Demand.{Accepted, ValidQueries}
+use Rattle.fri.specs.Demand.{Accepted, ValidQueries, Apart}
 use Rattle.fri.specs.Theorems.{PassesEveryRound, FailsFirst, Tells}
 use Rattle.fri.proofs.Rounds.{all-pass, pass-of-done, first-failing, read-all}
 use Rattle.fri.proofs.Rounds.{read-until, entries-of-rounds, entries-until}
@@ -40,14 +39,6 @@ refused-of (Refused other) cause e = let same : other ≡ cause = cc in ap Refus
 pub same-number : (o : Outcome) → numberOfAnswer (answerOf o) ≡ numberOfOutcome o
 same-number Done = refl
 same-number (Refused cause) = refl
-
--- a refusal of two groups of checks is one of the first, or of the second after the first has passed
-abbrev pub Either : Outcome → Outcome → Cause → Type 0
-Either first after cause = (first ≡ Refused cause) ⊎ ((first ≡ Done) × (after ≡ Refused cause))
-
-pub which : (first after : Outcome) (cause : Cause) → andThen first after ≡ Refused cause → Either first after cause
-which Done after cause e = inr (refl, e)
-which (Refused other) after cause e = inl e
 
 module _ (run : Run) (queries : List ℕ) where
   abbrev outcome : Outcome
@@ -128,10 +119,14 @@ module _ (run : Run) (queries : List ℕ) where
   pub run-refused : (cause : Cause) → runOutcome run ≡ Refused cause → checksOutcome run queries ≡ Refused cause
   run-refused cause e = sym (then-refused (runOutcome run) of-queries cause e)
 
-  pub checks-pass : runOutcome run ≡ Done → ValidQueries (run .k) queries → checksOutcome run queries ≡ Done
-  checks-pass e v = sym (then-passed (runOutcome run) of-queries e) ∙ queries-pass (run .k) (stepIn run 0) queries v
+  pub checks-pass : runOutcome run ≡ Done → ValidQueries (run .k) queries → Apart (stepIn run 0) queries
+      → checksOutcome run queries ≡ Done
+  checks-pass e v apart =
+      sym (then-passed (runOutcome run) of-queries e) ∙ queries-pass (run .k) (stepIn run 0) queries v apart
 
-  pub checks-valid : checksOutcome run queries ≡ Done → (runOutcome run ≡ Done) × ValidQueries (run .k) queries
+  pub checks-valid : checksOutcome run queries ≡ Done
+      → (runOutcome run ≡ Done) × ValidQueries (run .k) queries × Apart (stepIn run 0) queries
   checks-valid e =
       let both = then-done (runOutcome run) of-queries e in
-      (both .0, queries-valid (run .k) (stepIn run 0) queries (both .1))
+      let valid = queries-valid (run .k) (stepIn run 0) queries (both .1) in
+      (both .0, valid .0, valid .1)

@@ -1,12 +1,12 @@
 -- The checks of parameters, lists, bases and queries, in the order of document 01.
-use mathlib.Core.Bool.{cond, _&&_}
-use mathlib.Core.List.{List, [], _∷_}
-use Prim.Native.Nat.{ℕ, zero, suc, _+_, _^_}
+use mathlib.Core.Bool.{Bool, false, cond, _&&_, _||_}
+use mathlib.Core.List.{List, [], _∷_, _++_, map}
+use Prim.Native.Nat.{ℕ, zero, suc, _+_, _/_, _^_}
 use lib.Dec.{leb, ltb, eqb}
 use lib.ListN.{length}
 use Rattle.refusal.specs.declared.Cause.the-variants.{DimensionOutOfRange, RateOutOfRange, StepOutOfRange}
 use Rattle.refusal.specs.declared.Cause.the-variants.{DimensionTooSmall, WrongLength}
-use Rattle.refusal.specs.declared.Cause.the-variants.{QueryCountOutOfRange, QueryOutOfRange}
+use Rattle.refusal.specs.declared.Cause.the-variants.{QueryCountOutOfRange, QueryOutOfRange, CosetShared}
 use Rattle.refusal.specs.declared.Outcome.{Outcome}
 use Rattle.refusal.specs.declared.Outcome.the-variants.{Done, Refused}
 use Rattle.refusal.specs.declared.Position.{Position}
@@ -65,13 +65,39 @@ abbrev pub outcomeOfOutside : (outside : Position) → Outcome
 outcomeOfOutside (At query) = Refused (QueryOutOfRange query)
 outcomeOfOutside Absent = Done
 
--- the indices of a query list: each below 2^k (10). `first` is the step of round 0, whose cosets are the first-layer
--- cosets: the checks of a query list are given it, and none needs it yet
-abbrev pub indicesOutcome : (k first : ℕ) (queries : List ℕ) → Outcome
-indicesOutcome k first queries = outcomeOfOutside (firstOutside (2 ^ k) queries 0)
+-- x is one of the entries
+unfoldable pub among : (entries : List ℕ) (x : ℕ) → Bool
+among [] x = false
+among (y ∷ entries) x = eqb y x || among entries x
+
+-- the first of the entries that is one of those before it, `earlier` ones included;
+-- the first entry has the place given
+unfoldable pub firstRepeatedAfter : (earlier entries : List ℕ) (place : ℕ) → Position
+firstRepeatedAfter earlier [] place = Absent
+firstRepeatedAfter earlier (x ∷ entries) place =
+    cond (among earlier x) (At place) (firstRepeatedAfter (earlier ++ (x ∷ [])) entries (suc place))
+
+-- the first-layer coset that each query visits, by its number: coset j / 2^η holds point j, where η, here `firstStep`,
+-- is the step of round 0
+abbrev pub visitedCosets : (firstStep : ℕ) (queries : List ℕ) → List ℕ
+visitedCosets firstStep queries = map (λ j. j / 2 ^ firstStep) queries
+
+-- the first place, from 0, whose query lies in the first-layer coset of an earlier one
+unfoldable pub firstShared : (firstStep : ℕ) (queries : List ℕ) → Position
+firstShared firstStep queries = firstRepeatedAfter [] (visitedCosets firstStep queries) 0
+
+-- a query that shares a first-layer coset with an earlier one is refused (17)
+abbrev pub outcomeOfShared : (shared : Position) → Outcome
+outcomeOfShared (At query) = Refused (CosetShared query)
+outcomeOfShared Absent = Done
+
+-- the indices of a query list: each below 2^k (10), then no two in one first-layer coset (17)
+abbrev pub indicesOutcome : (k firstStep : ℕ) (queries : List ℕ) → Outcome
+indicesOutcome k firstStep queries =
+    andThen (outcomeOfOutside (firstOutside (2 ^ k) queries 0)) (outcomeOfShared (firstShared firstStep queries))
 
 -- a query list: 1 to 256 queries (9), then their indices
-abbrev pub queriesOutcome : (k first : ℕ) (queries : List ℕ) → Outcome
-queriesOutcome k first queries =
+abbrev pub queriesOutcome : (k firstStep : ℕ) (queries : List ℕ) → Outcome
+queriesOutcome k firstStep queries =
     refusedUnless (leb 1 (length queries) && leb (length queries) 256) QueryCountOutOfRange
-    (indicesOutcome k first queries)
+    (indicesOutcome k firstStep queries)

@@ -1,5 +1,6 @@
--- Demand 3 over the definitions: every honest run of a word of low degree is accepted;
--- and what holds of the layers where the accepted judgings of them together visit every first-layer coset.
+-- Demand 3 over the definitions: every honest run of a word of low degree is accepted, with valid queries of which no
+-- two share a first-layer coset; and what holds of the layers where the accepted judgings of them together visit every
+-- first-layer coset.
 -- proofs/Completeness.antt has a value of the first half, proofs/Soundness.antt of the second.
 use mathlib.Core.Path.{_≡_}
 use mathlib.Core.Logic.{_≢_, _⊎_}
@@ -17,6 +18,7 @@ use Rattle.fri.specs.declared.Answer.the-variants as answers
 use Rattle.fri.specs.Layout.{dimension, lastCount, storeLength}
 use Rattle.fri.specs.Run.{Run, stepsIn, roundsIn, stepIn, challengeIn, layerIn}
 use Rattle.fri.specs.Layers.{basisIn, offsetIn, foldOf, honestStore, honestLast, honest}
+use Rattle.fri.specs.Checks.{visitedCosets}
 use Rattle.fri.specs.Judge.{numberOfAnswer, verdictOf}
 use Rattle.fri.specs.Prover.{proveOutcome, storeAfter, lastAfter}
 
@@ -55,6 +57,10 @@ pub record ValidQueries (k : ℕ) (queries : List ℕ) : Type 0 where
   pub most : length queries ≤ 256
   pub within : All (λ j. j < 2 ^ k) queries
 
+-- no two queries share a first-layer coset; `firstStep` is the step of round 0
+abbrev pub Apart : (firstStep : ℕ) (queries : List ℕ) → Type 0
+Apart firstStep queries = Distinct (visitedCosets firstStep queries)
+
 -- P holds of some entry
 abbrev pub Any : {A : Type 0} (P : A → Type 0) (xs : List A) → Type 0
 Any P [] = ⊥
@@ -75,11 +81,12 @@ Covered run queryLists =
     (coset : ℕ) → coset < 2 ^ (run .k - stepIn run 0)
     → Any (λ queries. Accepted run queries × Visits run queries coset) queryLists
 
--- demand 3, first half: every honest run of a word of low degree is accepted with every valid query list,
--- and queries · r · 2^η entries are read
+-- demand 3, first half: every honest run of a word of low degree is accepted with every valid query list in which no
+-- two queries share a first-layer coset, and queries · r · 2^η entries are read
 abbrev pub Completeness : Type 0
 Completeness =
-    (run : Run) (queries : List ℕ) → ValidCoset run → ProverInput run → LowDegree run → ValidQueries (run .k) queries
+    (run : Run) (queries : List ℕ) → ValidCoset run → ProverInput run → LowDegree run
+    → ValidQueries (run .k) queries → Apart (stepIn run 0) queries
     → verdictOf (honest run) queries
     ≡ record { answer = answers.Accepted; reads = length queries * roundsIn run * 2 ^ run .step }
 

@@ -12,7 +12,7 @@ use Rattle.poly.specs.Carrier.{gf64}
 use Rattle.reed_solomon.specs.Codes.{interpolated}
 use Rattle.fold.specs.Fold.{folded}
 use Rattle.refusal.specs.declared.Cause.{Cause}
-use Rattle.refusal.specs.declared.Cause.the-variants.{RoundCheckFails, DegreeTooLarge}
+use Rattle.refusal.specs.declared.Cause.the-variants.{RoundCheckFails, DegreeTooLarge, CosetShared}
 use Rattle.refusal.specs.declared.Outcome.the-variants.{Done, Refused}
 use Rattle.refusal.specs.declared.Position.{Position}
 use Rattle.refusal.specs.declared.Position.the-variants.{At, Absent}
@@ -24,14 +24,14 @@ use Rattle.fri.specs.declared.Answer.the-variants as answers
 use Rattle.fri.specs.declared.Verdict.{Verdict}
 use Rattle.fri.specs.Layout.{roundsOf, stepsOf, stepAt, dimension, lastCount}
 use Rattle.fri.specs.Layout.{layerStart, storeLength, storedLayer, indexIn}
-use Rattle.fri.specs.Run.{Run, stepsIn, roundsIn, layerIn}
+use Rattle.fri.specs.Run.{Run, stepsIn, roundsIn, stepIn, layerIn}
 use Rattle.fri.specs.Layers.{basisIn, offsetIn, foldOf, honestLayer, honestStore, lastInterpolant, honestLast}
-use Rattle.fri.specs.Checks.{runOutcome, firstOutside}
+use Rattle.fri.specs.Checks.{runOutcome, firstOutside, firstShared}
 use Rattle.fri.specs.Lookup.{layerPart}
 use Rattle.fri.specs.Judge.{checksOutcome, verdictOf, numberOfAnswer, placeOfAnswer, roundOfAnswer}
 use Rattle.fri.specs.Rounds.{valueComputed, valueFound}
 use Rattle.fri.specs.Prover.{proveOutcome, storeAfter, lastAfter}
-use Rattle.fri.specs.Demand.{ValidParameters, ValidCoset, ProverInput, ValidQueries, Accepted}
+use Rattle.fri.specs.Demand.{ValidParameters, ValidCoset, ProverInput, ValidQueries, Apart, Accepted}
 
 -- the layout of document 01's parameters: r steps of η
 pub record Layouts : Type 0 where
@@ -132,13 +132,14 @@ pub record Fit (run : Run) : Type 0 where
   pub last : length (run .last) ≡ lastCount (run .k) (run .rate) (stepsIn run)
 
 -- the checks that prover and judge have in common, and those of the queries, pass exactly where parameters, lists,
--- basis and queries are valid
+-- basis and queries are valid, and no two queries share a first-layer coset
 pub record Passing : Type 0 where
   pub common : (run : Run) → All IsElement (run .basis)
       → (runOutcome run ≡ Done)
       ↔ (ValidParameters (run .k) (run .rate) (run .step) × Fit run × Independent (run .basis))
   pub all : (run : Run) (queries : List ℕ)
-      → (checksOutcome run queries ≡ Done) ↔ ((runOutcome run ≡ Done) × ValidQueries (run .k) queries)
+      → (checksOutcome run queries ≡ Done)
+      ↔ ((runOutcome run ≡ Done) × ValidQueries (run .k) queries × Apart (stepIn run 0) queries)
 
 -- a verdict's number, place, round and reads
 abbrev pub Tells : (verdict : Verdict) (number : ℕ) (place round : Position) (reads : ℕ) → Type 0
@@ -191,6 +192,37 @@ pub record Refusals : Type 0 where
   -- which is the first query whose index is not below 2^k
   pub first-outside : (size : ℕ) (queries : List ℕ) (query : ℕ) → firstOutside size queries 0 ≡ At query
       → (query < length queries) × (size ≤ getD queries query 0) × ((t : ℕ) → t < query → getD queries t 0 < size)
+  -- `SharedCosets` says which query that is
+  pub query-shared : (run : Run) (queries : List ℕ) (query : ℕ) → runOutcome run ≡ Done → ValidQueries (run .k) queries
+      → firstShared (stepIn run 0) queries ≡ At query → Tells (verdictOf run queries) 17 (At query) Absent 0
+
+-- all checks of the run and of its queries pass but the last: this query is the first that shares a first-layer coset
+-- with an earlier one
+abbrev pub SharedAt : (run : Run) (queries : List ℕ) (query : ℕ) → Type 0
+SharedAt run queries query =
+    (runOutcome run ≡ Done) × ValidQueries (run .k) queries × (firstShared (stepIn run 0) queries ≡ At query)
+
+-- queries that share a first-layer coset; `firstStep` is the step of round 0
+pub record SharedCosets : Type 0 where
+  -- the place told is the first whose query lies in the first-layer coset of an earlier one
+  pub found : (firstStep : ℕ) (queries : List ℕ) (query : ℕ) → firstShared firstStep queries ≡ At query
+      → (query < length queries)
+      × ((t : ℕ) × (t < query) × (getD queries t 0 / 2 ^ firstStep ≡ getD queries query 0 / 2 ^ firstStep))
+  pub earliest : (firstStep : ℕ) (queries : List ℕ) (query : ℕ) → firstShared firstStep queries ≡ At query
+      → (t u : ℕ) → t < u → u < query → getD queries t 0 / 2 ^ firstStep ≢ getD queries u 0 / 2 ^ firstStep
+  -- none is told exactly where no two share one
+  pub none : (firstStep : ℕ) (queries : List ℕ) → (firstShared firstStep queries ≡ Absent) ↔ Apart firstStep queries
+  -- 17 comes exactly where all other checks before the round checks pass and a place is told, in the checks and so in
+  -- the judge's answer
+  pub checks : (run : Run) (queries : List ℕ) (query : ℕ)
+      → (checksOutcome run queries ≡ Refused (CosetShared query)) ↔ SharedAt run queries query
+  pub refused : (run : Run) (queries : List ℕ) (query : ℕ)
+      → (verdictOf run queries .answer ≡ answers.Refused (CosetShared query)) ↔ SharedAt run queries query
+  -- no two queries of what is accepted share a coset: it visits as many as it has queries
+  pub accepted : (run : Run) (queries : List ℕ) → Accepted run queries → Apart (stepIn run 0) queries
+  -- and there are 2^(k - η) first-layer cosets
+  pub most : (k firstStep : ℕ) (queries : List ℕ) → firstStep ≤ k → ValidQueries k queries → Apart firstStep queries
+      → length queries ≤ 2 ^ (k - firstStep)
 
 -- every round check of a query at index j passes
 abbrev pub PassesEveryRound : (run : Run) (j : ℕ) → Type 0
@@ -255,14 +287,14 @@ pub record ProverAnswers : Type 0 where
       → (storeAfter run ≡ honestStore run) × (lastAfter run ≡ run .last)
 
 abbrev pub JudgeNumber : (n : ℕ) → Type 0
-JudgeNumber n = (n ≡ 0) ⊎ ((4 ≤ n) × (n ≤ 11)) ⊎ (n ≡ 13)
+JudgeNumber n = (n ≡ 0) ⊎ ((4 ≤ n) × (n ≤ 11)) ⊎ (n ≡ 13) ⊎ (n ≡ 17)
 
 abbrev pub ProverNumber : (n : ℕ) → Type 0
 ProverNumber n = (n ≡ 0) ⊎ ((4 ≤ n) × (n ≤ 8)) ⊎ ((12 ≤ n) × (n ≤ 13))
 
 -- no number is given otherwise, whatever the basis of 64-bit numbers
 pub record OnlyNumbers : Type 0 where
-  -- the judge: 0, 4 to 11 and 13
+  -- the judge: 0, 4 to 11, 13 and 17
   pub judge : (run : Run) (queries : List ℕ) → All IsElement (run .basis)
       → JudgeNumber (numberOfAnswer (verdictOf run queries .answer))
   -- the prover: 0, 4 to 8, 12 and 13

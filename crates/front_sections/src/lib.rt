@@ -94,7 +94,7 @@ fn checked_queries(bytes: &[u8], at: usize, parameters: Parameters) -> Outcome
         bytes,
         4,
         at,
-        round_checks::is_query_count(count),
+        query_checks::is_query_count(count),
         Cause::QueryCountOutOfRange,
     );
     match whole {
@@ -114,5 +114,5 @@ fn checked_indices(bytes: &[u8], at: usize, parameters: Parameters, queries: &mu
         ⌜ r ≡ indicesOutcome (parameters .k) (parameters .step) indices ⌝ }
 {
     entries::read(bytes, at, queries);
-    round_checks::checked_indices(parameters.k, parameters.step, &queries[..])
+    query_checks::checked_indices(parameters.k, parameters.step, &queries[..])
 }

@@ -8,7 +8,15 @@ use Rattle.line_text.proofs.Decimals as laws
 
 pub examples : Examples
 unfolding linesOf lineOf numbersText answerText orHyphen decimal digits placesWithin bytes
-examples = record { header = refl; answers = (refl, refl); others = refl; accepted = refl; refused = refl }
+examples =
+    record {
+      header = refl;
+      answers = (refl, refl);
+      others = refl;
+      accepted = refl;
+      refused = refl;
+      shared = refl;
+    }
 
 pub decimals : Decimals
 unfolding decimal digits placesWithin bytes

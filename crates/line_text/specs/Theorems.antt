@@ -3,12 +3,12 @@ use mathlib.Core.Path.{_≡_}
 use mathlib.Core.List.{List, [], _∷_}
 use Prim.Native.Nat.{ℕ, _+_, _*_, _-_, _^_, _≤_, _<_}
 use lib.ListN.{length, getD}
-use Rattle.refusal.specs.declared.Cause.the-variants.{RoundCheckFails}
+use Rattle.refusal.specs.declared.Cause.the-variants.{RoundCheckFails, CosetShared}
 use Rattle.fri.specs.declared.Answer.the-variants.{Accepted, Refused}
 use Rattle.line_text.specs.Digits.{bytes, decimal}
 use Rattle.line_text.specs.Lines.{linesOf}
 
--- the lines of the verdicts of cases G and H, and the codes of the texts in them
+-- the lines of the verdicts of cases G and H, of two queries in one coset, and the codes of the texts in them
 pub record Examples : Type 0 where
   pub header : bytes "answer number place round reads\n"
       ≡ 97 ∷ 110 ∷ 115 ∷ 119 ∷ 101 ∷ 114 ∷ 32
@@ -23,6 +23,8 @@ pub record Examples : Type 0 where
       ≡ bytes "answer number place round reads\naccepted 0 - - 4\n"
   pub refused : linesOf (record { answer = Refused (RoundCheckFails 1 0); reads = 4 })
       ≡ bytes "answer number place round reads\nrefused 11 1 0 4\n"
+  pub shared : linesOf (record { answer = Refused (CosetShared 1); reads = 0 })
+      ≡ bytes "answer number place round reads\nrefused 17 1 - 0\n"
 
 -- the number that decimal digits stand for, read on after those that stand for `before`
 unfoldable pub valueAfter : (before : ℕ) (digits : List ℕ) → ℕ

@@ -1,6 +1,6 @@
 -- Tests, and what checks and lent lists come to where all pass and where one fails. Assumes nothing.
 use mathlib.Core.Path.{_≡_, refl, sym, ap, ap₂, _∙_, subst}
-use mathlib.Core.Logic.{_⊎_, ⊎-elim}
+use mathlib.Core.Logic.{_⊎_, inl, inr, ⊎-elim}
 use mathlib.Core.Bool.{Bool, true, false, cond, not, _&&_}
 use mathlib.Core.List.{List}
 use Prim.Native.Nat.{ℕ, _≤_, _<_}
@@ -62,6 +62,19 @@ then-refused first after cause e = sym (ap (λ (o : Outcome). andThen o after) e
 pub then-done : (first after : Outcome) → andThen first after ≡ Done → (first ≡ Done) × (after ≡ Done)
 then-done Done after e = (refl, e)
 then-done (Refused cause) after e = absurd (refused-not-done cause e)
+
+pub then-then : (first second third : Outcome)
+    → andThen first (andThen second third) ≡ andThen (andThen first second) third
+then-then Done second third = refl
+then-then (Refused cause) second third = refl
+
+-- a refusal of two groups of checks is one of the first, or of the second after the first has passed
+abbrev pub Either : Outcome → Outcome → Cause → Type 0
+Either first after cause = (first ≡ Refused cause) ⊎ ((first ≡ Done) × (after ≡ Refused cause))
+
+pub which : (first after : Outcome) (cause : Cause) → andThen first after ≡ Refused cause → Either first after cause
+which Done after cause e = inr (refl, e)
+which (Refused other) after cause e = inl e
 
 -- ---- what holds of every number that checks may give
 

@@ -1,11 +1,12 @@
--- The number, the place and the round of each cause, as document 01's table "Numbers by cause" gives them.
+-- The number, the place and the round of each cause, as document 01's table "Numbers by cause" gives them, and 17 as
+-- 02, Q-2, does.
 use Prim.Native.Nat.{ℕ}
 use Rattle.refusal.specs.declared.Cause.{Cause}
 use Rattle.refusal.specs.declared.Cause.the-variants.{BytesEnd, CountDiffers, TrailingBytes, DimensionOutOfRange}
 use Rattle.refusal.specs.declared.Cause.the-variants.{RateOutOfRange, StepOutOfRange, DimensionTooSmall}
 use Rattle.refusal.specs.declared.Cause.the-variants.{BasisDependent, QueryCountOutOfRange, QueryOutOfRange}
 use Rattle.refusal.specs.declared.Cause.the-variants.{RoundCheckFails, DegreeTooLarge, WrongLength, InputTooLong}
-use Rattle.refusal.specs.declared.Cause.the-variants.{InverseOfZero, LaterBasisDependent}
+use Rattle.refusal.specs.declared.Cause.the-variants.{InverseOfZero, LaterBasisDependent, CosetShared}
 use Rattle.refusal.specs.declared.Outcome.{Outcome}
 use Rattle.refusal.specs.declared.Outcome.the-variants.{Done, Refused}
 use Rattle.refusal.specs.declared.Position.{Position}
@@ -29,6 +30,7 @@ numberOf (WrongLength list) = 13
 numberOf InputTooLong = 14
 numberOf InverseOfZero = 15
 numberOf (LaterBasisDependent round) = 16
+numberOf (CosetShared query) = 17
 
 -- what the table's column "Returned" gives, but for rounds and reads: the section, basis place, query, degree or list
 abbrev pub placeOf : (cause : Cause) → Position
@@ -48,6 +50,7 @@ placeOf (WrongLength list) = At list
 placeOf InputTooLong = Absent
 placeOf InverseOfZero = Absent
 placeOf (LaterBasisDependent round) = Absent
+placeOf (CosetShared query) = At query
 
 -- the round of a failed check or of a dependent later basis
 abbrev pub roundOf : (cause : Cause) → Position
@@ -67,6 +70,7 @@ roundOf (WrongLength list) = Absent
 roundOf InputTooLong = Absent
 roundOf InverseOfZero = Absent
 roundOf (LaterBasisDependent round) = At round
+roundOf (CosetShared query) = Absent
 
 -- the number of an outcome: 0 where it went well, else that of the cause
 abbrev pub numberOfOutcome : (outcome : Outcome) → ℕ

@@ -38,6 +38,8 @@ pub enum Cause {
     InverseOfZero,
     // 16: a later layer's basis is dependent; the round whose fold gives that layer
     LaterBasisDependent { round: usize },
+    // 17: two queries share a first-layer coset; the first query that lies in the coset of an earlier one
+    CosetShared { query: usize },
 }
 
 // What an operation answers that gives no value.
@@ -73,6 +75,7 @@ impl Cause {
             Cause::InputTooLong => 14,
             Cause::InverseOfZero => 15,
             Cause::LaterBasisDependent { round: _ } => 16,
+            Cause::CosetShared { query: _ } => 17,
         }
     }
 
@@ -96,6 +99,7 @@ impl Cause {
             Cause::InputTooLong => Position::Absent,
             Cause::InverseOfZero => Position::Absent,
             Cause::LaterBasisDependent { round: _ } => Position::Absent,
+            Cause::CosetShared { query } => Position::At(query),
         }
     }
 
@@ -119,6 +123,7 @@ impl Cause {
             Cause::InputTooLong => Position::Absent,
             Cause::InverseOfZero => Position::Absent,
             Cause::LaterBasisDependent { round } => Position::At(round),
+            Cause::CosetShared { query: _ } => Position::Absent,
         }
     }
 }

@@ -1,6 +1,5 @@
 pub mod StepSizes
 mod QueryPoints
 pub mod Tables
-mod Queries
 pub mod Runs
 pub mod Judged

@@ -1,18 +1,13 @@
 // What the judge over lists and the one over bytes have in common: what is computed once for each round, before the
-// queries, a query's index and point in a layer, the checks of a query list, and the cosets that a query has read.
+// queries, a query's index and point in a layer, and the cosets that a query has read.
 use coset_value::Coset;
 use field::Element;
 use layer_cosets::LayerCoset;
 use layout::Parameters;
-use refusal::Cause;
-use refusal::Outcome;
-use refusal::Position;
 ghost use mathlib.Core.Path.{_≡_};
-ghost use mathlib.Core.Bool.{true, _&&_};
+ghost use mathlib.Core.Bool.{true};
 ghost use Prim.Native.Nat.{_+_, _^_, _≤_, _<_, min};
-ghost use lib.Dec.{leb};
 ghost use lib.ListN.{length};
-ghost use Rattle.fri.specs.Checks.{firstOutside, indicesOutcome, queriesOutcome};
 ghost use Rattle.layout.specs.Parameters.{stepsBy, Valid};
 ghost use Rattle.layer_cosets.specs.Cosets.{basisOf};
 ghost use Rattle.round_checks.specs.Rounds.{roundOver, roundAt, Holds, queryPointAt, nextQueryPoint};
@@ -164,50 +159,6 @@ impl QueryPoint {
             point: next_coset::composed_maps(&elements[..step], self.point),
         }
     }
-}
-
-// A query list: 1 to 256 queries (9), then their indices; `step` is that of round 0.
-pub fn checked_queries(k: usize, step: usize, queries: &[u64]) -> Outcome
-    requires { ⌜ (k ≤ 20) × (step ≤ 3) ⌝ }
-    ensures { λ r. ⌜ r ≡ queriesOutcome k step (now (queries .entry)) ⌝ }
-{
-    if !is_query_count(queries.len()) {
-        return Outcome::Refused(Cause::QueryCountOutOfRange);
-    }
-    checked_indices(k, step, queries)
-}
-
-pub fn is_query_count(count: usize) -> bool
-    ensures { λ r. ⌜ r ≡ (leb 1 count && leb count 256) ⌝ }
-{
-    1 <= count && count <= 256
-}
-
-// The indices of a query list: each below 2^k (10). The checks of a query list are given the step of round 0, whose
-// cosets are the first-layer cosets.
-pub fn checked_indices(k: usize, step: usize, queries: &[u64]) -> Outcome
-    requires { ⌜ (k ≤ 20) × (step ≤ 3) ⌝ }
-    ensures { λ r. ⌜ r ≡ indicesOutcome k step (now (queries .entry)) ⌝ }
-{
-    let outside = first_outside(1 << k, queries);
-    match outside {
-        Position::At(query) => Outcome::Refused(Cause::QueryOutOfRange { query }),
-        Position::Absent => Outcome::Done,
-    }
-}
-
-// The first query whose index is not below the size.
-fn first_outside(size: usize, queries: &[u64]) -> Position
-    ensures { λ r. ⌜ r ≡ firstOutside size (now (queries .entry)) 0 ⌝ }
-{
-    let mut query: usize = 0;
-    while query < queries.len() {
-        if queries[query] as usize >= size {
-            return Position::At(query);
-        }
-        query += 1;
-    }
-    Position::Absent
 }
 
 // Where `count` is r: how many cosets a query has read when the check of round i fails, those up to round i and, for

@@ -662,11 +662,11 @@ judgedOfTableA =
         store = [];
         last = 0 ∷ [];
       };
-      queries = 0 ∷ 1 ∷ 2 ∷ 3 ∷ [];
+      queries = 0 ∷ 3 ∷ [];
       number = 0;
       place = Absent;
       round = Absent;
-      reads = 8;
+      reads = 4;
     } ∷
     []
 
@@ -686,7 +686,7 @@ judgedAccepted =
         store = 96657134 ∷ 96638245 ∷ 96691796 ∷ 96677279 ∷ [];
         last = 189612 ∷ [];
       };
-      queries = 5 ∷ 5 ∷ [];
+      queries = 5 ∷ 2 ∷ [];
       number = 0;
       place = Absent;
       round = Absent;
@@ -1173,9 +1173,123 @@ judgedRefused =
         store = [];
         last = 5638 ∷ [];
       };
-      queries = 18446744073709551615 ∷ 1 ∷ [];
+      queries = 0 ∷ 1 ∷ 4 ∷ [];
+      number = 10;
+      place = At 2;
+      round = Absent;
+      reads = 0;
+    } ∷
+    record {
+      run = record {
+        k = 2;
+        rate = 1;
+        step = 1;
+        offset = 106;
+        basis = 1 ∷ 2 ∷ [];
+        challenges = 229 ∷ [];
+        word = 2525 ∷ 2528 ∷ 2471 ∷ 2458 ∷ [];
+        store = [];
+        last = 5638 ∷ [];
+      };
+      queries = 18446744073709551615 ∷ 1 ∷ 0 ∷ [];
       number = 10;
       place = At 0;
+      round = Absent;
+      reads = 0;
+    } ∷
+    record {
+      run = record {
+        k = 2;
+        rate = 1;
+        step = 1;
+        offset = 2;
+        basis = 1 ∷ 2 ∷ [];
+        challenges = 22 ∷ [];
+        word = 31 ∷ 21 ∷ 11 ∷ 1 ∷ [];
+        store = [];
+        last = 151 ∷ [];
+      };
+      queries = 3 ∷ 3 ∷ [];
+      number = 17;
+      place = At 1;
+      round = Absent;
+      reads = 0;
+    } ∷
+    record {
+      run = record {
+        k = 2;
+        rate = 1;
+        step = 1;
+        offset = 2;
+        basis = 1 ∷ 2 ∷ [];
+        challenges = 22 ∷ [];
+        word = 31 ∷ 21 ∷ 11 ∷ 1 ∷ [];
+        store = [];
+        last = 150 ∷ [];
+      };
+      queries = 1 ∷ 2 ∷ 0 ∷ [];
+      number = 17;
+      place = At 2;
+      round = Absent;
+      reads = 0;
+    } ∷
+    record {
+      run = record {
+        k = 2;
+        rate = 1;
+        step = 1;
+        offset = 2;
+        basis = 1 ∷ 2 ∷ [];
+        challenges = 22 ∷ [];
+        word = 31 ∷ 21 ∷ 11 ∷ 1 ∷ [];
+        store = [];
+        last = 150 ∷ [];
+      };
+      queries = 0 ∷ 3 ∷ 2 ∷ 1 ∷ [];
+      number = 17;
+      place = At 2;
+      round = Absent;
+      reads = 0;
+    } ∷
+    record {
+      run = record {
+        k = 3;
+        rate = 1;
+        step = 2;
+        offset = 74;
+        basis = 1 ∷ 1858076378458151938 ∷ 2 ∷ [];
+        challenges = 10 ∷ [];
+        word =
+            54896433 ∷ 55137173 ∷ 9688378837997946569 ∷ 9688378837998203554 ∷ 56423041 ∷ 55575687
+            ∷ 18029816131015339463 ∷ 18029816131015547662 ∷ [];
+        store = [];
+        last = 117937 ∷ [];
+      };
+      queries = 3 ∷ 4 ∷ 0 ∷ [];
+      number = 17;
+      place = At 2;
+      round = Absent;
+      reads = 0;
+    } ∷
+    record {
+      run = record {
+        k = 4;
+        rate = 1;
+        step = 3;
+        offset = 15;
+        basis = 1 ∷ 1858076378458151939 ∷ 13279093613986655126 ∷ 2 ∷ [];
+        challenges = 65 ∷ [];
+        word =
+            415336422 ∷ 442922030 ∷ 7527001703246134792 ∷ 7527001703268262093 ∷ 17365478821670303088
+            ∷ 9920235139679047929 ∷ 10945473866463621099 ∷ 17200216517480540156 ∷ 483600026 ∷ 507762366
+            ∷ 10370071087822180362 ∷ 10370071087863678261 ∷ 7279090897269488446 ∷ 11367352234935453138
+            ∷ 15730801824569683701 ∷ 2489220457519625617 ∷ [];
+        store = [];
+        last = 649795711378658 ∷ [];
+      };
+      queries = 8 ∷ 7 ∷ 15 ∷ [];
+      number = 17;
+      place = At 2;
       round = Absent;
       reads = 0;
     } ∷

@@ -27,7 +27,7 @@ use Rattle.fold.proofs.Cases.{fold-cases, d-offset, d-basis}
 use Rattle.fri.specs.Layout.{dimension, lastCount, layerStart, storeLength, storedLayer, joinedLayers, indexIn}
 use Rattle.fri.specs.Run.{Run, stepsIn, layerIn}
 use Rattle.fri.specs.Layers.{layerBasis, layerOffset, foldOf, honestLayer, honestStore, lastInterpolant, honestLast}
-use Rattle.fri.specs.Checks.{laterBasesOutcome, runOutcome, firstOutside}
+use Rattle.fri.specs.Checks.{laterBasesOutcome, runOutcome, firstOutside, among, firstRepeatedAfter, firstShared}
 use Rattle.fri.specs.Rounds.{valueFound, firstFailingRound, roundsOutcome}
 use Rattle.fri.specs.Reads.{entryCount, entriesRead}
 use Rattle.fri.specs.Prover.{proveOutcome, storeAfter, lastAfter}
@@ -123,7 +123,8 @@ pub table-a : TableA
 unfolding product carryless carrylessIn remainder remainderIn timesT evaluate plus scale timesLinear vanishingPolynomial
     point points tabulated inSpan firstDependentAfter firstDependent nextOffset nextBasis image subspacePolynomial
     dimension lastCount layerStart storeLength storedLayer indexIn layerIn layerBasis layerOffset laterBasesOutcome
-    firstOutside valueFound firstFailingRound roundsOutcome entryCount entriesRead degreeBound
+    firstOutside among firstRepeatedAfter firstShared valueFound firstFailingRound roundsOutcome entryCount entriesRead
+    degreeBound
 table-a =
     record {
       a = field-cases .a;

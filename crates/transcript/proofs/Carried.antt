@@ -68,6 +68,15 @@ module _ (bytes : List ℕ) where
   abbrev of-queries : Outcome
   of-queries = queriesOutcome (transcriptK bytes) first-step (queriesIn bytes)
 
+  -- where the bytes of section 4 are there, it is checked as a query list is
+  pub queries-section : sectionStart bytes 5 ≤ length bytes → queriesSection bytes ≡ of-queries
+  queries-section whole =
+      ap (λ (o : Outcome). andThen o indices)
+      (section-tested bytes 4 counted QueryCountOutOfRange (omega arith) whole)
+      ∙ test-then counted QueryCountOutOfRange indices
+      ∙ ap (λ (n : ℕ). refusedUnless (leb 1 n && leb n 256) QueryCountOutOfRange indices)
+      (sym (length-entries bytes (sectionStart bytes 4 + 4) (sectionCount bytes 4)))
+
   module _ (c : Carries bytes) where
     -- all sections end within the bytes
     inside : (s : ℕ) → 1 ≤ s → s ≤ layerSection r → sectionStart bytes (suc s) ≤ length bytes
@@ -137,19 +146,12 @@ module _ (bytes : List ℕ) where
     challenges-section : challengesSection bytes ≡ Done
     challenges-section = due-passes bytes 3 r (omega arith) (c .challenges-count) (inside 3 (omega arith) (omega arith))
 
-    queries-section : queriesSection bytes ≡ of-queries
-    queries-section =
-        ap (λ (o : Outcome). andThen o indices)
-        (section-tested bytes 4 counted QueryCountOutOfRange (omega arith) (inside 4 (omega arith) (omega arith)))
-        ∙ test-then counted QueryCountOutOfRange indices
-        ∙ ap (λ (n : ℕ). refusedUnless (leb 1 n && leb n 256) QueryCountOutOfRange indices)
-        (sym (length-entries bytes (sectionStart bytes 4 + 4) (sectionCount bytes 4)))
-
     front-is : frontOutcome bytes ≡ andThen (basesOutcome (transcriptSteps bytes) (runIn bytes .basis)) of-queries
     front-is =
         sym (then-passed (parametersSection bytes) (listsOutcome bytes) parameters-section)
         ∙ ap₂ andThen coset-section
-        (sym (then-passed (challengesSection bytes) (queriesSection bytes) challenges-section) ∙ queries-section)
+        (sym (then-passed (challengesSection bytes) (queriesSection bytes) challenges-section)
+        ∙ queries-section (inside 4 (omega arith) (omega arith)))
 
     layers-pass-all : layersOutcome bytes ≡ Done
     layers-pass-all =
@@ -213,4 +215,4 @@ module _ (bytes : List ℕ) where
       let carries = passed-carries done in
       let queries = then-done (runOutcome (runIn bytes)) of-queries (sym (checks-are carries) ∙ done) .1 in
       subst (λ (n : ℕ). n ≤ 256) (length-entries bytes (sectionStart bytes 4 + 4) (sectionCount bytes 4))
-      (queries-valid (transcriptK bytes) first-step (queriesIn bytes) queries .most)
+      (queries-valid (transcriptK bytes) first-step (queriesIn bytes) queries .0 .most)

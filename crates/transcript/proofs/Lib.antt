@@ -6,3 +6,4 @@ pub mod Refusals
 mod Positions
 mod Fronts
 pub mod Theorems
+pub mod Shared

@@ -32,10 +32,10 @@ module _ (P : ℕ → Type 0) (low : (n : ℕ) → n ≤ 3 → P n) (bytes : Lis
       (number-unless P (leb (sectionStart bytes (suc s)) (length bytes)) (BytesEnd s) Done (low 1 (omega arith))
       (low 0 (omega arith))))
 
-  due-number : (s due : ℕ) → P (numberOfOutcome (dueOutcome bytes s due))
+  pub due-number : (s due : ℕ) → P (numberOfOutcome (dueOutcome bytes s due))
   due-number s due = section-number s (eqb (sectionCount bytes s) due) (CountDiffers s) (low 2 (omega arith))
 
-  layers-number : (i left : ℕ) → P (numberOfOutcome (layersFrom bytes i left))
+  pub layers-number : (i left : ℕ) → P (numberOfOutcome (layersFrom bytes i left))
   unfolding layersFrom
   layers-number i zero = low 0 (omega arith)
   layers-number i (suc left) =
@@ -43,7 +43,7 @@ module _ (P : ℕ → Type 0) (low : (n : ℕ) → n ≤ 3 → P n) (bytes : Lis
       number-then P (dueOutcome bytes (layerSection i) size) (layersFrom bytes (suc i) left)
       (due-number (layerSection i) size) (layers-number (suc i) left)
 
-  end-number : P (numberOfOutcome (endOutcome bytes))
+  pub end-number : P (numberOfOutcome (endOutcome bytes))
   end-number =
       let last-due = lastCount (transcriptK bytes) (transcriptRate bytes) (transcriptSteps bytes) in
       let ends = eqb (sectionStart bytes (suc (layerSection (transcriptRounds bytes)))) (length bytes) in
@@ -70,11 +70,11 @@ module _ (P : ℕ → Type 0) (low : (n : ℕ) → n ≤ 3 → P n) (bytes : Lis
       (number-then P (layersFrom bytes 0 (transcriptRounds bytes)) (endOutcome bytes)
       (layers-number 0 (transcriptRounds bytes)) end-number)
 
--- what holds of 0 to 10 and of the bases' number holds of a transcript's
-pub transcript-number : (P : ℕ → Type 0) → ((n : ℕ) → n ≤ 10 → P n) → (bytes : List ℕ)
+-- what holds of 0 to 10, of 17 and of the bases' number holds of a transcript's
+pub transcript-number : (P : ℕ → Type 0) → ((n : ℕ) → n ≤ 10 → P n) → P 17 → (bytes : List ℕ)
     → P (numberOfOutcome (basesOutcome (transcriptSteps bytes) (runIn bytes .basis)))
     → P (numberOfOutcome (transcriptOutcome bytes))
-transcript-number P small bytes bases =
+transcript-number P small p17 bytes bases =
     let counted = leb 1 (sectionCount bytes 4) && leb (sectionCount bytes 4) 256 in
     let first = stepAt (transcriptSteps bytes) 0 in
     transcript-number-from P (λ n h. small n (omega arith)) bytes
@@ -84,4 +84,4 @@ transcript-number P small bytes bases =
     (number-then P (sectionOutcome bytes 4 counted QueryCountOutOfRange)
     (indicesOutcome (transcriptK bytes) first (queriesIn bytes))
     (section-number P (λ n h. small n (omega arith)) bytes 4 counted QueryCountOutOfRange (small 9 (omega arith)))
-    (indices-number P (small 0 (omega arith)) (small 10 (omega arith)) (transcriptK bytes) first (queriesIn bytes)))
+    (indices-number P (small 0 (omega arith)) (small 10 (omega arith)) p17 (transcriptK bytes) first (queriesIn bytes)))

@@ -11,7 +11,7 @@ use Rattle.fri.specs.Layout.{joinedLayers}
 use Rattle.fri.specs.Demand.{Elements}
 use Rattle.transcript.specs.Numerals.{AreBytes}
 use Rattle.transcript.specs.Sections.{sectionEnd, sectionStart, sectionCount}
-use Rattle.transcript.specs.Sections.{sectionEntries, layerSection, transcriptRounds, runIn}
+use Rattle.transcript.specs.Sections.{sectionEntries, layerSection, runIn}
 use Rattle.transcript.proofs.Numerals.{count-fits, entries-fit}
 
 module _ (bytes : List ℕ) where

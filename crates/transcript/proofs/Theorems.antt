@@ -18,7 +18,7 @@ use Rattle.refusal.specs.declared.Outcome.the-variants.{Done, Refused}
 use Rattle.refusal.specs.Checks.{andThen}
 use Rattle.refusal.specs.Numbers.{numberOfOutcome}
 use Rattle.refusal.specs.declared.Position.the-variants.{At, Absent}
-use Rattle.refusal.proofs.Checks.{then-done, number-then}
+use Rattle.refusal.proofs.Checks.{then-done, number-then, Either, which}
 use Rattle.fri.specs.declared.Answer.the-variants as answers
 use Rattle.fri.specs.declared.Verdict.{Verdict}
 use Rattle.fri.specs.Run.{Run}
@@ -31,7 +31,7 @@ use Rattle.fri.specs.Checks.{basesOutcome}
 use Rattle.fri.specs.Theorems.{Tells}
 use Rattle.fri.proofs.Checks.{early-not, bases-number, bases-early}
 use Rattle.fri.proofs.Rounds.{refused-by-round}
-use Rattle.fri.proofs.Verdicts.{done-of, refused-of, same-number, Either, which}
+use Rattle.fri.proofs.Verdicts.{done-of, refused-of, same-number}
 use Rattle.fri.proofs.Soundness.{soundness}
 use Rattle.fri.proofs.Completeness.{completeness}
 use Rattle.transcript.specs.Numerals.{AreBytes}
@@ -39,7 +39,8 @@ use Rattle.transcript.specs.Sections.{sectionStart, transcriptSteps, run
 use Rattle.transcript.specs.Checks.{transcriptOutcome}
 use Rattle.transcript.specs.Judge.{transcriptVerdict, longestTranscript, inputLimit, inputVerdict}
 use Rattle.transcript.specs.Theorems.{Carries, JudgingBytes, TranscriptCompleteness}
-use Rattle.transcript.specs.Theorems.{OfRun, TranscriptSoundness, LongTranscripts, TranscriptNumbers}
+use Rattle.transcript.specs.Theorems.{OfRun, TranscriptSoundness, LongTranscripts, TranscriptNumber}
+use Rattle.transcript.specs.Theorems.{TranscriptNumbers}
 use Rattle.transcript.proofs.Sections.{run-fits}
 use Rattle.transcript.proofs.Refusals.{transcript-number}
 use Rattle.transcript.proofs.Fronts.{transcript-alone, longest}
@@ -98,15 +99,15 @@ refused-carries bytes query round e =
         (RoundCheckFails query round) → Carries bytes
     by (inl early) =
         absurd
-        (transcript-number (λ n. n ≢ 11) (λ n l e. omega arith) bytes
+        (transcript-number (λ n. n ≢ 11) (λ n l e. omega arith) (λ e. omega arith) bytes
         (early-not 11 (numberOfOutcome (basesOutcome (transcriptSteps bytes) (runIn bytes .basis))) (omega arith)
-        (omega arith) (bases-early (runIn bytes))) (ap numberOfOutcome early))
+        (inl (omega arith)) (bases-early (runIn bytes))) (ap numberOfOutcome early))
     by (inr (passed, late)) = passed-carries bytes passed
 
 -- ---- demand 3
 
 transcript-completeness : TranscriptCompleteness
-transcript-completeness bytes h c independent low is valid =
+transcript-completeness bytes h c independent low is valid apart =
     carried bytes c ∙ ap (λ (r : Run). verdictOf r (queriesIn bytes)) is
     ∙ completeness (runIn bytes) (queriesIn bytes)
     (record {
@@ -122,7 +123,7 @@ transcript-completeness bytes h c independent low is valid =
       challenges-elements = run-fits bytes h .challenges;
       challenges-count = fit bytes c .challenges;
     })
-    low valid
+    low valid apart
 
 queries-of : List (List ℕ) → List (List ℕ)
 queries-of [] = []
@@ -231,24 +232,25 @@ long-transcripts =
 -- ---- numbers
 
 rounds-number : (bytes : List ℕ) (o : Outcome) → roundsOutcome (runIn bytes) (queriesIn bytes) 0 ≡ o
-    → numberOfOutcome o ≤ 11
-rounds-number bytes Done e = omega arith
-rounds-number bytes (Refused cause) e = omega (arith, refused-by-round (runIn bytes) (queriesIn bytes) cause e)
+    → TranscriptNumber (numberOfOutcome o)
+rounds-number bytes Done e = inl (omega arith)
+rounds-number bytes (Refused cause) e = inl (omega (arith, refused-by-round (runIn bytes) (queriesIn bytes) cause e))
 
-library-number : (bytes : List ℕ) → AreBytes bytes → numberOfAnswer (transcriptVerdict bytes .answer) ≤ 11
+library-number : (bytes : List ℕ) → AreBytes bytes → TranscriptNumber (numberOfAnswer (transcriptVerdict bytes .answer))
 unfolding transcriptVerdict
 library-number bytes h =
     let rounds = roundsOutcome (runIn bytes) (queriesIn bytes) 0 in
-    subst (λ (n : ℕ). n ≤ 11) (sym (same-number (andThen (transcriptOutcome bytes) rounds)))
-    (number-then (λ n. n ≤ 11) (transcriptOutcome bytes) rounds
-    (transcript-number (λ n. n ≤ 11) (λ n l. omega arith) bytes
-    (bases-number (λ n. n ≤ 11) (omega arith) (omega arith) (runIn bytes) (run-fits bytes h .basis)))
+    subst TranscriptNumber (sym (same-number (andThen (transcriptOutcome bytes) rounds)))
+    (number-then TranscriptNumber (transcriptOutcome bytes) rounds
+    (transcript-number TranscriptNumber (λ n l. inl (omega arith)) (inr refl) bytes
+    (bases-number TranscriptNumber (inl (omega arith)) (inl (omega arith)) (runIn bytes) (run-fits bytes h .basis)))
     (rounds-number bytes rounds refl))
 
 abbrev ProgramNumber : Verdict → Type 0
-ProgramNumber verdict = (numberOfAnswer (verdict .answer) ≤ 11) ⊎ (numberOfAnswer (verdict .answer) ≡ 14)
+ProgramNumber verdict =
+    TranscriptNumber (numberOfAnswer (verdict .answer)) ⊎ (numberOfAnswer (verdict .answer) ≡ 14)
 
-either-number : (test : Bool) (verdict : Verdict) → numberOfAnswer (verdict .answer) ≤ 11
+either-number : (test : Bool) (verdict : Verdict) → TranscriptNumber (numberOfAnswer (verdict .answer))
     → ProgramNumber (cond test verdict too-long)
 either-number true verdict h = inl h
 either-number false verdict h = inr refl

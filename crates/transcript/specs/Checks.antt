@@ -43,7 +43,7 @@ cosetSection bytes =
 abbrev pub challengesSection : (bytes : List ℕ) → Outcome
 challengesSection bytes = dueOutcome bytes 3 (transcriptRounds bytes)
 
--- section 4: 1 to 256 queries (9), then their indices
+-- section 4: 1 to 256 queries (9), then their indices (10, then 17)
 abbrev pub queriesSection : (bytes : List ℕ) → Outcome
 queriesSection bytes =
     andThen

@@ -1,13 +1,13 @@
 -- What is proved of judging bytes: where they carry lists, the verdict is that of the judge over those lists;
 -- so that both halves of demand 3 hold of the lists that they carry. proofs/Theorems.antt has the values.
 use mathlib.Core.Path.{_≡_}
-use mathlib.Core.Logic.{_⊎_}
+use mathlib.Core.Logic.{_⊎_, _↔_}
 use mathlib.Core.List.{List, []}
 use Prim.Native.Nat.{ℕ, suc, _+_, _*_, _-_, _^_, _≤_, _<_}
 use lib.ListN.{length, take}
 use Rattle.poly.specs.Polynomial.{All}
 use Rattle.refusal.specs.declared.Cause.{Cause}
-use Rattle.refusal.specs.declared.Cause.the-variants.{RoundCheckFails}
+use Rattle.refusal.specs.declared.Cause.the-variants.{RoundCheckFails, CosetShared}
 use Rattle.refusal.specs.declared.Outcome.the-variants.{Done, Refused}
 use Rattle.refusal.specs.declared.Position.the-variants.{At, Absent}
 use Rattle.coset.specs.Span.{Independent}
@@ -16,13 +16,14 @@ use Rattle.fri.specs.Layout.{dimension, lastCount}
 use Rattle.fri.specs.Run.{Run}
 use Rattle.fri.specs.Run as run
 use Rattle.fri.specs.Layers.{honest}
+use Rattle.fri.specs.Checks.{firstShared}
 use Rattle.fri.specs.Judge.{numberOfAnswer, verdictOf}
-use Rattle.fri.specs.Demand.{ValidParameters, LowDegree, ValidQueries, Any, Visits, Sound}
+use Rattle.fri.specs.Demand.{ValidParameters, LowDegree, ValidQueries, Apart, Any, Visits, Sound}
 use Rattle.fri.specs.Theorems.{Tells}
 use Rattle.transcript.specs.Numerals.{AreBytes}
 use Rattle.transcript.specs.Sections.{sectionStart, sectionCount, layerSection, transcriptK, transcriptRate}
 use Rattle.transcript.specs.Sections.{transcriptStep, transcriptSteps, transcriptRounds, runIn, queriesIn}
-use Rattle.transcript.specs.Checks.{transcriptOutcome}
+use Rattle.transcript.specs.Checks.{parametersSection, cosetSection, challengesSection, transcriptOutcome}
 use Rattle.transcript.specs.Judge.{transcriptVerdict, longestTranscript, inputLimit, inputVerdict}
 
 -- the bytes carry the lists that are read from them: parameters in range, the counts due but for the queries',
@@ -56,6 +57,16 @@ pub record JudgingBytes : Type 0 where
   pub program-accepted : (bytes : List ℕ) → inputVerdict bytes .answer ≡ answers.Accepted
       → transcriptVerdict bytes .answer ≡ answers.Accepted
 
+-- number 17 over bytes: sections 1 to 3 pass, section 4 is there to its end with valid queries, and this one is the
+-- first that shares a first-layer coset with an earlier one, whatever follows section 4
+abbrev pub SharedInBytes : Type 0
+SharedInBytes =
+    (bytes : List ℕ) (query : ℕ)
+    → (transcriptVerdict bytes .answer ≡ answers.Refused (CosetShared query))
+    ↔ ((parametersSection bytes ≡ Done) × (cosetSection bytes ≡ Done) × (challengesSection bytes ≡ Done)
+    × (sectionStart bytes 5 ≤ length bytes) × ValidQueries (transcriptK bytes) (queriesIn bytes)
+    × (firstShared (run.stepIn (runIn bytes) 0) (queriesIn bytes) ≡ At query))
+
 -- transcripts have a longest length, so that a reader of larger files needs no more of them
 pub record LongTranscripts : Type 0 where
   pub size : longestTranscript ≡ 16779680
@@ -67,13 +78,14 @@ pub record LongTranscripts : Type 0 where
   pub first : (bytes : List ℕ) (read : ℕ) → longestTranscript < read
       → transcriptVerdict (take read bytes) ≡ transcriptVerdict bytes
 
--- demand 3, first half: bytes that carry an honest run of a word of low degree over an independent basis,
--- and a valid query list, are accepted, whatever the offset and the challenges, and queries · r · 2^η entries are read
+-- demand 3, first half: bytes that carry an honest run of a word of low degree over an independent basis, and a valid
+-- query list in which no two queries share a first-layer coset, are accepted, whatever the offset and the challenges,
+-- and queries · r · 2^η entries are read
 abbrev pub TranscriptCompleteness : Type 0
 TranscriptCompleteness =
     (bytes : List ℕ) → AreBytes bytes → Carries bytes → Independent (runIn bytes .basis) → LowDegree (runIn bytes)
     → runIn bytes ≡ honest (runIn bytes)
-    → ValidQueries (transcriptK bytes) (queriesIn bytes)
+    → ValidQueries (transcriptK bytes) (queriesIn bytes) → Apart (run.stepIn (runIn bytes) 0) (queriesIn bytes)
     → transcriptVerdict bytes
     ≡ record {
       answer = answers.Accepted;
@@ -97,10 +109,14 @@ TranscriptSoundness =
     (sent : Run) (transcripts : List (List ℕ)) → All (OfRun sent) transcripts → VisitedByTranscripts sent transcripts
     → Sound sent
 
--- no other numbers are given: over bytes 0 to 11, and 14 by the program
+abbrev pub TranscriptNumber : (n : ℕ) → Type 0
+TranscriptNumber n = (n ≤ 11) ⊎ (n ≡ 17)
+
+-- no other numbers are given: over bytes 0 to 11 and 17, and 14 by the program
 pub record TranscriptNumbers : Type 0 where
-  pub library : (bytes : List ℕ) → AreBytes bytes → numberOfAnswer (transcriptVerdict bytes .answer) ≤ 11
+  pub library : (bytes : List ℕ) → AreBytes bytes → TranscriptNumber (numberOfAnswer (transcriptVerdict bytes .answer))
   pub program : (bytes : List ℕ) → AreBytes bytes
-      → (numberOfAnswer (inputVerdict bytes .answer) ≤ 11) ⊎ (numberOfAnswer (inputVerdict bytes .answer) ≡ 14)
+      → TranscriptNumber (numberOfAnswer (inputVerdict bytes .answer))
+      ⊎ (numberOfAnswer (inputVerdict bytes .answer) ≡ 14)
   -- case N: no bytes at all
   pub empty : Tells (inputVerdict []) 1 (At 1) Absent 0

@@ -136,7 +136,7 @@ fn checked_after_lists(
     }
     let bases = run_checks::checked_bases(parameters, basis);
     match bases {
-        Outcome::Done => round_checks::checked_queries(parameters.k, parameters.step, queries),
+        Outcome::Done => query_checks::checked_queries(parameters.k, parameters.step, queries),
         Outcome::Refused(cause) => Outcome::Refused(cause),
     }
 }

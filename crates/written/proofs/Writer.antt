@@ -16,7 +16,7 @@ use Rattle.refusal.specs.declared.Outcome.the-variants.{Done, Refused}
 use Rattle.refusal.specs.Checks.{andThen, afterwards}
 use Rattle.refusal.specs.Numbers.{numberOfOutcome}
 use Rattle.refusal.proofs.Checks.{equal-of-test, passed-by, refused-by, unless-done, then-passed, then-done}
-use Rattle.refusal.proofs.Checks.{number-unless, number-then}
+use Rattle.refusal.proofs.Checks.{then-then, number-unless, number-then}
 use Rattle.fri.specs.Run.{Run, stepsIn, stepIn}
 use Rattle.fri.specs.Checks.{parametersOutcome, lengthsOutcome, basesOutcome, queriesOutcome}
 use Rattle.fri.specs.Judge.{checksOutcome}
@@ -30,11 +30,6 @@ use Rattle.written.specs.Theorems.{WriterNumber, WriterRefusals}
 use Rattle.written.proofs.Lengths.{transcript-size}
 
 -- ---- three groups of checks
-
-then-then : (first second third : Outcome)
-    → andThen first (andThen second third) ≡ andThen (andThen first second) third
-then-then Done second third = refl
-then-then (Refused cause) second third = refl
 
 -- what is refused by the first two is refused whatever follows
 cut : (first second after : Outcome) (cause : Cause) → andThen first second ≡ Refused cause
@@ -131,7 +126,7 @@ module _ (run : Run) (queries : List ℕ) where
       (number-then WriterNumber bases of-queries
       (bases-number WriterNumber none (early 8 (omega arith) (omega arith)) run h)
       (queries-number WriterNumber none (early 9 (omega arith) (omega arith)) (early 10 (omega arith) (omega arith))
-      (run .k) (stepIn run 0) queries)))
+      (inr (inr (inr refl))) (run .k) (stepIn run 0) queries)))
     where
       none : WriterNumber 0
       none = inl refl
@@ -140,7 +135,7 @@ module _ (run : Run) (queries : List ℕ) where
       early n l u = inr (inl (l, u))
 
       thirteen : WriterNumber 13
-      thirteen = inr (inr refl)
+      thirteen = inr (inr (inl refl))
 
 pub writer-refusals : WriterRefusals
 writer-refusals =

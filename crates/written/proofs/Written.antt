@@ -11,11 +11,11 @@ use Rattle.refusal.specs.declared.Outcome.{Outcome}
 use Rattle.refusal.specs.declared.Outcome.the-variants.{Done}
 use Rattle.refusal.specs.Checks.{afterwards}
 use Rattle.fri.specs.declared.Answer.the-variants as answers
-use Rattle.fri.specs.Run.{Run, stepsIn, roundsIn}
+use Rattle.fri.specs.Run.{Run, stepsIn, roundsIn, stepIn}
 use Rattle.fri.specs.Layers.{honest}
 use Rattle.fri.specs.Checks.{runOutcome}
 use Rattle.fri.specs.Judge.{checksOutcome, verdictOf}
-use Rattle.fri.specs.Demand.{ValidCoset, ProverInput, LowDegree, ValidQueries, Elements}
+use Rattle.fri.specs.Demand.{ValidCoset, ProverInput, LowDegree, ValidQueries, Apart, Elements}
 use Rattle.fri.proofs.Checks.{run-valid, run-passes}
 use Rattle.fri.proofs.Completeness.{completeness, honest-proofs}
 use Rattle.fri.proofs.Layers.{honest-run}
@@ -99,7 +99,7 @@ indices-fit k h (j ∷ queries) within =
     (omega arith, indices-fit k h queries (within .1))
 
 module _ (run : Run) (queries : List ℕ) (coset : ValidCoset run) (input : ProverInput run)
-    (valid : ValidQueries (run .k) queries) where
+    (valid : ValidQueries (run .k) queries) (apart : Apart (stepIn run 0) queries) where
   abbrev due : ℕ
   due = transcriptLength (run .k) (run .rate) (stepsIn run) (length queries)
 
@@ -117,7 +117,8 @@ module _ (run : Run) (queries : List ℕ) (coset : ValidCoset run) (input : Prov
       (coset .independent)
 
   honest-done : writeOutcome (honest run) queries due ≡ Done
-  honest-done = writer-refusals .as-lists (honest run) queries ∙ passing .all (honest run) queries .1 (passed, valid)
+  honest-done =
+      writer-refusals .as-lists (honest run) queries ∙ passing .all (honest run) queries .1 (passed, valid, apart)
 
   honest-accepted : (held : List ℕ) → LowDegree run → length held ≡ due
       → transcriptVerdict (bytesAfter (honest run) queries held)
@@ -126,7 +127,7 @@ module _ (run : Run) (queries : List ℕ) (coset : ValidCoset run) (input : Prov
       read-again (honest run) queries held (honest-proofs .covered run coset input low .0)
       (indices-fit (run .k) (coset .parameters .k-most) queries (valid .within))
       (ap (writeOutcome (honest run) queries) size ∙ honest-done) .2
-      ∙ completeness run queries coset input low valid
+      ∙ completeness run queries coset input low valid apart
 
 pub written-bytes : WrittenBytes
 written-bytes =
@@ -135,5 +136,6 @@ written-bytes =
       rewritten = rewritten;
       honest-done = honest-done;
       honest-accepted =
-          λ run queries held coset input low valid. honest-accepted run queries coset input valid held low;
+          λ run queries held coset input low valid apart.
+          honest-accepted run queries coset input valid apart held low;
     }

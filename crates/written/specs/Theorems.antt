@@ -13,11 +13,11 @@ use Rattle.refusal.specs.declared.Outcome.the-variants.{Done, Refused}
 use Rattle.refusal.specs.Checks.{andThen}
 use Rattle.refusal.specs.Numbers.{numberOf, numberOfOutcome}
 use Rattle.fri.specs.declared.Answer.the-variants as answers
-use Rattle.fri.specs.Run.{Run, stepsIn, roundsIn}
+use Rattle.fri.specs.Run.{Run, stepsIn, roundsIn, stepIn}
 use Rattle.fri.specs.Layers.{honest}
 use Rattle.fri.specs.Checks.{parametersOutcome, lengthsOutcome}
 use Rattle.fri.specs.Judge.{checksOutcome, verdictOf}
-use Rattle.fri.specs.Demand.{ValidParameters, ValidCoset, ProverInput, LowDegree, ValidQueries, Elements}
+use Rattle.fri.specs.Demand.{ValidParameters, ValidCoset, ProverInput, LowDegree, ValidQueries, Apart, Elements}
 use Rattle.fri.specs.Theorems.{Fit}
 use Rattle.transcript.specs.Numerals.{AreBytes}
 use Rattle.transcript.specs.Sections.{runIn, queriesIn}
@@ -85,7 +85,7 @@ pub record WrittenTranscripts : Type 0 where
 
 -- the numbers that the writer may give
 abbrev pub WriterNumber : (n : ℕ) → Type 0
-WriterNumber n = (n ≡ 0) ⊎ ((4 ≤ n) × (n ≤ 10)) ⊎ (n ≡ 13)
+WriterNumber n = (n ≡ 0) ⊎ ((4 ≤ n) × (n ≤ 10)) ⊎ (n ≡ 13) ⊎ (n ≡ 17)
 
 -- the writer's refusals: those of the judge over lists without 11, and list 8
 pub record WriterRefusals : Type 0 where
@@ -124,13 +124,15 @@ pub record WrittenBytes : Type 0 where
   pub rewritten : (bytes held : List ℕ) → AreBytes bytes → transcriptOutcome bytes ≡ Done → length held ≡ length bytes
       → (writeOutcome (runIn bytes) (queriesIn bytes) (length held) ≡ Done)
       × (bytesAfter (runIn bytes) (queriesIn bytes) held ≡ bytes)
-  -- an honest run and a valid query list are written, whatever the word's degree
-  pub honest-done : (run : Run) (queries : List ℕ) → ValidCoset run → ProverInput run → ValidQueries (run .k) queries
+  -- an honest run and a valid query list in which no two queries share a first-layer coset are written, whatever the
+  -- word's degree
+  pub honest-done : (run : Run) (queries : List ℕ) → ValidCoset run → ProverInput run
+      → ValidQueries (run .k) queries → Apart (stepIn run 0) queries
       → writeOutcome (honest run) queries (transcriptLength (run .k) (run .rate) (stepsIn run) (length queries)) ≡ Done
   -- demand 3, first half, of what is written: where the degree is low, the bytes are accepted, with queries · r · 2^η
   -- entries read
   pub honest-accepted : (run : Run) (queries held : List ℕ) → ValidCoset run → ProverInput run → LowDegree run
-      → ValidQueries (run .k) queries
+      → ValidQueries (run .k) queries → Apart (stepIn run 0) queries
       → length held ≡ transcriptLength (run .k) (run .rate) (stepsIn run) (length queries)
       → transcriptVerdict (bytesAfter (honest run) queries held)
       ≡ record { answer = answers.Accepted; reads = length queries * roundsIn run * 2 ^ run .step }

@@ -15,7 +15,7 @@ use Rattle.written.specs.Transcript.{transcriptOf}
 abbrev pub sizeOutcome : (run : Run) (queries : List ℕ) (size : ℕ) → Outcome
 sizeOutcome run queries size = refusedUnless (eqb size (length (transcriptOf run queries))) (WrongLength 8) Done
 
--- the checks as over lists, without number 11: numbers 4, 5, 6, 7, 13 (lists 1 to 5, then list 8), 8, 16, 9, 10;
+-- the checks as over lists, without number 11: numbers 4, 5, 6, 7, 13 (lists 1 to 5, then list 8), 8, 16, 9, 10, 17;
 -- `size` is the length of list 8
 abbrev pub writeOutcome : (run : Run) (queries : List ℕ) (size : ℕ) → Outcome
 writeOutcome run queries size =

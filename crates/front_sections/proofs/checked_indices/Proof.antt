@@ -12,7 +12,7 @@ read-requires c κs = let start = c .before .before .before in omega (arith, sta
 checked-indices-requires : tie.Need-checked-indices-requires
 checked-indices-requires c κs =
     let start = c .before .before .before .before .before .before .before in
-    (start .pre .0 .k-most, start .pre .0 .step-most)
+    (start .pre .0 .k-most, omega (arith, start .pre .0 .step-most))
 
 same-length : tie.Need-same-length
 same-length c = search needs

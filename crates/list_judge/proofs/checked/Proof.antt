@@ -10,6 +10,7 @@ use Rattle.refusal.specs.declared.Outcome.the-variants.{Done}
 use Prim.Native.Nat.{ℕ}
 use mathlib.Core.Path.{_≡_, sym, ap, _∙_}
 use borrow.Author.Needs.{needs}
+use native.Mathlib.Omega.{arith}
 use Rattle.list_judge.proofs.checked.Statement.{statement}
 use Rattle.list_judge.proofs.checked.Tie as tie
 
@@ -44,7 +45,7 @@ enum-told c = search needs
 checked-queries-requires : tie.Need-checked-queries-requires
 checked-queries-requires c κs =
     let v = run-valid (run (c .before .before)) (passed c) .0 in
-    (v .k-most, v .step-most)
+    (v .k-most, omega (arith, v .step-most))
 
 enum-known-outcome : tie.Need-enum-known-outcome
 enum-known-outcome c = search needs

@@ -54,6 +54,9 @@ enum-told-8 c = search needs
 enum-told-9 : tie.Need-enum-told-9
 enum-told-9 c = search needs
 
+enum-known-self-8 : tie.Need-enum-known-self-8
+enum-known-self-8 c = search needs
+
 returns : tie.Need-returns
 returns c = ap placeOf (sym (c .before .self .given .1))
 
@@ -102,6 +105,9 @@ returns-15 c = search needs
 returns-16 : tie.Need-returns-16
 returns-16 c = search needs
 
+returns-17 : tie.Need-returns-17
+returns-17 c = ap placeOf (sym (c .before .self8 .given .1))
+
 pub place-spec : {M : Type 1} → statement M
 place-spec =
     tie.close
@@ -122,6 +128,7 @@ place-spec =
     enum-told-7
     enum-told-8
     enum-told-9
+    enum-known-self-8
     returns
     returns-2
     returns-3
@@ -137,4 +144,5 @@ place-spec =
     returns-13
     returns-14
     returns-15
-    returns-16)
+    returns-16
+    returns-17)

@@ -1,14 +1,14 @@
--- `round_checks::first_outside` meets its contract. The loop's invariant: the queries still to come decide. Assumes
+-- `query_checks::first_outside` meets its contract. The loop's invariant: the queries still to come decide. Assumes
 -- nothing.
-use Rattle.round_checks.proofs.Queries.{outside-none, outside-here, outside-next}
+use Rattle.query_checks.proofs.Outside.{outside-none, outside-here, outside-next}
 use Rattle.fri.specs.Checks.{firstOutside}
 use lib.ListN.{length, drop}
 use Prim.Native.Nat.{_-_, _≤_}
 use mathlib.Core.Path.{_≡_, refl, _∙_}
 use borrow.Author.Needs.{needs}
 use native.Mathlib.Omega.{arith}
-use Rattle.round_checks.proofs.first_outside.Statement.{statement}
-use Rattle.round_checks.proofs.first_outside.Tie as tie
+use Rattle.query_checks.proofs.first_outside.Statement.{statement}
+use Rattle.query_checks.proofs.first_outside.Tie as tie
 
 abbrev Inv-loop : tie.InvT-loop
 Inv-loop size queries query₀ query =

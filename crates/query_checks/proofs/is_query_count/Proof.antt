@@ -1,11 +1,11 @@
--- `round_checks::is_query_count` meets its contract. Assumes nothing.
+-- `query_checks::is_query_count` meets its contract. Assumes nothing.
 use mathlib.Core.Path.{sym, ap, _∙_}
 use mathlib.Core.Bool.{Bool, _&&_}
 use lib.Dec.{leb}
 use borrow.Author.Tests.{le-leb, lt-leb}
 use Rattle.refusal.proofs.Checks.{first-false}
-use Rattle.round_checks.proofs.is_query_count.Statement.{statement}
-use Rattle.round_checks.proofs.is_query_count.Tie as tie
+use Rattle.query_checks.proofs.is_query_count.Statement.{statement}
+use Rattle.query_checks.proofs.is_query_count.Tie as tie
 
 returns : tie.Need-returns
 returns c = let n = c .before .args .count in sym (ap (λ (t : Bool). t && leb n 256) (le-leb 1 n (c .if1 .taken)))

@@ -1,4 +1,4 @@
--- `round_checks::checked_queries` meets its contract. Assumes nothing.
+-- `query_checks::checked_queries` meets its contract. Assumes nothing.
 use Rattle.fri.specs.Checks.{indicesOutcome}
 use Rattle.refusal.specs.declared.Cause.the-variants.{QueryCountOutOfRange}
 use Rattle.refusal.proofs.Checks.{not-true, not-false, passed-by, refused-by}
@@ -7,8 +7,8 @@ use lib.Dec.{leb}
 use mathlib.Core.Bool.{_&&_}
 use mathlib.Core.Path.{sym, _∙_}
 use borrow.Author.Needs.{needs}
-use Rattle.round_checks.proofs.checked_queries.Statement.{statement}
-use Rattle.round_checks.proofs.checked_queries.Tie as tie
+use Rattle.query_checks.proofs.checked_queries.Statement.{statement}
+use Rattle.query_checks.proofs.checked_queries.Tie as tie
 
 is-query-count-requires : tie.Need-is-query-count-requires
 is-query-count-requires c κs = search needs
