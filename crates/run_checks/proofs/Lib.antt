@@ -1,1 +1,2 @@
+pub mod Lists
 mod LaterBases

@@ -1,4 +1,4 @@
-// The checks that prover and judge have in common, in the order of the papers.
+// The checks that prover, judge and writer have in common, in the order of the papers.
 use field::Element;
 use layer_cosets::LayerCoset;
 use layout::Parameters;
@@ -7,7 +7,8 @@ use refusal::Outcome;
 use refusal::Position;
 ghost use mathlib.Core.Path.{_≡_};
 ghost use lib.ListN.{length};
-ghost use Rattle.fri.specs.Checks.{lengthsOutcome, laterBasesOutcome, basesOutcome, runOutcome};
+ghost use Rattle.refusal.specs.Checks.{andThen};
+ghost use Rattle.fri.specs.Checks.{parametersOutcome, lengthsOutcome, laterBasesOutcome, basesOutcome, runOutcome};
 ghost use Rattle.layout.specs.Parameters.{stepsBy, Valid, runOf};
 
 // The checks that prover and judge have in common, in the order of the papers: 4, 5, 6, 7, 13, 8, 16. Any offset
@@ -26,21 +27,16 @@ pub fn checked(
         (now (store .entry)) (now (last .entry)) in
         ⌜ r ≡ runOutcome run ⌝ }
 {
-    let ranges = parameters.checked();
-    match ranges {
-        Outcome::Done => {
-            let lengths = checked_lengths(parameters, offset, basis, challenges, word, store, last);
-            match lengths {
-                Outcome::Done => checked_bases(parameters, basis),
-                Outcome::Refused(cause) => Outcome::Refused(cause),
-            }
-        }
+    let lists = checked_lists(parameters, offset, basis, challenges, word, store, last);
+    match lists {
+        Outcome::Done => checked_bases(parameters, basis),
         Outcome::Refused(cause) => Outcome::Refused(cause),
     }
 }
 
-// Refuses the lowest list whose length is not the one due (13). The contract's run has the offset.
-pub fn checked_lengths(
+// Refuses parameters out of range (4 to 7), then the lowest list whose length is not the one due (13). The contract's
+// run has the offset.
+pub fn checked_lists(
     parameters: Parameters,
     offset: Element,
     basis: &[u64],
@@ -49,12 +45,16 @@ pub fn checked_lengths(
     store: &[u64],
     last: &[u64],
 ) -> Outcome
-    requires { ⌜ Valid parameters ⌝ }
     ensures { λ r.
         let run = runOf parameters (offset .0) (now (basis .entry)) (now (challenges .entry)) (now (word .entry))
         (now (store .entry)) (now (last .entry)) in
-        ⌜ r ≡ lengthsOutcome run ⌝ }
+        ⌜ r ≡ andThen (parametersOutcome (run .k) (run .rate) (run .step)) (lengthsOutcome run) ⌝ }
 {
+    let ranges = parameters.checked();
+    match ranges {
+        Outcome::Refused(cause) => return Outcome::Refused(cause),
+        Outcome::Done => {}
+    }
     let rounds = parameters.rounds();
     if basis.len() != parameters.k {
         return Outcome::Refused(Cause::WrongLength { list: 1 });

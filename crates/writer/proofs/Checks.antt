@@ -1,5 +1,5 @@
 -- The writer's checks: list 8 by the formula of its needed length, and what is known where all pass. Assumes nothing.
-use mathlib.Core.Path.{_≡_, sym, ap}
+use mathlib.Core.Path.{_≡_, sym, ap, _∙_}
 use mathlib.Core.Logic.{_≢_}
 use mathlib.Core.List.{List}
 use Prim.Native.Nat.{ℕ}
@@ -14,12 +14,10 @@ use Rattle.refusal.proofs.Checks.{then-passed, then-refused, then-done, passed-
 use Rattle.refusal.proofs.Checks.{equal-of-test}
 use Rattle.fri.specs.Layout.{stepAt}
 use Rattle.fri.specs.Run.{Run, stepsIn, stepIn}
-use Rattle.fri.specs.Checks.{parametersOutcome, lengthsOutcome, basesOutcome, queriesOutcome}
-use Rattle.fri.specs.Demand.{ValidParameters}
-use Rattle.fri.specs.Theorems.{Fit}
-use Rattle.fri.proofs.Checks.{parameters-valid, lengths-fit}
+use Rattle.fri.specs.Checks.{basesOutcome, queriesOutcome}
 use Rattle.layout.specs.declared.Parameters.{Parameters}
 use Rattle.layout.specs.Parameters.{stepsBy}
+use Rattle.run_checks.proofs.Lists.{of-lists, lists-then, lists-valid, lists-fit}
 use Rattle.written.specs.Transcript.{transcriptOf, transcriptLength}
 use Rattle.written.specs.Writer.{sizeOutcome, writeOutcome}
 use Rattle.written.proofs.Lengths.{transcript-size}
@@ -45,44 +43,32 @@ module _ (p : Parameters) (basis queries : List ℕ) (size : ℕ) where
       then-passed of-size after-size (sym (passed-by (eqb size needed) (WrongLength 8) Done (eq-eqb size needed e)))
 
 module _ (run : Run) (queries : List ℕ) (size : ℕ) where
-  abbrev ranges : Outcome
-  ranges = parametersOutcome (run .k) (run .rate) (run .step)
-
   abbrev bases : Outcome
   bases = basesOutcome (stepsIn run) (run .basis)
 
   abbrev of-queries : Outcome
   of-queries = queriesOutcome (run .k) (stepIn run 0) queries
 
-  -- the checks after those of parameters, and after those of lists 1 to 5
-  abbrev pub after-lengths : Outcome
-  after-lengths = andThen (sizeOutcome run queries size) (andThen bases of-queries)
-
-  abbrev pub after-ranges : Outcome
-  after-ranges = andThen (lengthsOutcome run) after-lengths
+  -- the checks after those of lists 1 to 5
+  abbrev pub after-lists : Outcome
+  after-lists = andThen (sizeOutcome run queries size) (andThen bases of-queries)
 
   -- the formula says how long the transcript is
-  pub sized-is : ValidParameters (run .k) (run .rate) (run .step) → Fit run
+  pub sized-is : of-lists run ≡ Done
       → afterListsOutcome (record { k = run .k; rate = run .rate; step = run .step }) (run .basis) queries size
-      ≡ after-lengths
-  sized-is valid fits =
+      ≡ after-lists
+  sized-is done =
       ap (λ (n : ℕ). andThen (refusedUnless (eqb size n) (WrongLength 8) Done) (andThen bases of-queries))
-      (sym (transcript-size run valid fits queries))
+      (sym (transcript-size run (lists-valid run done) (lists-fit run done) queries))
 
   -- where all checks pass
   module _ (done : writeOutcome run queries size ≡ Done) where
-    of-lengths : (lengthsOutcome run ≡ Done) × (after-lengths ≡ Done)
-    of-lengths = then-done (lengthsOutcome run) after-lengths (then-done ranges after-ranges done .1)
-
-    pub passed-valid : ValidParameters (run .k) (run .rate) (run .step)
-    passed-valid = parameters-valid (run .k) (run .rate) (run .step) (then-done ranges after-ranges done .0)
-
-    pub passed-fits : Fit run
-    passed-fits = lengths-fit run (of-lengths .0)
+    pub passed-lists : (of-lists run ≡ Done) × (after-lists ≡ Done)
+    passed-lists = then-done (of-lists run) after-lists (lists-then run after-lists ∙ done)
 
     pub passed-size : size ≡ length (transcriptOf run queries)
     passed-size =
         let needed = length (transcriptOf run queries) in
         equal-of-test size needed
         (unless-done (eqb size needed) (WrongLength 8) Done
-        (then-done (sizeOutcome run queries size) (andThen bases of-queries) (of-lengths .1) .0) .0)
+        (then-done (sizeOutcome run queries size) (andThen bases of-queries) (passed-lists .1) .0) .0)

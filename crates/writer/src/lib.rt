@@ -36,7 +36,8 @@ pub fn transcript_length(parameters: Parameters, queries: usize) -> u64
 // The transcript of a run and its queries, section by section, into `bytes`, list 8. Any lists that pass the checks
 // are written, honest or not. Refused, in this order, as by the judge over lists: parameters (4, 5, 6, 7), the lowest
 // of lists 1 to 5 whose length is not the one due, then list 8 (13), a dependent basis (8), a dependent one of a later
-// layer (16), the number of queries (9), a query out of range (10). A refusal leaves every byte.
+// layer (16), the number of queries (9), a query out of range (10), two queries that share a first-layer coset (17). A
+// refusal leaves every byte.
 pub fn write(
     parameters: Parameters,
     offset: Element,
@@ -100,28 +101,14 @@ fn checked(
         (now (store .entry)) (now (last .entry)) in
         ⌜ r ≡ writeOutcome run (now (queries .entry)) size ⌝ }
 {
-    let ranges = parameters.checked();
-    match ranges {
-        Outcome::Done => {
-            let lengths = run_checks::checked_lengths(
-                parameters,
-                offset,
-                basis,
-                challenges,
-                word,
-                store,
-                last,
-            );
-            match lengths {
-                Outcome::Done => checked_after_lists(parameters, basis, queries, size),
-                Outcome::Refused(cause) => Outcome::Refused(cause),
-            }
-        }
+    let lists = run_checks::checked_lists(parameters, offset, basis, challenges, word, store, last);
+    match lists {
+        Outcome::Done => checked_after_lists(parameters, basis, queries, size),
         Outcome::Refused(cause) => Outcome::Refused(cause),
     }
 }
 
-// The checks after those of lists 1 to 5: list 8 (13), the bases (8, 16), the queries (9, 10).
+// The checks after those of lists 1 to 5: list 8 (13), the bases (8, 16), the queries (9, 10, 17).
 fn checked_after_lists(
     parameters: Parameters,
     basis: &[u64],

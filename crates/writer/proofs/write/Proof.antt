@@ -9,7 +9,8 @@ use Rattle.fri.specs.Run.{Run}
 use Rattle.layout.specs.Parameters.{runOf}
 use Rattle.written.specs.Transcript.{transcriptOf}
 use Rattle.written.specs.Writer.{writeOutcome}
-use Rattle.writer.proofs.Checks.{passed-valid, passed-fits, passed-size}
+use Rattle.run_checks.proofs.Lists.{lists-valid, lists-fit}
+use Rattle.writer.proofs.Checks.{passed-lists, passed-size}
 use Rattle.writer.proofs.write.Statement.{statement}
 use Rattle.writer.proofs.write.Tie as tie
 
@@ -51,11 +52,9 @@ put-transcript-requires c κs =
     let a = start-of checked .args in
     let run = run-at checked in
     let asked = a .queries .now in
-    let size = length (a .bytes .now) in (
-      passed-valid run asked size (passed told),
-      passed-fits run asked size (passed told),
-      passed-size run asked size (passed told),
-    )
+    let size = length (a .bytes .now) in
+    let lists = passed-lists run asked size (passed told) .0 in
+    (lists-valid run lists, lists-fit run lists, passed-size run asked size (passed told))
 
 enum-known-outcome : tie.Need-enum-known-outcome
 enum-known-outcome c = search needs
