@@ -2,11 +2,11 @@
 -- and by what an inverse is, so that no inverse is computed. Assumes nothing.
 use mathlib.Core.Path.{_≡_, refl, sym, ap, ap₂, _∙_}
 use mathlib.Core.List.{List, [], _∷_}
-use Prim.Native.Nat.{ℕ, _/_, _^_, _<_}
+use Prim.Native.Nat.{ℕ, _/_, _<_}
 use native.Mathlib.Omega.{arith}
 use lib.Bits.{bitXor}
-use lib.ListN.{length, getD}
-use Rattle.gf64.specs.Field.{sum, product, inverse}
+use lib.ListN.{getD}
+use Rattle.gf64.specs.Field.{product, inverse}
 use Rattle.gf64.specs.Polynomial.{carryless, carrylessIn, remainder, remainderIn, timesT}
 use Rattle.gf64.proofs.Inverse.{inverse-unique, inverse-right}
 use Rattle.gf64.proofs.Ring.{product-one-r}

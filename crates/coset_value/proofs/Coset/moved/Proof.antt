@@ -1,16 +1,14 @@
 -- `Coset::moved` meets its contract. The loop's invariant: i moved points stand in the array, zeros follow. Assumes
 -- nothing.
-use mathlib.Core.Path.{_≡_, refl, sym, ap, _∙_}
+use mathlib.Core.Path.{_≡_, sym, ap, _∙_}
 use mathlib.Core.List.{List, map}
-use Prim.Native.Nat.{ℕ, _-_, _≤_}
-use lib.ListN.{length, getD, take, length-map}
+use Prim.Native.Nat.{_-_, _≤_}
+use lib.ListN.{length, take, length-map}
 use lib.Seq.{length-take-le, getD-take}
 use Rattle.gf64.specs.Field.{sum}
-use Rattle.poly.specs.Carrier.{gf64}
-use Rattle.poly.specs.Polynomial.{padded}
 use Rattle.poly.proofs.Filling.{getD-map}
 use Rattle.field.specs.declared.Element.{Element}
-use Rattle.coset_value.specs.Cosets.{elements, numbers}
+use Rattle.coset_value.specs.Cosets.{numbers}
 use Rattle.coset_value.proofs.Arrays.{begun, begun-start, begun-next, begun-all, length-numbers, number-at}
 use Rattle.coset_value.proofs.Cosets.{coset}
 use borrow.Author.Needs.{needs}

@@ -1,8 +1,8 @@
 -- `Coset::read` meets its contract. The loop's invariant: i points and i entries stand in the arrays, zeros follow.
 -- Assumes nothing.
-use mathlib.Core.Path.{_≡_, refl, sym, ap, _∙_}
+use mathlib.Core.Path.{_≡_, refl, sym, _∙_}
 use mathlib.Core.List.{map}
-use Prim.Native.Nat.{ℕ, _-_, _≤_}
+use Prim.Native.Nat.{_-_, _≤_}
 use lib.ListN.{length, getD, length-map}
 use Rattle.gf64.specs.Field.{sum}
 use Rattle.poly.specs.Carrier.{gf64}
