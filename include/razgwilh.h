@@ -46,8 +46,8 @@ extern "C" {
  *
  * A function that can refuse, and the layer lookup, answer five numbers:
  *   number  0 when it went well, else that of the cause; RZ_NONE where nothing was done
- *   place   the section (numbers 1, 2), basis place (8), query (10, 11), degree (12) or list (13);
- *           for the layer lookup, a start
+ *   place   the section (numbers 1, 2), basis place (8), query (10, 11, 17), degree (12) or list
+ *           (13); for the layer lookup, a start
  *   round   for numbers 11 and 16
  *   reads   how many entries a judge read: 0 where none were, and for every other function
  *   value   what the function gives, where it gives something and number is 0; for the prover, the
@@ -125,7 +125,9 @@ enum rz_number {
     /* the inverse of zero; the inverse alone gives it */
     RZ_INVERSE_OF_ZERO = 15,
     /* a later layer's basis is dependent; it is checked for, and proved never to come about */
-    RZ_LATER_BASIS_DEPENDENT = 16
+    RZ_LATER_BASIS_DEPENDENT = 16,
+    /* two queries share a first-layer coset */
+    RZ_COSET_SHARED = 17
 };
 
 /* 4. LISTS
@@ -274,7 +276,8 @@ static inline struct rz_answer rz_fold_answer(const struct rz_fold_call *call,
  * to r - 1 lie joined in the store, which has the sum of their entries, none when r is 1. Layer r,
  * of at most 256 entries, is sent as the last coefficients: the first d coefficients of its
  * interpolant, constant first. They are those of the last polynomial. A coset of a layer's fold is
- * the 2^step points that q sends to one point, as rz_fold_answer has it. */
+ * the 2^step points that q sends to one point, as rz_fold_answer has it; those of layer 0 are the
+ * first-layer cosets. */
 
 /* What the prover, the judge and the writer of transcripts are all given. */
 struct rz_run {
@@ -320,6 +323,9 @@ static inline struct rz_answer rz_layer_answer(size_t k, size_t rate, size_t ste
  *   number 9   no query, or over 256; no place
  *   number 10  an entry of `queries` is 2^k or more, and its place is the first such position,
  *              from 0
+ *   number 17  two queries share a first-layer coset, which entries j and j' of `queries` do where
+ *              j / 2^step = j' / 2^step, rounded down; place is the first position, from 0, whose
+ *              query shares its coset with an earlier one
  *   number 11  a round check fails: the first one, lowest query first, then lowest round; place is
  *              its position in `queries`, from 0, and round its round
  * reads: queries * r * 2^step where number is 0; t * r * 2^step + min(i + 2, r) * 2^step for
@@ -360,7 +366,7 @@ static inline struct rz_answer rz_write_transcript_answer(const struct rz_run *r
  *   number 9   its count is 0 or over 256; no place
  *   number 1   the bytes of its entries are not all there, and its place is the section
  * and by the values of its entries, as rz_judge_answer has them: 4, 5, 6 and 7 in section 1, 8 and
- * 16 in section 2, 10 in section 4. After the last section, with
+ * 16 in section 2, 10 and 17 in section 4. After the last section, with
  *   number 3   bytes follow; no place
  * and last with number 11, as rz_judge_answer has it. The reads are those of rz_judge_answer. The
  * answer has no value, and no round but with numbers 11 and 16. */

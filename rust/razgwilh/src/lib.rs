@@ -250,14 +250,14 @@ pub struct Accepted {
 }
 
 /// Judges what was sent, the word, the store and the last coefficients, at the queries. A
-/// refusal has number 4, 5, 6, 7, 13, 8, 16, 9, 10 or 11.
+/// refusal has number 4, 5, 6, 7, 13, 8, 16, 9, 10, 17 or 11.
 pub fn judge(run: Run, queries: &[u64], store: &[u64], last: &[u64]) -> Result<Accepted, Refusal> {
     accepted(|answer| raw::judge(run, queries, store, last, answer))
 }
 
 /// Writes the transcript of these lists, honest or not, into `bytes`, which has exactly
 /// [`Run::transcript_length`] bytes for as many queries: what [`judge_transcript`] says of it is
-/// what [`judge`] says of the lists. A refusal, number 4, 5, 6, 7, 13, 8, 16, 9 or 10, leaves
+/// what [`judge`] says of the lists. A refusal, number 4, 5, 6, 7, 13, 8, 16, 9, 10 or 17, leaves
 /// every byte as it was; list 8 of number 13 is `bytes`.
 pub fn write_transcript(
     run: Run,
@@ -269,8 +269,8 @@ pub fn write_transcript(
     done(|answer| raw::write_transcript(run, queries, store, last, bytes, answer))
 }
 
-/// Judges the bytes of a transcript, of any length. A refusal has one of the numbers 1 to 11 or
-/// 16, of which 1 and 2 have the section for their place.
+/// Judges the bytes of a transcript, of any length. A refusal has one of the numbers 1 to 11,
+/// 16 or 17, of which 1 and 2 have the section for their place.
 pub fn judge_transcript(bytes: &[u8]) -> Result<Accepted, Refusal> {
     accepted(|answer| raw::judge_transcript(bytes, answer))
 }

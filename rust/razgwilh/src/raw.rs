@@ -26,8 +26,8 @@ pub const NONE: u64 = u64::MAX;
 pub struct Answer {
     /// 0 when it went well, else the number of the cause.
     pub number: u64,
-    /// The section (numbers 1, 2), basis place (8), query (10, 11), degree (12) or list (13),
-    /// else [`NONE`]; for the layer lookup, where the layer begins.
+    /// The section (numbers 1, 2), basis place (8), query (10, 11, 17), degree (12) or list
+    /// (13), else [`NONE`]; for the layer lookup, where the layer begins.
     pub place: u64,
     /// The round, with numbers 11 and 16, else [`NONE`].
     pub round: u64,

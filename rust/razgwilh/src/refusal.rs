@@ -47,6 +47,9 @@ pub enum Cause {
     /// A later layer's basis is dependent; the round whose fold gives that layer is there, from
     /// 0. It is checked for, and proved never to come about.
     LaterBasisDependent = 16,
+    /// Two queries share a first-layer coset; the place is the first query, from 0, that shares
+    /// one with an earlier query.
+    CosetShared = 17,
 }
 
 impl Cause {
@@ -68,6 +71,7 @@ impl Cause {
         Cause::InputTooLong,
         Cause::InverseOfZero,
         Cause::LaterBasisDependent,
+        Cause::CosetShared,
     ];
 
     /// The cause with this number; 0, which is no refusal, and numbers that are not given have
@@ -104,6 +108,7 @@ impl Cause {
             Cause::InputTooLong => "the program's input has over 65,536 bytes",
             Cause::InverseOfZero => "the inverse of zero",
             Cause::LaterBasisDependent => "a later layer's basis is dependent",
+            Cause::CosetShared => "two queries share a first-layer coset",
         }
     }
 
@@ -112,7 +117,7 @@ impl Cause {
         match self {
             Cause::BytesEnd | Cause::CountDiffers => "section",
             Cause::BasisDependent => "basis place",
-            Cause::QueryOutOfRange | Cause::RoundCheckFails => "query",
+            Cause::QueryOutOfRange | Cause::RoundCheckFails | Cause::CosetShared => "query",
             Cause::DegreeTooLarge => "degree",
             Cause::WrongLength => "list",
             _ => "place",

@@ -34,9 +34,9 @@ fn a_call_that_writes_nothing_is_not_accepted() {
 }
 
 #[test]
-#[should_panic(expected = "number 17")]
+#[should_panic(expected = "number 18")]
 fn a_number_without_a_cause_is_not_accepted() {
-    let _ = Answer::of(|answer| answer.copy_from_slice(&[17, NONE, NONE, 0, NONE])).result();
+    let _ = Answer::of(|answer| answer.copy_from_slice(&[18, NONE, NONE, 0, NONE])).result();
 }
 
 #[test]
