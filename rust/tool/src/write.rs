@@ -106,7 +106,9 @@ fn spoken_of(refusal: &Refusal) -> Option<Name> {
         (Cause::WrongLength, Some(1)) | (Cause::BasisDependent, _) => Some(Name::Basis),
         (Cause::WrongLength, Some(2)) => Some(Name::Challenges),
         (Cause::WrongLength, Some(3)) | (Cause::DegreeTooLarge, _) => Some(Name::Word),
-        (Cause::QueryCountOutOfRange | Cause::QueryOutOfRange, _) => Some(Name::Queries),
+        (Cause::QueryCountOutOfRange | Cause::QueryOutOfRange | Cause::CosetShared, _) => {
+            Some(Name::Queries)
+        }
         _ => None,
     }
 }
