@@ -410,6 +410,7 @@ static void transcripts(void) {
     show_changed("\nG  with R 2: ", 12, 2, 8, 136);
     show_changed("\nG  with basis 1, 1: ", 48, 1, 8, 136);
     show_changed("\nG  with query 1 at index 4: ", 80, 4, 8, 136);
+    show_changed("\nG  with query 1 at index 1: ", 80, 1, 8, 136);
     show_changed("\nG  with challenge 5: ", 60, 5, 8, 136);
     show_changed("\nG  with 4294967295 queries: ", 68, 4294967295, 4, 136);
     front_cases();

@@ -93,8 +93,9 @@ static void expect_raw(const uint64_t list[ROOM], size_t length, struct rz_answe
 static const uint64_t basis[] = {1, 2}, word[] = {7, 4, 1, 2}, challenge[] = {4};
 static const uint64_t queries_g[] = {0, 3}, last_g[] = {0xb};
 
-/* Case K, but from offset 8: two rounds over eight points. Query 8 is out of range. */
-static const uint64_t basis_k[] = {1, 2, 4}, challenges_k[] = {2, 3}, queries_k[] = {5, 8};
+/* Case K, but from offset 8: two rounds over eight points. Queries 5 and 4 share a first-layer
+ * coset, and query 8 is out of range. */
+static const uint64_t basis_k[] = {1, 2, 4}, challenges_k[] = {2, 3}, queries_k[] = {5, 4, 8};
 static const uint64_t word_k[] = {0, 1, 4, 5, 0x10, 0x11, 0x14, 0x15};
 static const uint64_t layer_k[] = {0xa, 0xc, 0x1e, 0x18}, last_k[] = {0x41};
 
@@ -130,7 +131,7 @@ static void expect_version(void) {
 static void expect_accepted(void) {
     const uint64_t large[] = {UINT64_C(1) << 32, UINT64_C(1) << 63, RZ_NONE};
 
-    for (uint64_t number = 0; number <= 17; number++) {
+    for (uint64_t number = 0; number <= 18; number++) {
         expect(rz_accepted(refused(number, RZ_NONE)) == (number == 0), "rz_accepted");
         expect(rz_done(refused(number, RZ_NONE)) == (number == 0), "rz_done");
     }
@@ -355,17 +356,18 @@ struct lengths {
     size_t k, rate, step, basis, challenges, word, store, last;
 };
 
-/* A transcript of case K, with one query, has 7 counts and 23 entries. */
+/* A transcript of case K, with one query, has 7 counts and 23 entries. There is room for three. */
 #define BYTES_K (4 * 7 + 8 * 23)
+#define BYTES_ROOM (BYTES_K + 8 * 2)
 
-static void fill_bytes(uint8_t bytes[BYTES_K + ROOM]) {
-    memset(bytes, 0xa5, BYTES_K + ROOM);
+static void fill_bytes(uint8_t bytes[BYTES_ROOM]) {
+    memset(bytes, 0xa5, BYTES_ROOM);
 }
 
 /* The first `length` bytes are those of `written`, and the others what they were. */
-static void expect_bytes(const uint8_t bytes[BYTES_K + ROOM], const uint8_t *written,
+static void expect_bytes(const uint8_t bytes[BYTES_ROOM], const uint8_t *written,
                          size_t length, const char *what) {
-    for (size_t i = 0; i < BYTES_K + ROOM; i++) {
+    for (size_t i = 0; i < BYTES_ROOM; i++) {
         expect(bytes[i] == (i < length ? written[i] : 0xa5), what);
     }
 }
@@ -376,7 +378,7 @@ static void expect_writing_refused(struct lengths n, const uint64_t *points, siz
     const struct rz_run run = {n.k, n.rate, n.step, 8, {points, n.basis},
                                {challenges_k, n.challenges}, {word_k, n.word}};
     uint64_t answer[ROOM];
-    uint8_t bytes[BYTES_K + ROOM];
+    uint8_t bytes[BYTES_ROOM];
 
     fill(answer);
     fill_bytes(bytes);
@@ -455,7 +457,7 @@ static void expect_judged(size_t queries, const uint64_t *last, struct rz_answer
                   due, "rz_judge_answer: queries");
 }
 
-/* The numbers that one of the two alone gives: 9, 10 and 11 of the judge, 12 of the prover. */
+/* The numbers that one of the two alone gives: 9, 10, 17 and 11 of the judge, 12 of the prover. */
 static void expect_own_numbers(void) {
     const uint64_t last_one[] = {0, 0, 0, 1}, zero[] = {0};
     const struct rz_answer degree = answer_with(RZ_DEGREE_TOO_LARGE, 1, RZ_NONE, 0, 1);
@@ -463,7 +465,9 @@ static void expect_own_numbers(void) {
     uint64_t answer[ROOM], store[ROOM], last[ROOM];
 
     expect_judged(0, last_k, refused(RZ_QUERY_COUNT_OUT_OF_RANGE, RZ_NONE));
-    expect_judged(2, last_k, refused(RZ_QUERY_OUT_OF_RANGE, 1));
+    expect_judged(3, last_k, refused(RZ_QUERY_OUT_OF_RANGE, 2));
+    expect_judged(2, last_k, refused(RZ_COSET_SHARED, 1));
+    expect_judged(2, zero, refused(RZ_COSET_SHARED, 1));
     expect_judged(1, zero, answer_with(RZ_ROUND_CHECK_FAILS, 0, 1, 4, RZ_NONE));
 
     fill(answer);
@@ -530,7 +534,7 @@ static void expect_transcript(const uint8_t *bytes, size_t bytes_length, struct 
     expect(accepted_elsewhere(bytes, bytes_length) == (due.number == 0), "another file");
 }
 
-/* Case G, and the numbers that bytes alone can get: 1, 2 and 3. */
+/* Case G, and the numbers that bytes alone can get: 1, 2 and 3; 17 comes before 3. */
 static void expect_transcripts(void) {
     uint8_t changed[sizeof case_g + 1] = {0};
 
@@ -539,6 +543,8 @@ static void expect_transcripts(void) {
     expect_transcript(case_g, sizeof case_g - 1, refused(RZ_BYTES_END, 6));
     memcpy(changed, case_g, sizeof case_g);
     expect_transcript(changed, sizeof changed, refused(RZ_TRAILING_BYTES, RZ_NONE));
+    changed[80] = 1;
+    expect_transcript(changed, sizeof changed, refused(RZ_COSET_SHARED, 1));
     changed[0] = 4;
     expect_transcript(changed, sizeof changed, refused(RZ_COUNT_DIFFERS, 1));
 }
@@ -574,7 +580,7 @@ static void transcript_k(uint8_t bytes[BYTES_K], struct rz_list last) {
 /* Case K written, with an answer's list of any length. */
 static void expect_raw_writing(size_t length) {
     uint64_t answer[ROOM];
-    uint8_t bytes[BYTES_K + ROOM], due[BYTES_K];
+    uint8_t bytes[BYTES_ROOM], due[BYTES_K];
 
     transcript_k(due, RZ_LIST(last_k));
     fill(answer);
@@ -589,7 +595,7 @@ static void expect_raw_writing(size_t length) {
 /* Case K written with a last coefficient, whatever the judge says of it. */
 static void expect_written(const uint64_t *last, struct rz_answer verdict) {
     const struct rz_run run = run_k();
-    uint8_t bytes[BYTES_K + ROOM], due[BYTES_K];
+    uint8_t bytes[BYTES_ROOM], due[BYTES_K];
 
     transcript_k(due, rz_list_of(last, 1));
     fill_bytes(bytes);
@@ -613,7 +619,7 @@ static void expect_writing(void) {
     expect(memcmp(bytes, case_g, sizeof case_g) == 0, "case G as it is written");
 }
 
-/* List 8, whose length goes by the number of queries, before 8, 9 and 10. */
+/* List 8, whose length goes by the number of queries, before 8, 9, 10 and 17. */
 static void expect_writings_refused(void) {
     static const uint64_t dependent[] = {1, 2, 3};
     static const struct {
@@ -626,7 +632,8 @@ static void expect_writings_refused(void) {
         {0, BYTES_K, RZ_WRONG_LENGTH, 8},
         {0, BYTES_K - 8, RZ_QUERY_COUNT_OUT_OF_RANGE, RZ_NONE},
         {2, BYTES_K, RZ_WRONG_LENGTH, 8},
-        {2, BYTES_K + 8, RZ_QUERY_OUT_OF_RANGE, 1},
+        {2, BYTES_K + 8, RZ_COSET_SHARED, 1},
+        {3, BYTES_K + 16, RZ_QUERY_OUT_OF_RANGE, 2},
     };
     const struct lengths n = {3, 1, 1, 3, 2, 8, 4, 1};
 

@@ -57,7 +57,8 @@ mod tests {
         assert_eq!(longest, LONGEST);
     }
 
-    /// An accepted transcript of the largest size: the zero word, at 256 queries.
+    /// An accepted transcript of the largest size: the zero word, at 256 queries, each in a
+    /// first-layer coset of its own.
     fn longest() -> Vec<u8> {
         let mut bytes = Vec::new();
         let mut section = |entries: &[u64]| {
@@ -67,7 +68,7 @@ mod tests {
         section(&[20, 1, 1]);
         section(&[[0].to_vec(), (0..20).map(|place| 1 << place).collect()].concat());
         section(&[7; 19]);
-        section(&(0..256).collect::<Vec<_>>());
+        section(&(0..256).map(|coset| 2 * coset).collect::<Vec<_>>());
         for dimension in (2..=20).rev() {
             section(&vec![0; 1 << dimension]);
         }
