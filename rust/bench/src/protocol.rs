@@ -1,5 +1,6 @@
 //! The prover and the judge beside the same methods in Rust, and how both grow with the coset.
 
+mod apart;
 mod inputs;
 mod judge;
 mod layers;
@@ -18,6 +19,7 @@ pub fn report() {
     if let Some(largest) = growing.last() {
         prover::report(largest);
         judge::report(largest);
+        apart::report(largest);
         transcript::report(largest);
     }
     report_growth(&growing);

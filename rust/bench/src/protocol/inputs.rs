@@ -23,7 +23,7 @@ impl Inputs {
         let mut next = numbers();
         let (offset, basis) = (next(), independent(k, &mut next));
         Inputs {
-            queries: (0..QUERIES).map(|_| next() >> (64 - k)).collect(),
+            queries: queries_apart(k, &mut next),
             word: low_degree_word(&LayerCoset::first(offset, &basis), &mut next),
             k,
             offset,
@@ -43,6 +43,19 @@ impl Inputs {
             word: &self.word,
         }
     }
+}
+
+/// Indices of which no two share a first-layer coset, with any step that leaves a coset for each.
+fn queries_apart(k: usize, next: &mut impl FnMut() -> u64) -> Vec<u64> {
+    let step = (k - QUERIES.ilog2() as usize).min(3);
+    let mut queries = Vec::with_capacity(QUERIES);
+    while queries.len() < QUERIES {
+        let query = next() >> (64 - k);
+        if queries.iter().all(|earlier| earlier >> step != query >> step) {
+            queries.push(query);
+        }
+    }
+    queries
 }
 
 /// The values of g(q) + X · h(q) over the coset, where q = X · (X - e), e is the first element

@@ -1,5 +1,6 @@
 //! The judge beside the same method in Rust.
 
+use super::apart::check_apart;
 use super::inputs::{Inputs, RATE};
 use super::layers::{check_bases, layer_start};
 use super::prover::proved;
@@ -100,6 +101,7 @@ impl Operation for Proof<'_> {
     #[inline(always)]
     fn by(self, arithmetic: impl Arithmetic, (): &mut ()) -> Self::Answer {
         check_bases(arithmetic, &self.run);
+        check_apart(self.queries, self.run.step)?;
         let rounds = set_up(arithmetic, &self.run);
         let mut cosets = 0;
         for (query, index) in self.queries.iter().enumerate() {

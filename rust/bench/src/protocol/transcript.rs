@@ -1,6 +1,7 @@
 //! The judge over the bytes of a transcript beside the judge over the same lists; the writing of
 //! those bytes beside the same method in Rust and beside a copy.
 
+use super::apart::check_apart;
 use super::inputs::{Inputs, RATE};
 use super::judge::{Proof, TURNS};
 use super::layers::{check_bases, dimension, layer_start};
@@ -85,7 +86,8 @@ impl Transcript<'_> {
 }
 
 /// The library's method: the checks, then section after section, entry by entry. Of the checks
-/// only those of the bases are made; the others compare some three hundred numbers.
+/// only those of the bases and that the queries lie apart are made; the others compare some three
+/// hundred numbers.
 impl Operation for Transcript<'_> {
     type Room = Vec<u8>;
     type Answer = Result<(), Refusal>;
@@ -101,6 +103,7 @@ impl Operation for Transcript<'_> {
 
     fn by(self, arithmetic: impl Arithmetic, bytes: &mut Vec<u8>) -> Self::Answer {
         check_bases(arithmetic, &self.0.run);
+        check_apart(self.0.queries, self.0.run.step)?;
         write(&self.0, bytes);
         Ok(())
     }
