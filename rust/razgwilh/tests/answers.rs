@@ -1,7 +1,7 @@
 //! The causes are those of docs/NUMBERS.md, and no answer reads as accepted but number 0.
 
 use razgwilh::raw::{Answer, NONE};
-use razgwilh::{transcript_length, write_transcript, Cause, Refusal, Run};
+use razgwilh::{judge, transcript_length, write_transcript, Cause, Refusal, Run};
 
 #[test]
 fn causes_are_those_of_the_table() {
@@ -50,10 +50,25 @@ fn a_run_tells_its_lengths() {
     assert_eq!([transcript_length(21, 6, 3, 1), transcript_length(20, 6, 3, 1 << 60)], [0, 0]);
 }
 
+fn case_g() -> Run<'static> {
+    let (basis, challenges, word) = (&[1, 2], &[4], &[7, 4, 1, 2]);
+    Run { k: 2, rate: 1, step: 1, offset: 0, basis, challenges, word }
+}
+
+#[test]
+fn queries_in_one_coset_are_refused() {
+    let run = case_g();
+    let due = Refusal { cause: Cause::CosetShared, place: Some(1), round: None, reads: 0 };
+    assert_eq!(judge(run, &[3, 2], &[], &[0xb]), Err(due));
+
+    let mut bytes = vec![0xa5; run.transcript_length(2)];
+    assert_eq!(write_transcript(run, &[3, 2], &[], &[0xb], &mut bytes), Err(due));
+    assert!(bytes.iter().all(|byte| *byte == 0xa5));
+}
+
 #[test]
 fn a_list_of_bytes_that_does_not_fit_is_left_alone() {
-    let (basis, challenges, word) = (&[1, 2], &[4], &[7, 4, 1, 2]);
-    let run = Run { k: 2, rate: 1, step: 1, offset: 0, basis, challenges, word };
+    let run = case_g();
     let mut bytes = vec![0xa5; run.transcript_length(2) + 1];
     let refusal = write_transcript(run, &[0, 3], &[], &[0xb], &mut bytes).unwrap_err();
     assert_eq!((refusal.cause, refusal.place), (Cause::WrongLength, Some(8)));
