@@ -31,8 +31,14 @@ pub fn table<'a>(
 ) {
     let mut works: Vec<Work> = works.into_iter().collect();
     let times = least(&mut works, turns);
-    for (work, time) in works.iter().zip(&times) {
-        let (shown, ratio) = (time / nanoseconds, times[0] / time);
-        println!("    {:<38}{shown:>7.1} {unit} {ratio:>6.2}", work.name);
+    let names = works.iter().map(|work| work.name);
+    print_table(&names.zip(times).collect::<Vec<_>>(), unit, nanoseconds);
+}
+
+/// Prints those lines for times that are known.
+pub fn print_table(times: &[(&str, f64)], unit: &str, nanoseconds: f64) {
+    for (name, time) in times {
+        let (shown, ratio) = (time / nanoseconds, times[0].1 / time);
+        println!("    {name:<38}{shown:>7.1} {unit} {ratio:>6.2}");
     }
 }

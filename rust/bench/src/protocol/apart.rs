@@ -4,7 +4,7 @@ use super::inputs::Inputs;
 use super::judge::{Proof, TURNS};
 use super::prover::proved;
 use crate::beside::{checked, work, Operation};
-use crate::clock::{least, Work};
+use crate::clock::{least, print_table, Work};
 use razgwilh::{Cause, Refusal};
 use std::hint::black_box;
 
@@ -52,22 +52,16 @@ fn print_share(proof: Proof) {
     let place = proof.queries.len() - 1;
     assert_eq!(checked(shared), Err(refusal(Cause::CosetShared, place)));
     assert_eq!(outside.by_library(&mut ()), Err(refusal(Cause::QueryOutOfRange, place)));
-    let rust = || check_apart(black_box(proof.queries), proof.run.step).is_ok().into();
+    let by_rust = || check_apart(black_box(proof.queries), proof.run.step).is_ok().into();
     let mut works = [
         work(proof, ("accepted", Operation::by_library)),
         work(shared, ("refused by the check", Operation::by_library)),
         work(outside, ("refused before the check", Operation::by_library)),
-        Work { name: "the same method in Rust", run: Box::new(rust) },
+        Work { name: "the check alone", run: Box::new(by_rust) },
     ];
     let times = least(&mut works, TURNS);
-    let (check, rust) = (times[1] - times[2], times[3]);
-    println!(
-        "  step {}: {:.1} µs, {:.1} % of a judging that accepts; {:.1} µs by the same method in \
-         Rust, {:.2}",
-        proof.run.step,
-        check / 1e3,
-        100.0 * check / times[0],
-        rust / 1e3,
-        check / rust
-    );
+    let (check, by_rust) = (times[1] - times[2], times[3]);
+    let share = 100.0 * check / times[0];
+    println!("  step {}, {share:.1} % of a judging that accepts:", proof.run.step);
+    print_table(&[("the library", check), ("the same method in Rust", by_rust)], "µs", 1e3);
 }

@@ -14,8 +14,8 @@ pub fn layer_start(run: &Run, i: usize) -> usize {
     (1..i).map(|before| 1 << dimension(run, before)).sum()
 }
 
-/// The library's checks that make operations of the field; its others, but for that of the queries'
-/// cosets in `apart`, compare a few numbers.
+/// The library's checks that make operations of the field; its others compare a few numbers, but
+/// for that of the queries' cosets.
 pub fn check_bases(arithmetic: impl Arithmetic, run: &Run) {
     let mut coset = LayerCoset::first(0, run.basis);
     assert!(is_independent(arithmetic, coset.basis()));
