@@ -10,14 +10,18 @@ use std::hint::black_box;
 
 /// The library's method: each query's coset is compared with that of every earlier one.
 pub fn check_apart(queries: &[u64], step: usize) -> Result<(), Refusal> {
-    let shared = |place: &usize| {
-        let coset = queries[*place] >> step;
-        queries[..*place].iter().any(|earlier| earlier >> step == coset)
-    };
-    match (0..queries.len()).find(shared) {
-        Some(place) => Err(refusal(Cause::CosetShared, place)),
-        None => Ok(()),
+    for (place, query) in queries.iter().enumerate() {
+        if visits(step, &queries[..place], query >> step) {
+            return Err(refusal(Cause::CosetShared, place));
+        }
     }
+    Ok(())
+}
+
+/// Whether one of the queries visits the coset. Inlined, it is compiled to slower code.
+#[inline(never)]
+fn visits(step: usize, queries: &[u64], coset: u64) -> bool {
+    queries.iter().any(|query| query >> step == coset)
 }
 
 fn refusal(cause: Cause, place: usize) -> Refusal {
