@@ -54,6 +54,8 @@ pub const INPUT_TOO_LONG: u64 = 14;
 pub const INVERSE_OF_ZERO: u64 = 15;
 /// The basis of a later layer is dependent.
 pub const DEPENDENT_LATER_BASIS: u64 = 16;
+/// Two queries share a first-layer coset.
+pub const COSET_SHARED: u64 = 17;
 
 // Answers.
 

@@ -105,7 +105,7 @@ pub fn judgings() -> Vec<(Run, Vec<u64>, Answer)> {
         (of_case_f(), vec![0, 3], accepted(4)),
         (of_case_h(), vec![0, 3], failed(1, 0, 4)),
         (of_case_h(), vec![0], accepted(2)),
-        (of_case_j(2), vec![0, 1, 2, 3], accepted(8)),
+        (of_case_j(2), vec![0, 3], accepted(4)),
         (of_case_k(), vec![5], accepted(4)),
         (of_case_l(), vec![0], failed(0, 0, 4)),
         (of_case_l(), vec![7], accepted(4)),

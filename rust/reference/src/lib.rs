@@ -13,6 +13,7 @@ mod fold;
 mod parameters;
 mod polynomial;
 mod protocol;
+mod queries;
 mod random;
 mod reed_solomon;
 mod refusal;

@@ -5,8 +5,8 @@
 //! paper's formulas for them are tested, not used.
 
 use crate::answer::{
-    accepted, done, failed, refused, refused_at, Answer, DEGREE_TOO_HIGH, QUERY_OUT_OF_RANGE,
-    WRONG_QUERY_COUNT,
+    accepted, done, failed, refused, refused_at, Answer, COSET_SHARED, DEGREE_TOO_HIGH,
+    QUERY_OUT_OF_RANGE, WRONG_QUERY_COUNT,
 };
 use crate::coset::{point, points};
 use crate::fold::{self, following, later_independent, Coset, Fold};
@@ -275,17 +275,33 @@ pub fn later_layers_independent(cosets: &[Coset]) -> Result<(), Answer> {
 
 pub fn right_queries(parameters: Parameters, queries: &[u64]) -> Result<(), Answer> {
     right_query_count(queries.len())?;
-    queries_in_range(parameters, queries)
+    right_indices(parameters, queries)
 }
 
 pub fn right_query_count(count: usize) -> Result<(), Answer> {
     required(QUERY_COUNTS.contains(&count), refused(WRONG_QUERY_COUNT))
 }
 
-pub fn queries_in_range(parameters: Parameters, queries: &[u64]) -> Result<(), Answer> {
+/// All that is asked of the queries but their count.
+pub fn right_indices(parameters: Parameters, queries: &[u64]) -> Result<(), Answer> {
+    queries_in_range(parameters, queries)?;
+    queries_apart(parameters, queries)
+}
+
+fn queries_in_range(parameters: Parameters, queries: &[u64]) -> Result<(), Answer> {
     let outside = |&query: &u64| query >= 1 << parameters.k;
     match queries.iter().position(outside) {
         Some(place) => Err(refused_at(QUERY_OUT_OF_RANGE, place as u64)),
+        None => Ok(()),
+    }
+}
+
+/// No query uses a coset of layer 0 that an earlier one has used.
+fn queries_apart(parameters: Parameters, queries: &[u64]) -> Result<(), Answer> {
+    let mut used = BTreeSet::new();
+    let again = |&query: &u64| !used.insert(parameters.coset_used(query, 0));
+    match queries.iter().position(again) {
+        Some(place) => Err(refused_at(COSET_SHARED, place as u64)),
         None => Ok(()),
     }
 }

@@ -10,7 +10,7 @@ use crate::answer::{
 use crate::fold::Coset;
 use crate::parameters::Parameters;
 use crate::protocol::{
-    self, cosets_from, later_layers_independent, queries_in_range, right_bases, right_lists,
+    self, cosets_from, later_layers_independent, right_bases, right_indices, right_lists,
     right_queries, right_query_count, Run,
 };
 use crate::refusal::{independent, required, right_length, LIST_OF_THE_BYTES};
@@ -151,7 +151,7 @@ fn coset(reader: &mut Reader, parameters: Parameters) -> Result<Coset, Answer> {
 
 fn queries(reader: &mut Reader, parameters: Parameters) -> Result<Vec<u64>, Answer> {
     let queries = reader.section(|_, count| right_query_count(count as usize))?;
-    queries_in_range(parameters, &queries)?;
+    right_indices(parameters, &queries)?;
     Ok(queries)
 }
 

@@ -14,8 +14,8 @@ use std::ops::RangeInclusive;
 /// Dimension, rate and step; zero for those that an operation does not take.
 pub type Setting = [u64; 3];
 
-/// How many queries a call has, unless they are given.
-pub const ANY_QUERIES: usize = 3;
+/// How many queries a call has, unless they are given: no more lie apart with every setting.
+pub const ANY_QUERIES: usize = 2;
 
 /// How many calls of each dimension, from 0 to 12.
 pub type Turns = [usize; 13];
@@ -144,13 +144,22 @@ impl Operation {
             call = call.with_any(random, list, due);
         }
         if self.given.contains(&Queries) {
-            let in_range = 1 << call.k().min(*self.dimensions.end());
-            call[Queries] = (0..ANY_QUERIES).map(|_| random.below(in_range) as u64).collect();
+            call[Queries] = self.any_queries(random, call.k());
         }
         for &list in self.lent {
             call = call.with_due_length(list);
         }
         call.with_fill(FILLS[random.below(2)])
+    }
+}
+
+impl Operation {
+    /// In the two halves of the word, and so in two cosets wherever there are two.
+    fn any_queries(&self, random: &mut Random, k: u64) -> Vec<u64> {
+        let in_range = 1 << k.min(*self.dimensions.end());
+        let one = random.below(in_range) as u64;
+        let queries: [u64; ANY_QUERIES] = [one, one ^ (in_range as u64 >> 1)];
+        queries.to_vec()
     }
 }
 

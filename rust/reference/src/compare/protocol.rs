@@ -14,9 +14,11 @@ use super::{library, refused, Comparison, Input};
 use crate::answer::{refused_at, Answer, DEGREE_TOO_HIGH};
 use crate::parameters::Parameters;
 use crate::protocol::{self, may_take, Proved, Run};
+use crate::queries::apart;
 use crate::random::Random;
 use crate::transcript::{self, Judging};
-use inputs::{any_queries, damaged, known, queries, right, Turns};
+use inputs::queries::{self, Lists};
+use inputs::{damaged, known, right, together, Turns};
 
 // The operations.
 
@@ -61,7 +63,7 @@ pub static JUDGE: Operation = Operation {
     raw: library::raw_judge,
     right: |random, setting, turn| {
         let run = right::honest(random, with(setting), turn);
-        let queries = any_queries(random, run.parameters, 2);
+        let queries = apart(random, run.parameters, 2);
         judge_call(Judging { run, queries })
     },
     special: failing_or_refused_for_queries,
@@ -161,13 +163,17 @@ fn made_honest(call: &Call) -> Option<Call> {
     Some(call.clone().with_list(Store, store).with_list(Last, last))
 }
 
-/// What a judge alone refuses: a failing run, no query, and a query out of range.
+/// What a judge alone refuses: a failing run, no query, a query out of range, and two queries in
+/// one coset, of a failing run as well.
 fn failing_or_refused_for_queries(random: &mut Random, setting: Setting) -> Vec<Call> {
     let honest = (JUDGE.right)(random, setting, 0);
     let mut failing = honest.clone();
     failing[Last][0] ^= 1;
-    let outside = honest.clone().with_list(Queries, vec![0, 1 << setting[0]]);
-    vec![failing, outside, honest.with_list(Queries, Vec::new())]
+    let with_queries = |call: &Call, queries| call.clone().with_list(Queries, queries);
+    let outside = with_queries(&honest, vec![0, 1 << setting[0]]);
+    let shared = [&honest, &failing].map(|call| with_queries(call, vec![2, 3]));
+    let without = with_queries(&honest, Vec::new());
+    [&[failing, outside, without], &shared[..]].concat()
 }
 
 /// Judgings to try in place of this one, all with lists of the right lengths.
@@ -196,12 +202,14 @@ pub struct Amounts {
     /// Runs that are too large for the reference to prove.
     pub known: &'static [Setting],
     /// The largest dimension of runs with each entry damaged, in which each query is judged alone,
-    /// and all are judged together.
+    /// and one in each first-layer coset together.
     pub each_damaged: [u64; 2],
     /// Large runs with some entries damaged, and how often each.
     pub large_damaged: (&'static [Setting], usize),
     /// Runs with each of many query lists.
     pub queries: Turns,
+    /// Runs with the longest query lists.
+    pub long: &'static [Setting],
     /// The largest dimension with every lookup, and the largest with some.
     pub lookups: [u64; 2],
     /// The largest number that stands for each of the parameters.
@@ -220,7 +228,8 @@ pub const FULL: Amounts = Amounts {
     known: LARGE.split_at(6).1,
     each_damaged: [5, 6],
     large_damaged: (LARGE, 16),
-    queries: [0, 0, 2, 2, 1, 1, 0, 0, 1, 0],
+    queries: [0, 0, 2, 2, 1, 1, 0, 0, 0, 1],
+    long: &[[9, 2, 1], [10, 1, 2], [11, 3, 3], [16, 6, 1]],
     lookups: [10, 20],
     lengths: 40,
     challenges: 1_000,
@@ -326,10 +335,15 @@ fn judgings(library: &dyn Library, amounts: &Amounts) -> Vec<Comparison> {
     let Amounts { turns, queries, .. } = amounts;
     let honest = turns.map(|turns| 2 * turns);
     let (large, times) = amounts.large_damaged;
-    let large: Vec<Parameters> = large.iter().copied().map(with).collect();
+    let [large, long] = [large, amounts.long].map(|settings| {
+        let all = settings.iter().copied().map(with);
+        all.collect::<Vec<Parameters>>()
+    });
     let judgings = |name, inputs: &dyn Fn(&mut Random) -> Vec<Judging>| {
         compared(library, name, judge_call, |mut random| inputs(&mut random))
     };
+    let lists =
+        |name, lists: Lists| judgings(name, &|random| queries::with_lists(random, queries, lists));
     vec![
         judgings("judge, honest runs", &|random| right::honest_with_queries(random, &honest)),
         judgings("judge, honest folds of too high a degree", &|random| {
@@ -338,16 +352,22 @@ fn judgings(library: &dyn Library, amounts: &Amounts) -> Vec<Comparison> {
         judgings("judge, some entries damaged, k 2 to 9", &|random| damaged::some(random, turns)),
         judgings("judge, another challenge", &|random| damaged::other_challenges(random, turns)),
         judgings("judge, counts of queries", &|random| queries::of_all_counts(random, queries)),
-        judgings("judge, repeated queries", &|random| queries::repeated(random, queries)),
         judgings("judge, a query out of range", &|random| queries::out_of_range(random, queries)),
         judgings("judge, several queries out of range", &|random| {
             queries::several_out_of_range(random, queries)
         }),
+        lists("judge, two queries in one coset", together::one_pair),
+        lists("judge, several queries in one coset", together::several),
+        lists("judge, queries near each other", together::near),
+        lists("judge, queries in one coset and other causes", together::and_other_causes),
+        compared(library, "judge, long lists of queries", judge_call, |random| {
+            together::long(random, &long)
+        }),
         compared(library, "judge, each entry damaged, each query alone", judge_call, |random| {
             damaged::with_each_query(random, amounts.each_damaged[0])
         }),
-        compared(library, "judge, each entry damaged, all queries", judge_call, |random| {
-            damaged::with_all_queries(random, amounts.each_damaged[1])
+        compared(library, "judge, each entry damaged, all cosets", judge_call, |random| {
+            damaged::with_all_cosets(random, amounts.each_damaged[1])
         }),
         compared(library, "judge, some entries damaged, k 10 to 20", judge_call, |random| {
             damaged::some_of_large(random, &large, times)

@@ -54,6 +54,8 @@ pub struct Amounts {
     pub large: RangeInclusive<u64>,
     /// Dimensions, rates and steps with which a transcript is too long for the program.
     pub largest: &'static [[u64; 3]],
+    /// Those of runs with the longest query lists.
+    pub long: &'static [[u64; 3]],
 }
 
 /// The amounts that the program of this package takes.
@@ -73,6 +75,7 @@ pub const FULL: Amounts = Amounts {
         [16, 5, 3],
         [20, 6, 3],
     ],
+    long: &[[9, 2, 1], [10, 1, 2], [11, 3, 3]],
 };
 
 /// The comparisons of this file and of those under it, and a table of the byte strings that were

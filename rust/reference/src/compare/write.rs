@@ -8,9 +8,12 @@ mod table_a;
 use super::call::*;
 use super::lent::FILLS;
 use super::operation::{raw_calls, Library, Operation, Setting};
-use super::protocol::inputs::{any_queries, queries, right, Turns};
+use super::protocol::inputs::queries::{self, Lists};
+use super::protocol::inputs::{right, together, Turns};
 use super::protocol::{call_of, run_of, with, OVER_A_RUN};
 use super::{library, refused, Comparison};
+use crate::parameters::Parameters;
+use crate::queries::apart;
 use crate::random::Random;
 use crate::transcript::{may_write, write, Judging};
 
@@ -33,14 +36,15 @@ fn write_call(Judging { run, queries }: Judging) -> Call {
     call_of(&WRITE, run).with_queries(queries)
 }
 
-/// An honest run, no query and too many, a query out of range, and a list 8 for another query more.
+/// An honest run, no query and too many, a query out of range, two queries in one coset, and a list
+/// 8 for another query more.
 fn honest_or_refused_for_queries(random: &mut Random, setting: Setting) -> Vec<Call> {
     let run = right::honest(random, with(setting), 0);
-    let queries = any_queries(random, run.parameters, 3);
+    let queries = apart(random, run.parameters, 3);
     let honest = write_call(Judging { run, queries });
     let with_queries = |queries| honest.clone().with_queries(queries);
     let for_one_more = with_queries(vec![0; 4]).with_list(Queries, vec![0; 3]);
-    let refused = [vec![], vec![0; 257], vec![0, 1 << setting[0]]].map(with_queries);
+    let refused = [vec![], vec![0; 257], vec![0, 1 << setting[0]], vec![2, 3]].map(with_queries);
     [&[honest, for_one_more], &refused[..]].concat()
 }
 
@@ -52,8 +56,11 @@ pub struct Amounts {
     pub turns: Turns,
     /// Runs with each of many query lists.
     pub queries: Turns,
-    /// The largest dimension with every length of list 8 that is near the one due.
-    pub near: u64,
+    /// Runs with the longest query lists.
+    pub long: &'static [Setting],
+    /// The largest dimension with every length of list 8 that is near the one due, and larger
+    /// settings.
+    pub near: (u64, &'static [Setting]),
     /// Larger settings, with as many queries as there may be.
     pub large: &'static [Setting],
     /// Runs of each sort that are judged, and larger settings.
@@ -63,9 +70,10 @@ pub struct Amounts {
 
 /// The amounts that the program takes.
 pub const FULL: Amounts = Amounts {
-    turns: [0, 0, 24, 12, 12, 6, 6, 6, 1, 1],
+    turns: [0, 0, 24, 12, 12, 6, 6, 6, 1, 3],
     queries: [0, 0, 2, 2, 1, 1, 0, 1, 0, 0],
-    near: 7,
+    long: &[[9, 2, 1], [10, 1, 2], [11, 3, 3]],
+    near: (7, &[[9, 3, 1]]),
     // Lists for a dimension above the range, which are so long that they come here alone.
     large: &[[8, 1, 1], [10, 3, 1], [12, 6, 3], [15, 1, 2], [20, 6, 3], [20, 1, 1], [21, 1, 1]],
     judged: ([0, 0, 24, 12, 6, 4, 2, 2, 1, 0], &[[10, 3, 1], [14, 4, 2], [20, 1, 1]]),
@@ -104,6 +112,9 @@ fn written(library: &dyn Library, amounts: &Amounts) -> Vec<Comparison> {
         let calls = judgings(&mut Random::named(name)).into_iter().map(write_call);
         raw_calls(library, name, calls.flat_map(with_either_fill))
     };
+    let lists =
+        |name, lists: Lists| runs(name, &|random| queries::with_lists(random, queries, lists));
+    let long: Vec<Parameters> = amounts.long.iter().copied().map(with).collect();
     let [near, large] = ["write, list 8 near its length", "write, k 8 to 21"];
     let near_calls = inputs::near(Random::named(near), amounts.near).flat_map(with_either_fill);
     vec![
@@ -113,6 +124,13 @@ fn written(library: &dyn Library, amounts: &Amounts) -> Vec<Comparison> {
         runs("write, a query out of range", &|random| queries::out_of_range(random, queries)),
         runs("write, several queries out of range", &|random| {
             queries::several_out_of_range(random, queries)
+        }),
+        lists("write, two queries in one coset", together::one_pair),
+        lists("write, several queries in one coset", together::several),
+        lists("write, queries near each other", together::near),
+        lists("write, queries in one coset and other causes", together::and_other_causes),
+        runs("write, long lists of queries", &|random| {
+            together::long(Random::seeded(random.number()), &long).collect()
         }),
         raw_calls(library, near, near_calls),
         raw_calls(library, large, inputs::large(Random::named(large), amounts.large)),

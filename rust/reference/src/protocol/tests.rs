@@ -4,6 +4,7 @@ use super::*;
 use crate::answer::refused_in_round;
 use crate::cases::{judgings, of_case_f, of_case_j, of_case_k};
 use crate::parameters::all_up_to;
+use crate::queries::apart;
 use crate::random::Random;
 
 /// The run with numbers in its lent lists that no prover would write.
@@ -37,12 +38,12 @@ fn cases_g_to_p_are_judged() {
 
 // The judge.
 
-/// What the paper has for the reads of such an answer to six queries.
-fn reads_due(parameters: Parameters, answer: Answer) -> u64 {
+/// What the paper has for the reads of such an answer to so many queries.
+fn reads_due(parameters: Parameters, queries: usize, answer: Answer) -> u64 {
     let r = parameters.rounds();
     let cosets = match (answer.place, answer.round) {
         (Some(query), Some(round)) => query * r + r.min(round + 2),
-        _ => 6 * r,
+        _ => queries as u64 * r,
     };
     cosets << parameters.step
 }
@@ -59,14 +60,15 @@ fn the_reads_are_those_of_the_formulas() {
         let polynomial = random.list(1 << (parameters.k - parameters.rate));
         let challenges = random.list(parameters.rounds() as usize);
         let mut honest = Run::honest(parameters, first, &polynomial, challenges);
-        let queries = [(); 6].map(|()| random.below(honest.word.len()) as u64);
-        assert_eq!(judge(&honest, &queries), accepted(reads_due(parameters, done())));
+        let queries = apart(random, parameters, 6);
+        let reads_due = |answer| reads_due(parameters, queries.len(), answer);
+        assert_eq!(judge(&honest, &queries), accepted(reads_due(done())));
         for list in lists {
             for place in 0..list(&mut honest).len() {
                 let mut damaged = honest.clone();
                 list(&mut damaged)[place] ^= 1;
                 let answer = judge(&damaged, &queries);
-                assert_eq!(answer.reads, reads_due(parameters, answer));
+                assert_eq!(answer.reads, reads_due(answer));
                 met.insert((answer.place, answer.round));
             }
         }
@@ -86,12 +88,14 @@ fn the_first_cause_is_given() {
     let mut assert_next = |change: fn(&mut Run, &mut Vec<u64>), due: Answer| {
         change(&mut run, &mut queries);
         assert_eq!(judge(&run, &queries), due);
-        if ![9, 10, 11].contains(&due.number) {
+        if ![9, 10, 11, 17].contains(&due.number) {
             assert_eq!(prove(&run), proved(due, &run.store, &run.last));
         }
     };
     assert_next(|run, _| run.word[2] ^= 1, failed(1, 0, 8));
-    assert_next(|_, queries| queries[1] = 8, refused_at(10, 1));
+    assert_next(|_, queries| queries.extend([0, 4, 3]), refused_at(17, 3));
+    assert_next(|_, queries| queries.insert(0, 3), refused_at(17, 2));
+    assert_next(|_, queries| queries.push(8), refused_at(10, 6));
     assert_next(|_, queries| queries[0] = 1 << 32, refused_at(10, 0));
     assert_next(|_, queries| queries.resize(257, 8), refused(9));
     assert_next(|_, queries| queries.clear(), refused(9));
@@ -106,6 +110,21 @@ fn the_first_cause_is_given() {
     assert_next(|run, _| run.parameters.step = 4, refused(6));
     assert_next(|run, _| run.parameters.rate = 7, refused(5));
     assert_next(|run, _| run.parameters.k = 21, refused(4));
+}
+
+/// With step 2 the word of 16 entries has four cosets of four.
+#[test]
+fn the_first_query_in_the_coset_of_an_earlier_one_is_named() {
+    let parameters = Parameters { k: 4, rate: 1, step: 2 };
+    let place = |queries: &[u64]| right_queries(parameters, queries).err();
+    let shared = |place| Some(refused_at(17, place));
+    assert_eq!([&[7, 7][..], &[4, 7], &[7, 4]].map(place), [shared(1); 3]);
+    assert_eq!([&[3, 4][..], &[4, 3], &[0, 15, 5, 10]].map(place), [None; 3]);
+    // The later one of the pair that is whole first, whichever pair begins first.
+    assert_eq!(place(&[0, 5, 6, 1]), shared(2));
+    assert_eq!(place(&[0, 5, 1, 6]), shared(2));
+    assert_eq!(place(&[15, 0, 4, 8, 12]), shared(4));
+    assert_eq!(place(&[0, 1, 2, 3]), shared(1));
 }
 
 /// No basis leads to it, so that it is shown of cosets alone.

@@ -4,6 +4,7 @@ use super::*;
 use crate::answer::{accepted, failed};
 use crate::cases::{judgings, of_case_f, of_case_h, of_case_k, of_case_m};
 use crate::parameters::all_up_to;
+use crate::queries::apart;
 use crate::random::Random;
 
 /// Case O has no transcript that the program takes.
@@ -36,7 +37,7 @@ fn any(random: &mut Random, parameters: Parameters, queries: usize) -> Judging {
         store: random.list(parameters.store_length()),
         last: random.list(parameters.last_count()),
     };
-    let queries = (0..queries).map(|_| random.number() % (1 << parameters.k)).collect();
+    let queries = apart(random, parameters, queries);
     Judging { run, queries }
 }
 
@@ -78,6 +79,23 @@ fn nothing_else_is_read_as_the_same() {
     assert_ne!(again(&[&bytes[..], &[0]].concat()), same);
 }
 
+/// Each section is looked at as a whole before the next one.
+#[test]
+fn shared_cosets_come_before_all_behind_them() {
+    let k = of_case_k();
+    let mut all = sections(&k, &[5, 0, 4]);
+    let front = written(&all[..4]);
+    assert_eq!(judge(&written(&all)), refused_at(17, 2));
+    assert_eq!(judge(&front), refused_at(17, 2));
+    assert_eq!(judge(&front[..front.len() - 1]), refused_at(1, 4));
+    all[4].count = 7;
+    assert_eq!(judge(&written(&all)), refused_at(17, 2));
+    all[3].entries[1] = 8;
+    assert_eq!(judge(&written(&all)), refused_at(10, 1));
+    all[3].count = 257;
+    assert_eq!(judge(&written(&all)), refused(9));
+}
+
 /// The longest has 256 queries. Entries of each sort by themselves, and counts.
 #[test]
 fn the_lengths_are_those_of_the_formula() {
@@ -113,6 +131,9 @@ fn what_is_refused_is_left() {
         (&k, &[8; 257], length, refused_at(13, 8)),
         (&k, &[8; 257], length + 8 * 256, refused(9)),
         (&k, &[5, 8], length + 8, refused_at(10, 1)),
+        (&k, &[5, 4, 8], length + 16, refused_at(10, 2)),
+        (&k, &[5, 0, 4], length + 16, refused_at(17, 2)),
+        (&k, &[5, 5], length, refused_at(13, 8)),
     ] {
         let mut bytes = vec![0xa5; length];
         assert_eq!(write(run, queries, &mut bytes), due);

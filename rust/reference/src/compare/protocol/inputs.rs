@@ -4,8 +4,10 @@ pub mod damaged;
 pub mod known;
 pub mod queries;
 pub mod right;
+pub mod together;
 
 use crate::parameters::{all_up_to, Parameters};
+use crate::queries::apart;
 use crate::random::Random;
 
 /// How many inputs of each dimension, from 0 on, with all the rates and steps that it takes.
@@ -24,8 +26,17 @@ pub fn any_query(random: &mut Random, parameters: Parameters) -> u64 {
     random.below(parameters.layer_length(0)) as u64
 }
 
+/// Any of them, which may share their cosets.
 pub fn any_queries(random: &mut Random, parameters: Parameters, count: usize) -> Vec<u64> {
     (0..count).map(|_| any_query(random, parameters)).collect()
+}
+
+/// So many queries, apart from each other for as long as there are cosets left.
+pub fn mostly_apart(random: &mut Random, parameters: Parameters, count: usize) -> Vec<u64> {
+    let mut queries = apart(random, parameters, count);
+    let more = count - queries.len();
+    queries.extend(any_queries(random, parameters, more));
+    queries
 }
 
 pub fn all_queries(parameters: Parameters) -> Vec<u64> {

@@ -1,7 +1,7 @@
 //! What is proved, against layers that are known, and with the library's own judge and lookup.
 
 use super::inputs::known::{self, Others};
-use super::inputs::{all_queries, right};
+use super::inputs::right;
 use super::lookup::{layer_call, layer_of_library};
 use super::table_a::{cases, Case};
 use super::{degree_too_high, judge_call, prove_call, run_of, with};
@@ -56,10 +56,16 @@ fn of_own_proofs(
     )
 }
 
-/// All queries, in lists that are as long as they may be.
+/// All queries, in lists that are as long as they may be: all that stand at one place of their
+/// coset, in one list or more.
 fn query_lists(parameters: Parameters) -> Vec<Vec<u64>> {
-    let all = all_queries(parameters);
-    all.chunks(*QUERY_COUNTS.end()).map(<[u64]>::to_vec).collect()
+    let entries = 1 << parameters.step;
+    let at_place = |place| (place..parameters.layer_length(0) as u64).step_by(entries);
+    let of_place = |place| {
+        let all: Vec<u64> = at_place(place).collect();
+        all.chunks(*QUERY_COUNTS.end()).map(<[u64]>::to_vec).collect::<Vec<_>>()
+    };
+    (0..entries as u64).flat_map(of_place).collect()
 }
 
 /// The numbers of the verdicts, by the paper's formula for the reads.

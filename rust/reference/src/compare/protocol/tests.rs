@@ -8,6 +8,7 @@ mod lengths;
 mod lookups;
 mod provers;
 pub(in crate::compare) mod refusals;
+pub(in crate::compare) mod together;
 
 use super::*;
 use crate::compare::operation::Reference;
@@ -29,6 +30,7 @@ const FEW: Amounts = Amounts {
     each_damaged: [3, 3],
     large_damaged: (&[[6, 2, 1]], 24),
     queries: [0, 0, 1, 0, 0, 0, 0, 0, 0, 0],
+    long: &[[4, 1, 1], [3, 1, 2], [4, 1, 3]],
     lookups: [5, 6],
     lengths: 8,
     challenges: 10,
@@ -39,7 +41,7 @@ const FEW: Amounts = Amounts {
         several_lists: 1,
         largest_dependent: 4,
         several_causes: 1,
-        most_causes: usize::MAX,
+        most_causes: 4,
         every_sort: (&[2, 3, 4], 1),
     },
 };
@@ -67,8 +69,8 @@ fn all_parameters_up_to_nine_are_taken() {
 }
 
 /// All numbers that a prover or a judge may answer with, and those of refusals before the work.
-const ALL: &[u64] = &[0, 4, 5, 6, 7, 8, 9, 10, 11, 12, 13];
-const BEFORE_WORK: &[u64] = &[4, 5, 6, 7, 8, 9, 10, 13];
+const ALL: &[u64] = &[0, 4, 5, 6, 7, 8, 9, 10, 11, 12, 13, 17];
+const BEFORE_WORK: &[u64] = &[4, 5, 6, 7, 8, 9, 10, 13, 17];
 
 // Folds over cosets and of entries that may be wrong.
 

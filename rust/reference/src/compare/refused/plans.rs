@@ -323,7 +323,7 @@ pub fn all_causes(operation: Op) -> Vec<Answer> {
     all.extend(operation.lists().into_iter().map(|list| refused_at(13, list.number())));
     all.push(refused(8));
     if operation.given.contains(&Queries) {
-        all.extend([refused(9), refused(10)]);
+        all.extend([9, 10, 17].map(refused));
     }
     all
 }
@@ -348,18 +348,41 @@ fn with_causes(random: &mut Random, operation: Op, chosen: &[Answer]) -> Plan {
     if is_chosen(8) {
         plan.basis = Elements::Given(any_dependent(random, k));
     }
-    if is_chosen(9) {
-        let too_many = is_chosen(10) || random.below(2) == 0;
-        let count = if too_many { QUERY_COUNTS.end() + 1 } else { 0 };
-        plan.queries = Some(vec![0; count]);
-    }
-    if is_chosen(10) {
-        let out_of_range = u64::MAX - random.below(1 << k) as u64;
-        plan.queries.get_or_insert(vec![0; ANY_QUERIES]).push(out_of_range);
+    if [9, 10, 17].into_iter().any(is_chosen) {
+        plan.queries = Some(queries_with(random, plan.setting, is_chosen));
     }
     let wrong = |list: &List| chosen.contains(&refused_at(13, list.number()));
     let wrong = operation.lists().into_iter().filter(wrong);
     wrong.fold(plan, |plan, list| plan.with_longer(operation, list))
+}
+
+/// Queries that have the chosen causes of their own. Too many of them are always out of range or
+/// in one coset as well, so that there are none if neither is chosen.
+fn queries_with(
+    random: &mut Random,
+    [k, _, step]: Setting,
+    is_chosen: impl Fn(u64) -> bool,
+) -> Vec<u64> {
+    let [is_count, is_outside, is_shared] = [9, 10, 17].map(is_chosen);
+    let count = match is_count {
+        true if !is_outside && !is_shared => return Vec::new(),
+        true => QUERY_COUNTS.end() + 1,
+        false => ANY_QUERIES,
+    };
+    let mut queries: Vec<u64> = (0..count as u64).map(|coset| coset << step).collect();
+    if is_shared && is_count && !is_outside {
+        queries.iter_mut().for_each(|query| *query %= 1 << k);
+    }
+    if is_shared {
+        let earlier = random.below(queries.len());
+        let beside = queries[earlier] ^ random.below(1 << step) as u64;
+        queries.insert(earlier + 1 + random.below(queries.len() - earlier), beside);
+    }
+    if is_outside {
+        let outside = u64::MAX - random.below(1 << k) as u64;
+        queries.insert(random.below(queries.len() + 1), outside);
+    }
+    queries
 }
 
 /// Any setting that has the chosen causes. One whose dimension is out of range may be too small

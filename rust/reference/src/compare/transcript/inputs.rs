@@ -7,11 +7,13 @@ mod limit;
 use super::{Amounts, Bytes};
 use crate::cases::{of_case_f, of_case_k};
 use crate::compare::cosets::{self, Bases};
-use crate::compare::protocol::inputs::{any_queries, damaged, known, queries, right};
+use crate::compare::protocol::inputs::queries::{self, Lists};
+use crate::compare::protocol::inputs::{damaged, known, right, together};
 use crate::parameters::{all_up_to, Parameters};
+use crate::queries::apart;
 use crate::random::Random;
 use crate::transcript::{sections, transcript, written, Judging, Section};
-use Source::{EachSection, Honest, Lists, Made, OneSection, Others, Turns};
+use Source::{EachSection, Honest, Made, OneSection, Others, Queries, Turns, UpTo};
 
 /// Byte strings of one sort, which are given to the library and to the program: their name, and
 /// where they come from.
@@ -22,7 +24,9 @@ enum Source {
     /// and steps that each takes.
     Turns([usize; 6], &'static [fn(&mut Random, &[usize]) -> Vec<Judging>]),
     /// What is judged over lists, up to a dimension.
-    Lists(u64, fn(Random, u64) -> Vec<Judging>),
+    UpTo(u64, fn(Random, u64) -> Vec<Judging>),
+    /// Runs with each of many query lists, so many times for the dimensions from 2 to 7.
+    Queries([usize; 6], Lists),
     /// An honest transcript of each of these parameters.
     Honest(fn(&Amounts) -> Vec<Parameters>),
     /// What is made of an honest transcript, for all parameters up to a dimension.
@@ -34,7 +38,7 @@ enum Source {
     Others(fn(&mut Random, &Amounts) -> Vec<Bytes>),
 }
 
-pub const SORTS: [Sort; 27] = [
+pub const SORTS: [Sort; 33] = [
     Sort("honest runs", Turns([84, 42, 21, 12, 7, 5], &[right::honest_with_queries])),
     Sort("honest runs of large parameters", Honest(Amounts::large)),
     Sort("honest runs of the largest parameters", Honest(Amounts::largest)),
@@ -44,11 +48,11 @@ pub const SORTS: [Sort; 27] = [
     ),
     Sort(
         "each entry damaged, each query alone",
-        Lists(4, |random, k| damaged::with_each_query(random, k).collect()),
+        UpTo(4, |random, k| damaged::with_each_query(random, k).collect()),
     ),
     Sort(
-        "each entry damaged, all queries",
-        Lists(5, |random, k| damaged::with_all_queries(random, k).collect()),
+        "each entry damaged, all cosets",
+        UpTo(5, |random, k| damaged::with_all_cosets(random, k).collect()),
     ),
     Sort("some entries damaged", Turns([12, 12, 7, 4, 2, 1], &[damaged::some])),
     Sort("some entries of large parameters damaged", Others(some_of_large)),
@@ -66,15 +70,21 @@ pub const SORTS: [Sort; 27] = [
     Sort("a parameter out of range", OneSection(4, PARAMETERS, parameters_out_of_range)),
     Sort("all parameters", OneSection(2, PARAMETERS, all_parameters)),
     Sort("a dependent basis", Others(with_a_dependent_basis)),
-    Sort(
-        "counts of queries",
-        Turns([1, 1, 1, 0, 0, 0], &[queries::of_all_counts, queries::repeated]),
-    ),
+    Sort("counts of queries", Turns([1, 1, 1, 0, 0, 0], &[queries::of_all_counts])),
     Sort(
         "queries out of range",
         Turns([1, 1, 0, 0, 0, 0], &[queries::out_of_range, queries::several_out_of_range]),
     ),
     Sort("powers of two as queries", OneSection(4, QUERIES, powers_of_two_as_queries)),
+    Sort("two queries in one coset", Queries([1, 0, 1, 0, 0, 0], together::one_pair)),
+    Sort("several queries in one coset", Queries([1, 0, 1, 0, 0, 0], together::several)),
+    Sort("queries near each other", Queries([1, 1, 0, 0, 0, 0], together::near)),
+    Sort(
+        "queries in one coset and other causes",
+        Queries([1, 1, 0, 0, 0, 0], together::and_other_causes),
+    ),
+    Sort("long lists of queries", Others(long_lists)),
+    Sort("queries in one coset and faults behind them", Made(3, in_one_coset_with_faults)),
     Sort("several causes", Others(causes::several)),
     Sort("lengths near the limit and far longer", Others(limit::near_the_limit)),
 ];
@@ -88,7 +98,10 @@ impl Sort {
                 let turns = amounts.turns_of(turns);
                 of(sources.iter().flat_map(|judgings| judgings(random, &turns)))
             }
-            Lists(k, judgings) => of(judgings(another(random), up_to(k))),
+            UpTo(k, judgings) => of(judgings(another(random), up_to(k))),
+            Queries(turns, lists) => {
+                of(queries::with_lists(random, &amounts.turns_of(turns), lists))
+            }
             Honest(parameters) => honest(random, &parameters(amounts)),
             Made(k, make) => of_each(random, up_to(k), make),
             EachSection(k, others) => of_each(random, up_to(k), |_, sections| {
@@ -117,8 +130,12 @@ impl Amounts {
     }
 
     fn largest(&self) -> Vec<Parameters> {
-        self.largest.iter().map(|&[k, rate, step]| Parameters { k, rate, step }).collect()
+        with_settings(self.largest)
     }
+}
+
+fn with_settings(settings: &[[u64; 3]]) -> Vec<Parameters> {
+    settings.iter().map(|&[k, rate, step]| Parameters { k, rate, step }).collect()
 }
 
 /// The transcripts.
@@ -136,7 +153,7 @@ fn honest(random: &mut Random, all: &[Parameters]) -> Vec<Bytes> {
     let one = |&parameters: &Parameters| {
         let run = known::honest(random, parameters);
         let count = 1 + random.below(8);
-        transcript(&run, &any_queries(random, parameters, count))
+        transcript(&run, &apart(random, parameters, count))
     };
     all.iter().map(one).collect()
 }
@@ -144,6 +161,10 @@ fn honest(random: &mut Random, all: &[Parameters]) -> Vec<Bytes> {
 fn some_of_large(random: &mut Random, amounts: &Amounts) -> Vec<Bytes> {
     let parameters = [amounts.large(), amounts.largest()].concat();
     of(damaged::some_of_large(another(random), &parameters, 1))
+}
+
+fn long_lists(random: &mut Random, amounts: &Amounts) -> Vec<Bytes> {
+    of(together::long(another(random), &with_settings(amounts.long)))
 }
 
 // Places of the sections, in a list of them.
@@ -156,11 +177,11 @@ const WORD: usize = 4;
 
 // What is made of the sections of an honest transcript.
 
-/// The sections of an honest run with three queries. Its basis, offset and challenges are of
-/// another sort in each turn.
+/// The sections of an honest run with three queries, or with two where no three are apart. Its
+/// basis, offset and challenges are of another sort in each turn.
 fn honest_sections(random: &mut Random, parameters: Parameters, turn: usize) -> Vec<Section> {
     let run = right::honest(random, parameters, turn);
-    sections(&run, &any_queries(random, parameters, 3))
+    sections(&run, &apart(random, parameters, 3))
 }
 
 /// What is made of one for all parameters up to a dimension.
@@ -245,6 +266,27 @@ fn any_behind_a_front(random: &mut Random, sections: &[Section]) -> Vec<Bytes> {
         all.extend(others.map(|behind| [front, &behind].concat()));
     }
     all
+}
+
+/// Two queries in one coset, and what follows cut, with another count, or with bytes behind it. The
+/// section of the queries is cut and counted wrongly as well.
+fn in_one_coset_with_faults(random: &mut Random, sections: &[Section]) -> Vec<Bytes> {
+    let mut shared = sections.to_vec();
+    share_a_coset(random, &mut shared);
+    let mut all = cut_near_every_section(random, &shared);
+    all.retain(|bytes| bytes.len() + 12 > written(&shared[..WORD]).len());
+    let places = QUERIES..shared.len();
+    all.extend(places.flat_map(|place| with_others(&shared, place, other_counts)));
+    all.extend(with_bytes_behind(random, &shared).into_iter().step_by(9));
+    all
+}
+
+/// Puts a query into the coset of an earlier one.
+fn share_a_coset(random: &mut Random, sections: &mut [Section]) {
+    let entries = 1 << sections[PARAMETERS].entries[2];
+    let queries = &mut sections[QUERIES].entries;
+    let later = 1 + random.below(queries.len() - 1);
+    queries[later] = queries[random.below(later)] ^ random.below(entries) as u64;
 }
 
 // What a section is made.

@@ -5,7 +5,7 @@ use crate::transcript::{judge, judge_of_program};
 use std::collections::HashSet;
 
 /// The numbers from 0, accepted, to the highest that the paper has.
-const NUMBERS: usize = 17;
+const NUMBERS: usize = 18;
 
 /// All byte strings so far, and how often each number was due from the library and from the
 /// program.
@@ -56,9 +56,9 @@ mod tests {
         let due = [
             "transcripts: 4 byte strings, no two of them equal",
             "  number      0     1     2     3     4     5     6     7     8     9    10    11    \
-             12    13    14    15    16",
-            &format!("  library     0     1     3{}", zeros(14)),
-            &format!("  program     0     1     2{}     1{}", zeros(11), zeros(2)),
+             12    13    14    15    16    17",
+            &format!("  library     0     1     3{}", zeros(15)),
+            &format!("  program     0     1     2{}     1{}", zeros(11), zeros(3)),
             "",
         ];
         assert_eq!(tally.text(), due.join("\n"));

@@ -6,13 +6,22 @@ mod readers;
 use super::inputs::Sort;
 use super::*;
 use crate::answer::{accepted, refused, refused_at};
+use crate::compare::protocol::tests::together::{
+    self, Find, LONG, NEAR, OTHER_CAUSES, PAIR, SEVERAL as SEVERAL_SHARED,
+};
 use crate::compare::wrong::{changed_at, hold_table, into_five, row, write_what_fits, Row};
 use crate::transcript::LARGEST_INPUT;
 use std::collections::BTreeSet;
 use std::sync::LazyLock;
 
 /// Few and small, since every wrong judge is compared with them.
-const FEW: Amounts = Amounts { turns: 2, largest_k: 3, large: 4..=4, largest: &[[5, 1, 1]] };
+const FEW: Amounts = Amounts {
+    turns: 2,
+    largest_k: 3,
+    large: 4..=4,
+    largest: &[[5, 1, 1]],
+    long: &[[4, 1, 1], [4, 1, 3]],
+};
 
 // The reference in the place of the library and of the program, with a mistake.
 
@@ -61,7 +70,7 @@ fn printing(change: impl Fn(&str) -> String + Sync + 'static) -> Judges {
 // Sorts of byte strings, and what they are refused for.
 
 const HONEST: &str = "honest runs";
-const EACH: &str = "each entry damaged, all queries";
+const EACH: &str = "each entry damaged, all cosets";
 const CUT: &str = "cut at every byte";
 const CUT_NEAR: &str = "cut near every section";
 const BEHIND: &str = "bytes behind the last section";
@@ -74,10 +83,11 @@ const QUERIES: &str = "counts of queries";
 const OUTSIDE: &str = "queries out of range";
 const POWERS: &str = "powers of two as queries";
 const SEVERAL: &str = "several causes";
+const FAULTS: &str = "queries in one coset and faults behind them";
 const LIMIT: &str = "lengths near the limit and far longer";
 
 /// The numbers that are due among the byte strings of each sort.
-const DUE: [(&str, &[u64]); 27] = [
+const DUE: [(&str, &[u64]); 33] = [
     (HONEST, &[0]),
     ("honest runs of large parameters", &[0]),
     ("honest runs of the largest parameters", &[0]),
@@ -91,19 +101,25 @@ const DUE: [(&str, &[u64]); 27] = [
     (CUT_NEAR, &[1]),
     (BEHIND, &[3]),
     (COUNTS, &[1, 2, 9, 10]),
-    ("fewer or more entries", &[0, 2, 9]),
-    ("sections out of order", &[1, 2, 3, 4, 8, 10]),
-    (FLIPPED, &[0, 1, 2, 4, 5, 6, 7, 8, 9, 10, 11]),
+    ("fewer or more entries", &[0, 2, 9, 17]),
+    ("sections out of order", &[1, 2, 3, 4, 8, 10, 17]),
+    (FLIPPED, &[0, 1, 2, 4, 5, 6, 7, 8, 9, 10, 11, 17]),
     ("any bytes", &[1, 2]),
-    (FRONT, &[1, 2, 3, 4, 5, 6, 8, 9, 10, 11]),
+    (FRONT, &[1, 2, 3, 4, 5, 6, 8, 9, 10, 11, 17]),
     ("any entries", &[10, 11]),
     (PARAMETERS, &[4, 5, 6]),
     ("all parameters", &[0, 2, 4, 5, 6, 7]),
     (BASES, &[8]),
-    (QUERIES, &[0, 9, 11]),
+    (QUERIES, &[0, 9, 11, 17]),
     (OUTSIDE, &[9, 10]),
     (POWERS, &[0, 10]),
-    (SEVERAL, &[1, 2, 3, 4, 5, 6, 7, 8, 9, 10]),
+    (PAIR, &[17]),
+    (SEVERAL_SHARED, &[0, 11, 17]),
+    (NEAR, &[0, 11, 17]),
+    (OTHER_CAUSES, &[9, 10]),
+    (LONG, &[0, 11, 17]),
+    (FAULTS, &[1, 2, 9, 10, 17]),
+    (SEVERAL, &[1, 2, 3, 4, 5, 6, 7, 8, 9, 10, 17]),
     (LIMIT, &[0, 1, 2, 3, 4, 11]),
 ];
 
@@ -166,14 +182,15 @@ fn with_numbers(of: &str, numbers: impl IntoIterator<Item = u64>) -> Vec<String>
 type Place = fn(Option<u64>) -> Option<u64>;
 
 /// What is wrong, with which numbers, the place in an answer with these, and the smallest input.
-const WRONG_PLACES: [(&str, &[u64], Place, &str); 7] = [
+const WRONG_PLACES: [(&str, &[u64], Place, &str); 8] = [
     ("sections are counted from 0", &[1, 2], |section| Some(section? - 1), "0 bytes: nothing"),
     ("sections are not named", &[2], |_| None, "4 bytes: 00 (4 times)"),
     ("the offset counts as an element", &[8], |place| Some(place? + 1), "56 bytes: 03"),
     ("the count of queries has a section", &[9], |_| Some(4), "72 bytes: 03"),
-    ("bytes behind have a section", &[3], |_| Some(8), "145 bytes: 03"),
+    ("bytes behind have a section", &[3], |_| Some(8), "137 bytes: 03"),
     ("queries out of range count from 1", &[10], |query| Some(query? + 1), "104 bytes: 03"),
     ("queries that fail count from 1", &[11], |query| Some(query? + 1), "128 bytes: 03"),
+    ("queries in one coset count from 1", &[17], |query| Some(query? + 1), "96 bytes: 03"),
 ];
 
 fn wrong_answers() -> Vec<Row<Judges>> {
@@ -184,7 +201,7 @@ fn wrong_answers() -> Vec<Row<Judges>> {
         let names = with_numbers("", numbers());
         rows.push(row(what, judges).differs(&names).smallest(&names[0], smallest));
     }
-    for number in 1..=11 {
+    for &number in REFUSED {
         let accepting = instead_of([number], |_, _| accepted(0));
         let names = with_numbers("", [number]);
         rows.push(row(format!("{number} is left out"), accepting).differs(&names));
@@ -192,7 +209,7 @@ fn wrong_answers() -> Vec<Row<Judges>> {
     for place in 0..5 {
         // What is printed has no value.
         let of = if place == 4 { "transcript" } else { "" };
-        let names = with_numbers(of, 0..=11);
+        let names = with_numbers(of, ALL.iter().copied());
         let changed = judging(move |bytes| changed_at(place, judge(bytes)));
         rows.push(row(format!("number {place} of five is wrong"), changed).differs(&names));
     }
@@ -203,21 +220,29 @@ fn wrong_answers() -> Vec<Row<Judges>> {
 
 // Programs that are wrong by themselves.
 
+/// All numbers that are due, and those of refusals.
+const ALL: &[u64] = &[0, 1, 2, 3, 4, 5, 6, 7, 8, 9, 10, 11, 17];
+const REFUSED: &[u64] = ALL.split_at(1).1;
+
+/// The numbers of answers without a round, and those of refusals without reads.
+const NO_ROUND: &[u64] = &[0, 1, 2, 3, 4, 5, 6, 7, 8, 9, 10, 17];
+const NO_READS: &[u64] = NO_ROUND.split_at(1).1;
+
 /// What is wrong, the text that is printed, and the numbers that it shows with.
-const WRONG_TEXTS: [(&str, fn(&str) -> String, RangeInclusive<u64>); 13] = [
-    ("no header", |text| text.split_inclusive('\n').skip(1).collect(), 0..=11),
-    ("the header alone", |text| text.split_inclusive('\n').take(1).collect(), 0..=11),
-    ("no end of the last line", |text| text.trim_end().to_string(), 0..=11),
-    ("a blank line behind", |text| format!("{text}\n"), 0..=11),
-    ("returns", |text| text.replace('\n', "\r\n"), 0..=11),
-    ("tabs", |text| text.replace(' ', "\t"), 0..=11),
-    ("all twice", |text| text.repeat(2), 0..=11),
-    ("nothing", |_| String::new(), 0..=11),
-    ("another word for accepted", |text| text.replace("accepted", "accept"), 0..=0),
-    ("another word for refused", |text| text.replace("refused", "rejected"), 1..=11),
-    ("all refused", |text| text.replace("accepted 0", "refused 0"), 0..=0),
-    ("zero for no place", |text| text.replace('-', "0"), 0..=10),
-    ("a hyphen for no reads", |text| text.replace(" 0\n", " -\n"), 1..=10),
+const WRONG_TEXTS: [(&str, fn(&str) -> String, &[u64]); 13] = [
+    ("no header", |text| text.split_inclusive('\n').skip(1).collect(), ALL),
+    ("the header alone", |text| text.split_inclusive('\n').take(1).collect(), ALL),
+    ("no end of the last line", |text| text.trim_end().to_string(), ALL),
+    ("a blank line behind", |text| format!("{text}\n"), ALL),
+    ("returns", |text| text.replace('\n', "\r\n"), ALL),
+    ("tabs", |text| text.replace(' ', "\t"), ALL),
+    ("all twice", |text| text.repeat(2), ALL),
+    ("nothing", |_| String::new(), ALL),
+    ("another word for accepted", |text| text.replace("accepted", "accept"), &[0]),
+    ("another word for refused", |text| text.replace("refused", "rejected"), REFUSED),
+    ("all refused", |text| text.replace("accepted 0", "refused 0"), &[0]),
+    ("zero for no place", |text| text.replace('-', "0"), NO_ROUND),
+    ("a hyphen for no reads", |text| text.replace(" 0\n", " -\n"), NO_READS),
 ];
 
 /// All numbers of a text in hexadecimal.
@@ -234,12 +259,12 @@ fn wrong_programs() -> Vec<Row<Judges>> {
     let texts = WRONG_TEXTS.into_iter();
     let mut rows: Vec<Row<Judges>> = texts
         .map(|(what, change, numbers)| {
-            row(what, printing(change)).differs(&with_numbers("program", numbers))
+            row(what, printing(change)).differs(&with_numbers("program", numbers.iter().copied()))
         })
         .collect();
     rows.push(
         row("numbers are hexadecimal", printing(hexadecimal))
-            .differs(&with_numbers("program", [10, 11]))
+            .differs(&with_numbers("program", [10, 11, 17]))
             .differs(&[format!("program, {HONEST}")])
             .agrees(&[CUT, BASES]),
     );
@@ -248,7 +273,7 @@ fn wrong_programs() -> Vec<Row<Judges>> {
 
 #[test]
 fn wrong_judges_differ_as_they_should() {
-    let rows = [wrong_answers(), readers::rows(), wrong_programs()];
+    let rows = [wrong_answers(), readers::rows(), readers::shared_cosets(), wrong_programs()];
     let rows: Vec<Row<Judges>> = rows.into_iter().flatten().collect();
     hold_table(&right(), &rows, |judges| {
         INPUTS.iter().flat_map(|(name, inputs, _)| both(judges, name, inputs)).collect()
@@ -305,8 +330,8 @@ fn every_comparison_fails_for_some_wrong_judge() {
     let (library, program): (Vec<&str>, Vec<&str>) =
         names.partition(|name| name.starts_with("transcript"));
     let refusing = Judges {
-        raw_judge: Box::new(|_, answer| write_what_fits(refused(17), answer)),
-        judge: Box::new(|_| refused(17)),
+        raw_judge: Box::new(|_, answer| write_what_fits(refused(18), answer)),
+        judge: Box::new(|_| refused(18)),
         ..right()
     };
     let any_length =

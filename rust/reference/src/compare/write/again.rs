@@ -4,11 +4,12 @@ use super::{inputs, write_call, Amounts};
 use crate::answer::{done, raw, Answer};
 use crate::compare::call::*;
 use crate::compare::operation::{after_safe, Library, Setting};
-use crate::compare::protocol::inputs::{any_queries, damaged, known, right};
+use crate::compare::protocol::inputs::{damaged, known, right};
 use crate::compare::protocol::{judge_call, run_of, with};
 use crate::compare::{compare, Comparison};
 use crate::parameters::Parameters;
 use crate::protocol::{Run, QUERY_COUNTS};
+use crate::queries::apart;
 use crate::random::Random;
 use crate::transcript::{read, Judging};
 
@@ -92,15 +93,14 @@ fn judgings<'a>(random: &'a mut Random, amounts: &Amounts) -> impl Iterator<Item
     small.into_iter().flatten().chain(large(random, settings))
 }
 
-/// Honest with as many queries as there may be, and failing at the last of them or, where an earlier
-/// one meets the same coset, at that one.
+/// Honest with as many queries as there may be, and failing at the last of them.
 fn large<'a>(
     random: &'a mut Random,
     settings: &'static [Setting],
 ) -> impl Iterator<Item = Judging> + 'a {
     settings.iter().flat_map(move |&setting| {
         let run = known::honest(random, with(setting));
-        let queries = any_queries(random, run.parameters, *QUERY_COUNTS.end());
+        let queries = apart(random, run.parameters, *QUERY_COUNTS.end());
         let mut failing = run.clone();
         failing.word[queries[queries.len() - 1] as usize] ^= 1;
         [run, failing].map(|run| Judging { run, queries: queries.clone() })

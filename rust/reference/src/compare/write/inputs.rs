@@ -6,15 +6,16 @@ use crate::compare::cosets;
 use crate::compare::lent::FILLS;
 use crate::compare::operation::Setting;
 use crate::compare::protocol::inputs::right::coset_and_challenges;
-use crate::compare::protocol::inputs::{any_queries, turns};
+use crate::compare::protocol::inputs::{mostly_apart, turns};
 use crate::compare::protocol::with;
 use crate::parameters::{all_up_to, Parameters};
 use crate::protocol::{Run, QUERY_COUNTS};
+use crate::queries::apart;
 use crate::random::Random;
 use crate::transcript::Judging;
 
 // Any lists. The word, the store and the last coefficients are each of one of four sorts, in turn,
-// and so is the count of the queries.
+// and so is the count of the queries, for as far as so many are apart.
 
 const COUNTS: [usize; 5] = [3, 1, 256, 2, 255];
 
@@ -27,7 +28,7 @@ pub fn any(random: &mut Random, parameters: Parameters, turn: usize) -> Judging 
     let word = list(run.word.len(), turn);
     let store = list(run.store.len(), turn / 2);
     let last = list(run.last.len(), turn / 4);
-    let queries = any_queries(random, parameters, COUNTS[turn % COUNTS.len()]);
+    let queries = apart(random, parameters, COUNTS[turn % COUNTS.len()]);
     Judging { run: Run { word, store, last, ..run }, queries }
 }
 
@@ -40,7 +41,7 @@ pub fn any_lists(random: &mut Random, amounts: &[usize]) -> Vec<Judging> {
 pub fn large(mut random: Random, settings: &[Setting]) -> impl Iterator<Item = Call> + '_ {
     let with_fills = |&setting: &Setting| FILLS.map(|fill| (setting, fill));
     settings.iter().flat_map(with_fills).map(move |(setting, fill)| {
-        let queries = any_queries(&mut random, with(setting), *QUERY_COUNTS.end());
+        let queries = apart(&mut random, with(setting), *QUERY_COUNTS.end());
         WRITE.any(&mut random, setting).with_queries(queries).with_fill(fill)
     })
 }
@@ -53,13 +54,19 @@ const NEAR: usize = 9;
 /// Counts of queries that are taken, and counts that are not.
 const ALL_COUNTS: [usize; 8] = [0, 1, 2, 255, 256, 257, 258, 300];
 
-/// The right one too, with which too many queries are refused for their count.
-pub fn near(mut random: Random, largest_k: u64) -> impl Iterator<Item = Call> {
-    all_up_to(largest_k).into_iter().enumerate().flat_map(move |(turn, parameters)| {
+/// All up to a dimension, and larger settings. The right length too, with which too many queries are
+/// refused for their count, and more than there are cosets for sharing one.
+pub fn near(
+    mut random: Random,
+    (largest_k, larger): (u64, &'static [Setting]),
+) -> impl Iterator<Item = Call> {
+    let larger = larger.iter().copied().map(with);
+    let all = all_up_to(largest_k).into_iter().chain(larger).enumerate();
+    all.flat_map(move |(turn, parameters)| {
         let mut calls = Vec::new();
         for count in ALL_COUNTS {
             let judging = any(&mut random, parameters, turn);
-            let queries = any_queries(&mut random, parameters, count);
+            let queries = mostly_apart(&mut random, parameters, count);
             let call = write_call(Judging { queries, ..judging });
             let with_length = |length| call.clone().with_length(Bytes, length);
             calls.extend(near_lengths(&call).into_iter().map(with_length));
@@ -86,19 +93,23 @@ mod tests {
     use crate::answer::{done, refused, refused_at, Answer};
     use crate::compare::operation::{after_safe, Reference};
 
-    /// One length for each count of queries, and a refusal for their count with no other.
+    /// One length for each count of queries, and a refusal for them with no other.
     #[test]
     fn the_right_length_is_among_those_near_it() {
         let mut met: Vec<(usize, Answer)> = Vec::new();
-        for call in near(Random::named("lengths near the right one"), 3) {
+        for call in near(Random::named("lengths near the right one"), (3, &[[9, 1, 1]])) {
             let due = after_safe(&Reference, &call).answer;
             if due != refused_at(13, 8) {
                 met.push((call[Queries].len(), due));
             }
         }
-        let due = |count| if QUERY_COUNTS.contains(&count) { done() } else { refused(9) };
-        let of_each: Vec<(usize, Answer)> =
-            ALL_COUNTS.into_iter().map(|count| (count, due(count))).collect();
-        assert_eq!(met, of_each.repeat(all_up_to(3).len()));
+        let due = |cosets: usize, count: usize| match count {
+            0 | 257.. => refused(9),
+            _ if count > cosets => refused_at(17, cosets as u64),
+            _ => done(),
+        };
+        // k, rate and step are 2, 1, 1, then 3, 1, 1, then 3, 1, 2, then 3, 2, 1 and then 9, 1, 1.
+        let of = |cosets| ALL_COUNTS.map(|count| (count, due(cosets, count)));
+        assert_eq!(met, [2, 4, 2, 4, 256].map(of).concat());
     }
 }

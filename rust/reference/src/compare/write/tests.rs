@@ -7,11 +7,14 @@ use super::*;
 use crate::answer::done;
 use crate::compare::operation::Outputs;
 use crate::compare::protocol::tests::refusals as of_a_run;
+use crate::compare::protocol::tests::together::{
+    self, LONG, NEAR as NEAR_EACH_OTHER, OTHER_CAUSES, PAIR, SEVERAL as SEVERAL_SHARED,
+};
 use crate::compare::wrong::{
     alike, copy_what_fits, hold_table, right_library, row, shared_rows, Others, Row, Wrong,
 };
 use crate::protocol::Run;
-use crate::transcript::{sections, Section};
+use crate::transcript::{sections, transcript, Section};
 
 const HONEST: &str = "write, honest runs";
 const ANY: &str = "write, any lists";
@@ -30,7 +33,8 @@ const CASE_H: &str = "case H of table A, written";
 const CASE_K: &str = "case K of table A, written";
 
 /// All in which something is written, but for cases.
-const WRITTEN: [&str; 8] = [HONEST, ANY, COUNTS, NEAR, LARGE, SAFE, AGAIN, JUDGED];
+const WRITTEN: [&str; 10] =
+    [HONEST, ANY, COUNTS, NEAR, NEAR_EACH_OTHER, LONG, LARGE, SAFE, AGAIN, JUDGED];
 
 const CASES: [&str; 3] = [CASE_G, CASE_H, CASE_K];
 
@@ -38,7 +42,20 @@ const OTHERS: Others = Others {
     right: &[HONEST, ANY, LARGE],
     safely: &CASES,
     dependent: &[],
-    unsaid: &[COUNTS, NEAR, ONE_OUT, SOME_OUT, SEVERAL, AGAIN, JUDGED],
+    unsaid: &[
+        COUNTS,
+        NEAR,
+        ONE_OUT,
+        SOME_OUT,
+        SEVERAL,
+        AGAIN,
+        JUDGED,
+        PAIR,
+        SEVERAL_SHARED,
+        NEAR_EACH_OTHER,
+        OTHER_CAUSES,
+        LONG,
+    ],
 };
 
 /// Few and small, since every wrong writer is compared with all of them. There are runs of one round
@@ -46,8 +63,9 @@ const OTHERS: Others = Others {
 const FEW: Amounts = Amounts {
     turns: [0, 0, 4, 2, 2, 0, 0, 0, 0, 0],
     queries: [0, 0, 1, 0, 0, 0, 0, 0, 0, 0],
-    near: 3,
-    large: &[[6, 2, 1], [5, 1, 3]],
+    long: &[[4, 1, 1], [3, 1, 2], [4, 1, 3]],
+    near: (3, &[]),
+    large: &[[6, 2, 1], [5, 1, 3], [9, 1, 1]],
     judged: ([0, 0, 2, 1, 1, 0, 0, 0, 0, 0], &[[3, 1, 1]]),
     refused: refused::Amounts {
         out_of_range: &[1, 0, 22, 37, 69, 261],
@@ -67,6 +85,10 @@ fn the_table_holds() {
         layouts::rows(),
         refusals::rows(),
         of_a_run::rows(&WRITE, HONEST),
+        together::rows(&WRITE, HONEST, &[NEAR], |call, outputs| {
+            copy_what_fits(&transcript(&run_of(call), &call[Queries]), outputs.bytes());
+            done()
+        }),
         shared_rows(&WRITE, &OTHERS),
     ];
     let rows: Vec<Row<Wrong>> = rows.into_iter().flatten().collect();
@@ -77,7 +99,7 @@ fn the_table_holds() {
 /// all lists of a dimension just above the range.
 #[test]
 fn the_program_takes_all_parameters_up_to_seven_and_the_longest_transcript() {
-    assert!(FULL.turns[2..=7].iter().all(|&turns| turns >= 4) && FULL.near >= 7);
+    assert!(FULL.turns[2..=7].iter().all(|&turns| turns >= 4) && FULL.near.0 >= 7);
     assert!((2..=7).all(|k| FULL.refused.dimensions.contains(&k)));
     assert!(FULL.large.contains(&[20, 1, 1]) && FULL.judged.1.contains(&[20, 1, 1]));
     let longest = inputs::large(Random::named("longest"), &[[20, 1, 1]]).next();

@@ -178,6 +178,10 @@ pub fn causes(call: &Call) -> Vec<Answer> {
         all.extend((!QUERY_COUNTS.contains(&queries.len())).then(|| refused(9)));
         let place = queries.iter().position(|query| call.k() < 64 && query >> call.k() > 0);
         all.extend(place.map(|place| refused_at(10, place as u64)));
+        let coset = |place: usize| queries[place].checked_shr(call[Step] as u32);
+        let is_again = |&later: &usize| (0..later).any(|place| coset(place) == coset(later));
+        let place = (0..queries.len()).find(is_again);
+        all.extend(place.map(|place| refused_at(17, place as u64)));
     }
     all
 }

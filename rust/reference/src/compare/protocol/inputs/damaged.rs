@@ -1,8 +1,9 @@
 //! Honest runs with entries, last coefficients or challenges made wrong.
 
-use super::{all_queries, any_queries, any_query, known, right, turns};
+use super::{all_queries, any_query, known, right, turns};
 use crate::parameters::{all_up_to, Parameters};
-use crate::protocol::Run;
+use crate::protocol::{Run, QUERY_COUNTS};
+use crate::queries::{apart, in_each_coset};
 use crate::random::Random;
 use crate::transcript::Judging;
 
@@ -46,11 +47,13 @@ pub fn with_each_query(random: Random, largest_k: u64) -> impl Iterator<Item = J
     })
 }
 
-/// All queries together, forwards and backwards.
-pub fn with_all_queries(random: Random, largest_k: u64) -> impl Iterator<Item = Judging> {
-    each(random, largest_k).flat_map(|run| {
-        let forwards = all_queries(run.parameters);
-        let backwards = forwards.iter().rev().copied().collect();
+/// A query in each first-layer coset, forwards and, with others, backwards.
+pub fn with_all_cosets(mut random: Random, largest_k: u64) -> impl Iterator<Item = Judging> {
+    let runs = each(Random::seeded(random.number()), largest_k);
+    runs.flat_map(move |run| {
+        let forwards = in_each_coset(&mut random, run.parameters);
+        let mut backwards = in_each_coset(&mut random, run.parameters);
+        backwards.reverse();
         [forwards, backwards].map(|queries| Judging { run: run.clone(), queries })
     })
 }
@@ -60,7 +63,7 @@ pub fn with_all_queries(random: Random, largest_k: u64) -> impl Iterator<Item = 
 /// How often a run is damaged.
 const TIMES: usize = 8;
 
-/// Any runs with some entries damaged, and any queries.
+/// Any runs with some entries damaged.
 pub fn some(random: &mut Random, amounts: &[usize]) -> Vec<Judging> {
     let mut all = Vec::new();
     for (parameters, turn) in turns(amounts) {
@@ -83,19 +86,32 @@ pub fn some_of_large(
     })
 }
 
-/// One to three places, some of them met by a query.
+/// One to three places, some of them met by a query. There are a few queries, or as many as there
+/// may be.
 fn with_some_damaged(random: &mut Random, mut run: Run) -> Judging {
     let Run { parameters, .. } = run;
-    let count = 1 + random.below(6);
-    let mut queries = any_queries(random, parameters, count);
+    let count = match random.below(8) {
+        0 => *QUERY_COUNTS.end(),
+        few => few,
+    };
+    let mut queries = apart(random, parameters, count);
     for _ in 0..1 + random.below(3) {
         let (layer, index) = any_entry(random, &run);
         run = damaged_at(random, run, start(parameters, layer) + index);
         if random.below(2) == 0 {
-            queries[random.below(count)] = query_that_meets(random, parameters, layer, index);
+            let query = query_that_meets(random, parameters, layer, index);
+            put(random, parameters, &mut queries, query);
         }
     }
     Judging { run, queries }
+}
+
+/// Puts a query where one of its coset stands, or else at any place: so the others stay apart from
+/// it.
+fn put(random: &mut Random, parameters: Parameters, queries: &mut [u64], query: u64) {
+    let coset = |query| parameters.coset_used(query, 0);
+    let place = queries.iter().position(|&other| coset(other) == coset(query));
+    queries[place.unwrap_or_else(|| random.below(queries.len()))] = query;
 }
 
 /// Any layer and any index of it. The last coefficients stand for layer r.
@@ -131,7 +147,7 @@ pub fn other_challenges(random: &mut Random, amounts: &[usize]) -> Vec<Judging> 
         for round in 0..honest.challenges.len() {
             let mut run = honest.clone();
             run.challenges[round] ^= 1 << random.below(64);
-            all.push(Judging { run, queries: any_queries(random, parameters, 3) });
+            all.push(Judging { run, queries: apart(random, parameters, 3) });
         }
     }
     all

@@ -1,12 +1,13 @@
 //! Runs whose word may be of any degree, and runs that are honest.
 
-use super::{all_queries, any_queries, known, turns};
+use super::{known, turns};
 use crate::compare::cosets;
 use crate::coset::points;
 use crate::fold::Coset;
 use crate::parameters::{all_up_to, Parameters};
 use crate::polynomial::value;
 use crate::protocol::{self, Run, QUERY_COUNTS};
+use crate::queries::apart;
 use crate::random::Random;
 use crate::transcript::Judging;
 
@@ -151,29 +152,21 @@ pub fn honest(random: &mut Random, parameters: Parameters, turn: usize) -> Run {
     of_low_degree(random, parameters, turn).made_honest()
 }
 
-/// With a few queries, and with as many as there may be: all of a small run.
+/// With a few queries, and with as many as there may be: one in each first-layer coset of a small
+/// run.
 pub fn honest_with_queries(random: &mut Random, amounts: &[usize]) -> Vec<Judging> {
     let mut all = Vec::new();
     for (parameters, turn) in turns(amounts) {
         let run = honest(random, parameters, turn);
         let few = 1 + random.below(6);
-        let queries = any_queries(random, parameters, few);
+        let queries = apart(random, parameters, few);
         if turn == 0 {
-            let queries = most_queries(random, parameters);
+            let queries = apart(random, parameters, *QUERY_COUNTS.end());
             all.push(Judging { run: run.clone(), queries });
         }
         all.push(Judging { run, queries });
     }
     all
-}
-
-fn most_queries(random: &mut Random, parameters: Parameters) -> Vec<u64> {
-    let most = *QUERY_COUNTS.end();
-    if parameters.layer_length(0) <= most {
-        all_queries(parameters)
-    } else {
-        any_queries(random, parameters, most)
-    }
 }
 
 /// Runs with honest folds whose words have too high a degree. Only the last round shows it, and not
@@ -184,7 +177,7 @@ pub fn of_high_degrees(random: &mut Random, amounts: &[usize]) -> Vec<Judging> {
         let bound = all >> parameters.rate;
         let count = bound + 1 + random.below(all - bound);
         let run = of_coefficients(random, parameters, count, turn).made_honest();
-        Judging { run, queries: any_queries(random, parameters, 4) }
+        Judging { run, queries: apart(random, parameters, 4) }
     };
     turns(amounts).map(one).collect()
 }

@@ -1,5 +1,6 @@
 //! Wrong judges.
 
+use super::together::{LONG, NEAR, OTHER_CAUSES, PAIR, SEVERAL as SEVERAL_SHARED, SHARED};
 use super::*;
 use crate::answer::{accepted, failed, refused, refused_at};
 use std::collections::BTreeSet;
@@ -7,12 +8,11 @@ use std::collections::BTreeSet;
 const HONEST: &str = "judge, honest runs";
 const DEGREES: &str = "judge, honest folds of too high a degree";
 const EACH_ALONE: &str = "judge, each entry damaged, each query alone";
-const EACH: &str = "judge, each entry damaged, all queries";
+const EACH: &str = "judge, each entry damaged, all cosets";
 const SOME: &str = "judge, some entries damaged, k 2 to 9";
 const LARGE: &str = "judge, some entries damaged, k 10 to 20";
 const CHALLENGES: &str = "judge, another challenge";
 const COUNTS: &str = "judge, counts of queries";
-const REPEATED: &str = "judge, repeated queries";
 const ONE_OUT: &str = "judge, a query out of range";
 const SOME_OUT: &str = "judge, several queries out of range";
 const SEVERAL: &str = "judge, several causes";
@@ -29,19 +29,32 @@ const CASE_P: &str = "case P of table A";
 const DAMAGED: [&str; 5] = [EACH_ALONE, EACH, SOME, LARGE, CHALLENGES];
 
 /// All in which some query fails.
-const FAILING: [&str; 9] =
-    [DEGREES, EACH_ALONE, EACH, SOME, LARGE, CHALLENGES, COUNTS, REPEATED, SAFE];
+const FAILING: [&str; 10] =
+    [DEGREES, EACH_ALONE, EACH, SOME, LARGE, CHALLENGES, COUNTS, NEAR, LONG, SAFE];
 
 /// All in which the folds of several rounds count.
 const FOLDED: [&str; 4] = [HONEST, DEGREES, ACCEPTED, SAFE];
 
 /// All in which a query is out of range.
-const OUT_OF_RANGE: [&str; 3] = [ONE_OUT, SOME_OUT, SAFE];
+const OUT_OF_RANGE: [&str; 5] = [ONE_OUT, SOME_OUT, OTHER_CAUSES, SEVERAL, SAFE];
 
 const OTHERS: Others = Others {
     right: &[
-        HONEST, DEGREES, EACH_ALONE, EACH, SOME, LARGE, CHALLENGES, COUNTS, REPEATED, ONE_OUT,
+        HONEST,
+        DEGREES,
+        EACH_ALONE,
+        EACH,
+        SOME,
+        LARGE,
+        CHALLENGES,
+        COUNTS,
+        ONE_OUT,
         SOME_OUT,
+        PAIR,
+        SEVERAL_SHARED,
+        NEAR,
+        OTHER_CAUSES,
+        LONG,
     ],
     safely: &[CASES_G_TO_I, CASE_K, CASE_L, CASE_P, ACCEPTED],
     dependent: &[],
@@ -55,8 +68,10 @@ fn the_table_holds() {
         checks(),
         stops(),
         queries(),
+        shared_cosets(),
         reads(),
         refusals::rows(&JUDGE, HONEST),
+        together::rows(&JUDGE, HONEST, &[], |call, _| judged(&run_of(call), &call[Queries])),
         shared_rows(&JUDGE, &OTHERS),
     ];
     hold(rows, |library| of_judge(library, &FEW));
@@ -83,11 +98,13 @@ fn in_all() -> Vec<Row<Wrong>> {
     vec![
         judge("all are turned away", ALL, |_, _, _| refused(4))
             .differs(&FAILING)
-            .differs(&[HONEST, ONE_OUT, SOME_OUT, ACCEPTED])
+            .differs(&SHARED)
+            .differs(&[HONEST, ONE_OUT, SOME_OUT, OTHER_CAUSES, ACCEPTED])
             .differs(&[CASES_G_TO_I, CASE_K, CASE_L, CASE_O, CASE_P])
             .agrees(&[OTHER_ANSWER]),
         judge("nothing is refused before a round", BEFORE_WORK, |_, _, _| accepted(0))
-            .differs(&[COUNTS, ONE_OUT, SOME_OUT, SEVERAL, SAFE, CASE_O, CASE_P])
+            .differs(&[COUNTS, ONE_OUT, SOME_OUT, OTHER_CAUSES, SEVERAL, SAFE, CASE_O, CASE_P])
+            .differs(&SHARED)
             .agrees(&[HONEST, EACH, CASE_L]),
         judge("only the constant of the last polynomial counts", JUDGED, |run, queries, _| {
             let mut constant = run.clone();
@@ -207,7 +224,7 @@ fn stops() -> Vec<Row<Wrong>> {
             let (last, _) = *all.last()?;
             all.iter().copied().find(|&(query, _)| query == last)
         })
-        .differs(&[DEGREES, EACH, SOME, LARGE, CHALLENGES, COUNTS, REPEATED, SAFE]),
+        .differs(&[DEGREES, EACH, SOME, LARGE, CHALLENGES, COUNTS, NEAR, LONG, SAFE]),
         stopping("it stops at the last round that fails", |all| {
             all.iter().copied().rfind(|&(query, _)| query == all[0].0)
         })
@@ -222,19 +239,19 @@ fn queries() -> Vec<Row<Wrong>> {
         judge("queries beyond the most are not looked at", &[9], |run, queries, _| {
             protocol::judge(run, &queries[..queries.len().min(256)])
         })
-        .differs(&[COUNTS, SOME_OUT, SEVERAL, CASE_P]),
+        .differs(&[COUNTS, SOME_OUT, OTHER_CAUSES, SEVERAL, CASE_P]),
         judge("no query is accepted", &[9], |_, queries, right| match queries {
             [] => accepted(0),
             _ => right,
         })
         .differs(&[COUNTS, SAFE]),
-        judge("the most queries are refused", &[0, 10, 11], |_, queries, right| {
-            match queries.len() {
-                256 => refused(9),
-                _ => right,
-            }
+        judge("the most queries are refused", &[0, 10, 11, 17], |_, queries, right| match queries
+            .len()
+        {
+            256 => refused(9),
+            _ => right,
         })
-        .differs(&[COUNTS, ONE_OUT, SOME_OUT, CASE_O, CASE_P]),
+        .differs(&[COUNTS, ONE_OUT, SOME_OUT, SEVERAL_SHARED, CASE_O, CASE_P]),
         judge("only the lowest bits of a query count", &[10], |run, queries, _| {
             let cut = queries.iter().map(|query| query % (1 << run.parameters.k));
             protocol::judge(run, &cut.collect::<Vec<u64>>())
@@ -249,7 +266,7 @@ fn queries() -> Vec<Row<Wrong>> {
             let place = queries.iter().rposition(|query| query >> run.parameters.k != 0);
             refused_at(10, place.expect("a query out of range") as u64)
         })
-        .differs(&[SOME_OUT]),
+        .differs(&[SOME_OUT, OTHER_CAUSES]),
         judge("queries before one out of range are judged first", &[10], |run, queries, right| {
             let before = &queries[..right.place.map_or(0, |place| place as usize)];
             match protocol::judge(run, before) {
@@ -257,7 +274,45 @@ fn queries() -> Vec<Row<Wrong>> {
                 _ => right,
             }
         })
-        .differs(&[ONE_OUT, SOME_OUT]),
+        .differs(&[ONE_OUT, SOME_OUT, OTHER_CAUSES, SEVERAL]),
+    ]
+}
+
+// Queries in one coset, beyond what a writer could take wrongly as well.
+
+/// The verdict on queries whatever cosets they share.
+fn judged(run: &Run, queries: &[u64]) -> Answer {
+    let failing = failing(run, queries, |query, round| holds(RIGHT, run, query, round));
+    failing_at(run, queries, failing.first().copied())
+}
+
+fn shared_cosets() -> Vec<Row<Wrong>> {
+    vec![
+        judge("shared cosets are accepted with all their reads", &[17], |run, queries, _| {
+            failing_at(run, queries, None)
+        })
+        .differs(&SHARED),
+        judge("rounds come before shared cosets", &[17], |run, queries, right| {
+            match judged(run, queries) {
+                failed if failed.number == 11 => failed,
+                _ => right,
+            }
+        })
+        .differs(&SHARED),
+        judge("queries before a shared coset are judged first", &[17], |run, queries, right| {
+            let before = &queries[..right.place.map_or(0, |place| place as usize)];
+            match judged(run, before) {
+                failed if failed.number == 11 => failed,
+                _ => right,
+            }
+        })
+        .differs(&SHARED),
+        judge("a query in a coset that was met is passed over", &[17], |run, queries, _| {
+            let mut met = BTreeSet::new();
+            let new = queries.iter().filter(|query| met.insert(**query >> run.parameters.step));
+            judged(run, &new.copied().collect::<Vec<u64>>())
+        })
+        .differs(&SHARED),
     ]
 }
 
@@ -282,7 +337,7 @@ fn reads() -> Vec<Row<Wrong>> {
         judge("a failing run has the reads of an accepted one", &[11], |run, queries, right| {
             Answer { reads: failing_at(run, queries, None).reads, ..right }
         })
-        .differs(&[DEGREES, EACH, SOME, LARGE, CHALLENGES, COUNTS, REPEATED, SAFE]),
+        .differs(&[DEGREES, EACH, SOME, LARGE, CHALLENGES, COUNTS, NEAR, LONG, SAFE]),
         counting("the coset of the next layer is not counted", 1)
             .differs(&DAMAGED)
             .differs(&[SAFE, CASE_L]),
@@ -296,9 +351,7 @@ fn reads() -> Vec<Row<Wrong>> {
             let met: BTreeSet<(u64, u64)> = queries.iter().flat_map(used).collect();
             accepted((met.len() as u64) << run.parameters.step)
         })
-        .differs(&[
-            HONEST, EACH, SOME, LARGE, CHALLENGES, COUNTS, REPEATED, SAFE, ACCEPTED, CASE_P,
-        ]),
+        .differs(&[HONEST, EACH, SOME, LARGE, CHALLENGES, LONG, SAFE, ACCEPTED, CASE_P]),
         judge("a refusal has reads", &[10], |_, _, right| Answer { reads: 2, ..right })
             .differs(&OUT_OF_RANGE),
     ]

@@ -1,8 +1,8 @@
 //! Transcripts with several causes to refuse them.
 
 use super::{
-    honest_sections, other_counts, out_of_range, Amounts, Bytes, CHALLENGES, COSET, LARGEST,
-    PARAMETERS, QUERIES, WORD,
+    honest_sections, other_counts, out_of_range, share_a_coset, Amounts, Bytes, CHALLENGES, COSET,
+    LARGEST, PARAMETERS, QUERIES, WORD,
 };
 use crate::compare::cosets::any_dependent;
 use crate::parameters::all_up_to;
@@ -14,7 +14,7 @@ type Cause = (u64, fn(&mut Random, &mut Vec<Section>));
 
 /// In the order in which a judge looks for them: section by section, in each its count and then
 /// its values.
-const CAUSES: [Cause; 14] = [
+const CAUSES: [Cause; 15] = [
     (2, |random, all| miscount(random, &mut all[PARAMETERS])),
     (4, |random, all| take_out_of_range(random, all, 0)),
     (5, |random, all| take_out_of_range(random, all, 1)),
@@ -33,6 +33,7 @@ const CAUSES: [Cause; 14] = [
         let place = random.below(queries.len());
         queries[place] |= 1 << (LARGEST_K + random.below(59) as u64);
     }),
+    (17, |random, all| share_a_coset(random, all)),
     (2, |random, all| {
         let layer = random.below(all[CHALLENGES].entries.len());
         miscount(random, &mut all[WORD + layer]);

@@ -2,8 +2,9 @@
 
 use super::{any_bytes, changed, Amounts, Bytes, PARAMETERS, QUERIES, WORD};
 use crate::cases::of_case_k;
-use crate::compare::protocol::inputs::{any_queries, known};
+use crate::compare::protocol::inputs::known;
 use crate::parameters::Parameters;
+use crate::queries::apart;
 use crate::random::Random;
 use crate::transcript::{sections, transcript, Section, LARGEST_INPUT};
 
@@ -41,7 +42,7 @@ fn made(bytes: &[u8], length: usize) -> Bytes {
 fn long(random: &mut Random) -> Vec<Bytes> {
     let (parameters, count) = FITTING;
     let run = known::honest(random, parameters);
-    let queries = any_queries(random, parameters, count + 1);
+    let queries = apart(random, parameters, count + 1);
     let fitting = sections(&run, &queries[1..]);
     let last = fitting.len() - 1;
     let place = random.below(run.word.len());

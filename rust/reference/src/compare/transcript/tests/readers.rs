@@ -2,6 +2,8 @@
 //! passed over for some numbers.
 
 use super::*;
+use crate::answer::failed;
+use crate::parameters::Parameters;
 use crate::transcript::{written, Section};
 
 /// What is answered in place of a refusal.
@@ -89,7 +91,7 @@ fn values_at_the_end(bytes: &[u8], refusal: Answer) -> Answer {
     let with_right_values = judged_with(bytes, |sections| {
         let basis = sections[1].entries[1..].iter_mut();
         basis.zip(0..).for_each(|(element, bit)| *element = 1 << bit);
-        sections.iter_mut().skip(3).take(1).for_each(|queries| queries.entries.fill(0));
+        sections.iter_mut().skip(3).take(1).for_each(|queries| *queries = Section::of(&[0]));
     });
     first_of(with_right_values, refusal)
 }
@@ -161,7 +163,11 @@ pub fn rows() -> Vec<Row<Judges>> {
         wrong("parameters have 32 bits", cut_entries(0..=0, 32), &[PARAMETERS]),
         wrong("queries have 32 bits", cut_entries(3..=3, 32), &[OUTSIDE, POWERS]),
         wrong("queries have 63 bits", cut_entries(3..=3, 63), &[OUTSIDE, POWERS]),
-        wrong("entries have 63 bits", cut_entries(0..=9, 63), &[HONEST, EACH, OUTSIDE, PARAMETERS]),
+        wrong(
+            "entries have 63 bits",
+            cut_entries(0..=9, 63),
+            &[HONEST, EACH, BEHIND, OUTSIDE, PARAMETERS],
+        ),
         wrong("the highest byte comes first", judging(highest_first), &WATCHED)
             .smallest(HONEST, "4 bytes: 03, 00 (3 times)"),
         wrong(
@@ -172,11 +178,110 @@ pub fn rows() -> Vec<Row<Judges>> {
         refused("entries before their count", &[2, 9], entries_before_count, &[COUNTS, SEVERAL])
             .smallest(COUNTS, "4 bytes: 00 (3 times), 01"),
         refused("values after all sections", &[8, 10], values_at_the_end, &[SEVERAL, FRONT]),
+        refused("shared cosets after all sections", &[17], values_at_the_end, &[SEVERAL, FAULTS]),
         refused("query count after all", &[9], query_count_at_the_end, &[SEVERAL, COUNTS]),
         refused("rounds before bytes behind", &[3], rounds_before_the_end, &[SEVERAL]),
         refused("missing bytes are zeros", &[1], missing_are_zeros, &[CUT, CUT_NEAR, FRONT])
             .smallest(CUT, "0 bytes: nothing"),
         refused("bytes behind are taken", &[3], taking_behind, &[BEHIND, SEVERAL]),
         refused("layers have one section", &[1, 2], one_section, &[CUT, CUT_NEAR, COUNTS]),
+    ]
+}
+
+// Queries in one coset.
+
+/// The parameters and the queries of a transcript whose first four sections are whole.
+fn parameters_and_queries(bytes: &[u8]) -> Option<(Parameters, Vec<u64>)> {
+    let sections = sections_of(bytes);
+    let [first, _, _, queries, ..] = &sections[..] else { return None };
+    let [k, rate, step] = first.entries[..] else { return None };
+    Some((Parameters { k, rate, step }, queries.entries.clone()))
+}
+
+/// The verdict whatever cosets the queries share: each is judged alone.
+fn taken(bytes: &[u8], queries: &[u64]) -> Answer {
+    let mut reads = 0;
+    for (place, &query) in (0..).zip(queries) {
+        let alone = judged_with(bytes, |all| all[3] = Section::of(&[query]));
+        match (alone.number, alone.round) {
+            (0, _) => reads += alone.reads,
+            (11, Some(round)) => return failed(place, round, reads + alone.reads),
+            _ => return alone,
+        }
+    }
+    accepted(reads)
+}
+
+/// Whether something comes before shared cosets: a number of the first four sections.
+fn comes_before(answer: Answer) -> bool {
+    match answer.number {
+        0 | 3 | 11 | 17 => false,
+        1 | 2 => answer.place <= Some(4),
+        _ => true,
+    }
+}
+
+/// Looks for shared cosets in another way.
+fn finding(find: Find) -> Judges {
+    judging(move |bytes| match (judge(bytes), parameters_and_queries(bytes)) {
+        (right, Some((parameters, queries))) if !comes_before(right) => {
+            match find(parameters, &queries) {
+                Some(place) => refused_at(17, place as u64),
+                None => taken(bytes, &queries),
+            }
+        }
+        (right, _) => right,
+    })
+}
+
+/// Refuses for a shared coset where there is another cause of section 4.
+fn before_other_causes(bytes: &[u8], right: Answer) -> Answer {
+    let found = parameters_and_queries(bytes).and_then(|(p, queries)| together::RIGHT(p, &queries));
+    found.map_or(right, |place| refused_at(17, place as u64))
+}
+
+/// The last place whose query shares a coset with an earlier one.
+fn last_place(bytes: &[u8], right: Answer) -> Answer {
+    let places =
+        parameters_and_queries(bytes).map(|(p, all)| together::again(&all, |q| q >> p.step));
+    let last = places.and_then(|places| places.last().copied());
+    last.map_or(right, |place| refused_at(17, place as u64))
+}
+
+/// The first place in the coset that is told as shared.
+fn earlier_place(bytes: &[u8], right: Answer) -> Answer {
+    let (parameters, queries) = parameters_and_queries(bytes).expect("queries in one coset");
+    let coset = |query: u64| query >> parameters.step;
+    let later = coset(queries[right.place.unwrap_or(0) as usize]);
+    let earlier = queries.iter().position(|&query| coset(query) == later);
+    refused_at(17, earlier.expect("an earlier place") as u64)
+}
+
+/// All in which two queries share a coset, and nothing comes before that.
+const SHARED: [&str; 6] = [PAIR, SEVERAL_SHARED, NEAR, LONG, FAULTS, SEVERAL];
+
+pub fn shared_cosets() -> Vec<Row<Judges>> {
+    let found = |what: &str, find: Find, differ: &[&str]| {
+        row(what, finding(find)).differs(differ).agrees(&[BASES, OUTSIDE, OTHER_CAUSES])
+    };
+    let told = |what: &str, numbers: &[u64], other: Other, differ: &[&str]| {
+        row(what, instead_of(numbers.to_vec(), other)).differs(differ).agrees(&[HONEST, EACH, CUT])
+    };
+    vec![
+        row("nothing of shared cosets", finding(together::RIGHT)),
+        found("shared cosets are taken", together::NOTHING, &SHARED),
+        found("only equal queries share a coset", together::EQUAL, &[PAIR, SEVERAL_SHARED, NEAR]),
+        found("only neighbours are compared", together::NEIGHBOURS, &[PAIR, SEVERAL_SHARED, LONG]),
+        found("only the first is compared", together::WITH_FIRST, &[PAIR, SEVERAL_SHARED, LONG]),
+        found("the cosets of layer 1 are compared", together::LAYER_1, &[HONEST, NEAR, LONG]),
+        found("those half the length away share", together::HALVES, &[HONEST, PAIR, NEAR, LONG]),
+        found("the two lowest bits are compared", together::TWO_BITS, &[LONG]),
+        found("the step is taken for 1", together::STEP_1, &[NEAR, LONG]),
+        found("the step is taken for 3", together::STEP_3, &[HONEST, NEAR, LONG]),
+        told("the earlier place is told", &[17], earlier_place, &SHARED),
+        told("the last such place is told", &[17], last_place, &[SEVERAL_SHARED]),
+        told("shared cosets have reads", &[17], |_, a| Answer { reads: 2, ..a }, &SHARED),
+        told("shared cosets before the count", &[9], before_other_causes, &[OTHER_CAUSES]),
+        told("shared cosets before queries outside", &[10], before_other_causes, &[OTHER_CAUSES]),
     ]
 }

@@ -2,8 +2,7 @@
 
 use super::*;
 use crate::protocol::judge;
-use crate::transcript::{transcript, written};
-use std::collections::BTreeSet;
+use crate::transcript::written;
 
 pub fn rows() -> Vec<Row<Wrong>> {
     [numbers(), fronts(), layers(), left(), honest()].into_iter().flatten().collect()
@@ -46,9 +45,9 @@ fn numbers() -> Vec<Row<Wrong>> {
             .differs(&WRITTEN)
             .differs(&CASES),
         with_numbers("a count has one byte", |count| COUNT(count % 256), ENTRY)
-            .differs(&[ANY, COUNTS, NEAR, LARGE, AGAIN, JUDGED])
             // With fewer than 256 queries and entries nothing shows.
-            .smallest(ANY, "k 2; rate 1; step 1; "),
+            .differs(&[LARGE])
+            .smallest(LARGE, "k 8; rate 1; step 1; "),
         with_numbers("an entry has seven bytes of its own", COUNT, |entry| {
             ENTRY(entry & (u64::MAX >> 8))
         })
@@ -83,7 +82,7 @@ fn with_entries(
 fn fronts() -> Vec<Row<Wrong>> {
     vec![
         with_entries("the rate and the step are swapped", 0, |all| vec![all[0], all[2], all[1]])
-            .differs(&[HONEST, ANY, NEAR, LARGE, SAFE, AGAIN, JUDGED])
+            .differs(&[HONEST, ANY, NEAR, LONG, LARGE, SAFE, AGAIN, JUDGED])
             .smallest(HONEST, "k 3; rate 1; step 2; "),
         with_entries("the offset is left out", 1, |all| all[1..].to_vec())
             .differs(&WRITTEN)
@@ -106,7 +105,7 @@ fn fronts() -> Vec<Row<Wrong>> {
         with_entries("the challenges come from behind", 2, |all| {
             all.iter().rev().copied().collect()
         })
-        .differs(&[HONEST, ANY, NEAR, LARGE, SAFE, AGAIN, JUDGED, CASE_K])
+        .differs(&[HONEST, ANY, NEAR, LONG, LARGE, SAFE, AGAIN, JUDGED, CASE_K])
         .smallest(ANY, "k 3; rate 1; step 1; "),
         with_entries("the queries are sorted", 3, |all| {
             let mut sorted = all.to_vec();
@@ -114,11 +113,11 @@ fn fronts() -> Vec<Row<Wrong>> {
             sorted
         })
         .differs(&WRITTEN),
-        with_entries("a query that comes again is left out", 3, |all| {
-            let mut met = BTreeSet::new();
-            all.iter().copied().filter(|query| met.insert(*query)).collect()
+        // It is judged as it should be.
+        with_entries("an even query stands for the odd one behind it", 3, |all| {
+            all.iter().map(|query| query & !1).collect()
         })
-        .differs(&[ANY, COUNTS, NEAR, LARGE, AGAIN])
+        .differs(&[HONEST, ANY, COUNTS, NEAR, NEAR_EACH_OTHER, LARGE, SAFE, AGAIN])
         .among_others(),
     ]
 }
@@ -145,14 +144,14 @@ fn layers() -> Vec<Row<Wrong>> {
                 all.splice(5..behind_the_store, [Section::of(&run.store)]);
             }
         })
-        .differs(&[HONEST, ANY, LARGE, SAFE, AGAIN, JUDGED])
+        .differs(&[HONEST, ANY, LONG, LARGE, SAFE, AGAIN, JUDGED])
         // The least with two.
         .smallest(ANY, "k 4; rate 1; step 1; "),
         with_sections("the layers come from behind", |_, all| {
             let behind_the_layers = all.len() - 1;
             all[4..behind_the_layers].reverse();
         })
-        .differs(&[HONEST, ANY, NEAR, LARGE, SAFE, AGAIN, JUDGED, CASE_K]),
+        .differs(&[HONEST, ANY, NEAR, LONG, LARGE, SAFE, AGAIN, JUDGED, CASE_K]),
         with_sections("the last coefficients come from behind", |_, all| {
             all.last_mut().expect("the last section").entries.reverse();
         })

@@ -4,7 +4,7 @@ use super::*;
 use crate::answer::{refused, refused_at};
 use crate::compare::wrong::{always_instead, first_of_all, refusing, right, taking, when_refused};
 use crate::protocol::QUERY_COUNTS;
-use crate::transcript::{transcript, written};
+use crate::transcript::written;
 
 pub fn rows() -> Vec<Row<Wrong>> {
     let all = [writing_all_the_same(), lengths(), counts(), queries_out_of_range()];
@@ -12,10 +12,21 @@ pub fn rows() -> Vec<Row<Wrong>> {
 }
 
 /// All in which the queries are refused, and nothing comes before them.
-const OF_QUERIES: [&str; 5] = [COUNTS, ONE_OUT, SOME_OUT, NEAR, SAFE];
+const OF_QUERIES: [&str; 10] = [
+    COUNTS,
+    ONE_OUT,
+    SOME_OUT,
+    NEAR,
+    SAFE,
+    PAIR,
+    SEVERAL_SHARED,
+    NEAR_EACH_OTHER,
+    OTHER_CAUSES,
+    LONG,
+];
 
 /// All in which a query is out of range, and nothing comes before it.
-const OUT_OF_RANGE: [&str; 3] = [ONE_OUT, SOME_OUT, SAFE];
+const OUT_OF_RANGE: [&str; 5] = [ONE_OUT, SOME_OUT, OTHER_CAUSES, SEVERAL, SAFE];
 
 /// All in which nothing is refused.
 const TAKEN: [&str; 8] = [HONEST, ANY, LARGE, AGAIN, JUDGED, CASE_G, CASE_H, CASE_K];
@@ -29,7 +40,7 @@ fn writing_all_the_same() -> Vec<Row<Wrong>> {
     });
     let before_the_queries = when_refused(|call, outputs| {
         let refusal = call.refusal().map(|refusal| refusal.number);
-        if refusal == Some(9) || refusal == Some(10) {
+        if [9, 10, 17].map(Some).contains(&refusal) {
             copy_what_fits(&transcript(&run_of(call), &call[Queries]), outputs.bytes());
         }
     });
@@ -140,9 +151,7 @@ fn counts() -> Vec<Row<Wrong>> {
             .differs(&[COUNTS, NEAR, SOME_OUT, SAFE])
             .among_others(),
         row("300 queries are taken", taking(9, |call| call[Queries].len() == 300)).differs(&[NEAR]),
-        row("the most queries are refused", most_refused)
-            .differs(&[ANY, COUNTS, NEAR, LARGE, AGAIN])
-            .among_others(),
+        row("the most queries are refused", most_refused).differs(&[LARGE]),
         row("a wrong count of queries comes before list 8", before_list_8)
             .differs(&[NEAR, SEVERAL])
             .agrees(&TAKEN),
@@ -175,6 +184,6 @@ fn queries_out_of_range() -> Vec<Row<Wrong>> {
         row("a query out of range is written", written_first).differs(&OUT_OF_RANGE),
         row("only the lowest bits of a query count", lowest_bits).differs(&OUT_OF_RANGE),
         row("a query out of range is counted from 1", from_1).differs(&OUT_OF_RANGE),
-        row("the last query out of range is named", last).differs(&[SOME_OUT]),
+        row("the last query out of range is named", last).differs(&[SOME_OUT, OTHER_CAUSES]),
     ]
 }
