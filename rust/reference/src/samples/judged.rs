@@ -43,14 +43,14 @@ pub(super) fn cases_of_table_a() -> Vec<Judging> {
         judged(&of_case_f(), &[0, 3]),
         judged(&of_case_h(), &[0, 3]),
         judged(&of_case_h(), &[0]),
-        judged(&of_case_j(2), &[0, 1, 2, 3]),
+        judged(&of_case_j(2), &[0, 3]),
     ]
 }
 
 /// Honest runs of two and three rounds.
 pub(super) fn accepted() -> Vec<Judging> {
     let random = &mut Random::named("judged, accepted");
-    vec![judged(&right(random, 3, 1), &[5, 5]), judged(&right(random, 4, 1), &[13])]
+    vec![judged(&right(random, 3, 1), &[5, 2]), judged(&right(random, 4, 1), &[13])]
 }
 
 /// Those of two rounds, those of three, and one whose word has too high a degree.
@@ -75,8 +75,14 @@ pub(super) fn failing() -> [Vec<Judging>; 3] {
 }
 
 pub(super) fn refused() -> Vec<Judging> {
-    [with_bad_parameters(), with_wrong_lengths(), with_dependent_bases(), with_wrong_queries()]
-        .concat()
+    [
+        with_bad_parameters(),
+        with_wrong_lengths(),
+        with_dependent_bases(),
+        with_wrong_queries(),
+        with_shared_cosets(),
+    ]
+    .concat()
 }
 
 /// There is no query either.
@@ -114,7 +120,24 @@ fn with_wrong_queries() -> Vec<Judging> {
         judged(&failing, &[]),
         judged(&right, &[4; 257]),
         judged(&failing, &[0, 3, 4, 5]),
-        judged(&right, &[u64::MAX, 1]),
+        // Two share a coset as well, before the one out of range and behind it.
+        judged(&right, &[0, 1, 4]),
+        judged(&right, &[u64::MAX, 1, 0]),
+    ]
+}
+
+/// Equal queries, two in one coset with each of the steps, and two pairs, of which the one that is
+/// whole first counts. Of each step there are two cosets.
+fn with_shared_cosets() -> Vec<Judging> {
+    let random = &mut Random::named("judged, shared cosets");
+    let [step_1, step_2, step_3] = [(2, 1), (3, 2), (4, 3)].map(|(k, step)| right(random, k, step));
+    let failing = changed(&step_1, |run| run.last[0] ^= 1);
+    vec![
+        judged(&step_1, &[3, 3]),
+        judged(&failing, &[1, 2, 0]),
+        judged(&failing, &[0, 3, 2, 1]),
+        judged(&step_2, &[3, 4, 0]),
+        judged(&step_3, &[8, 7, 15]),
     ]
 }
 
@@ -127,6 +150,7 @@ mod tests {
     fn every_cause_of_a_judge_occurs() {
         let numbers = [accepted(), failing().concat(), refused()].concat().into_iter();
         let numbers = numbers.map(|Judging { run, queries }| judge(&run, &queries).number);
-        assert!(numbers.collect::<BTreeSet<_>>().into_iter().eq([0, 4, 5, 6, 7, 8, 9, 10, 11, 13]));
+        let due = [0, 4, 5, 6, 7, 8, 9, 10, 11, 13, 17];
+        assert!(numbers.collect::<BTreeSet<_>>().into_iter().eq(due));
     }
 }
