@@ -9,6 +9,7 @@ use crate::field::{product, sum};
 use crate::fold::Coset;
 use crate::parameters::Parameters;
 use crate::protocol::{cosets_from, Run};
+use crate::queries::apart;
 use crate::random::Random;
 use crate::transcript::{judge_of_program, lines, sections, transcript, written, Section};
 use std::path::Path;
@@ -74,6 +75,7 @@ fn of_numbers() -> Vec<Example> {
         ("number_09", of_case_p(&too_many_queries_of_case_p())),
         ("number_10", transcript(&of_case_k(), &[5, 8])),
         ("number_11", changed(|all| all[6].entries[0] = 2)),
+        ("number_17", transcript(&of_case_k(), &[5, 0, 4])),
     ]
 }
 
@@ -95,8 +97,7 @@ fn of_limits() -> Vec<Example> {
     let run = honest(random, parameters);
     // The queries begin behind a number that nothing needs: without it they would be others.
     random.number();
-    let queries: Vec<u64> = (0..34).map(|_| random.below(run.word.len()) as u64).collect();
-    let largest = transcript(&run, &queries);
+    let largest = transcript(&run, &apart(random, parameters, 34));
     let one_more = [&largest[..], &[0]].concat();
     vec![("number_14", one_more), ("largest", largest)]
 }
