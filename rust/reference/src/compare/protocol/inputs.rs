@@ -7,6 +7,7 @@ pub mod right;
 pub mod together;
 
 use crate::parameters::{all_up_to, Parameters};
+use crate::protocol::QUERY_COUNTS;
 use crate::queries::apart;
 use crate::random::Random;
 
@@ -29,6 +30,14 @@ pub fn any_query(random: &mut Random, parameters: Parameters) -> u64 {
 /// Any of them, which may share their cosets.
 pub fn any_queries(random: &mut Random, parameters: Parameters, count: usize) -> Vec<u64> {
     (0..count).map(|_| any_query(random, parameters)).collect()
+}
+
+/// A few, or as many as there may be.
+pub fn any_count(random: &mut Random) -> usize {
+    match random.below(8) {
+        0 => *QUERY_COUNTS.end(),
+        few => few,
+    }
 }
 
 /// So many queries, apart from each other for as long as there are cosets left.

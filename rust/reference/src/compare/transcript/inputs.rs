@@ -8,7 +8,7 @@ use super::{Amounts, Bytes};
 use crate::cases::{of_case_f, of_case_k};
 use crate::compare::cosets::{self, Bases};
 use crate::compare::protocol::inputs::queries::{self, Lists};
-use crate::compare::protocol::inputs::{damaged, known, right, together};
+use crate::compare::protocol::inputs::{any_count, damaged, known, right, together};
 use crate::parameters::{all_up_to, Parameters};
 use crate::queries::apart;
 use crate::random::Random;
@@ -148,11 +148,11 @@ fn another(random: &mut Random) -> Random {
     Random::seeded(random.number())
 }
 
-/// An honest transcript of each, with a few queries.
+/// An honest transcript of each, with a few queries or as many as there may be.
 fn honest(random: &mut Random, all: &[Parameters]) -> Vec<Bytes> {
     let one = |&parameters: &Parameters| {
         let run = known::honest(random, parameters);
-        let count = 1 + random.below(8);
+        let count = any_count(random);
         transcript(&run, &apart(random, parameters, count))
     };
     all.iter().map(one).collect()

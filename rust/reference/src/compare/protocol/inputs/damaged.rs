@@ -1,8 +1,8 @@
 //! Honest runs with entries, last coefficients or challenges made wrong.
 
-use super::{all_queries, any_query, known, right, turns};
+use super::{all_queries, any_count, any_query, known, right, turns};
 use crate::parameters::{all_up_to, Parameters};
-use crate::protocol::{Run, QUERY_COUNTS};
+use crate::protocol::Run;
 use crate::queries::{apart, in_each_coset};
 use crate::random::Random;
 use crate::transcript::Judging;
@@ -90,10 +90,7 @@ pub fn some_of_large(
 /// may be.
 fn with_some_damaged(random: &mut Random, mut run: Run) -> Judging {
     let Run { parameters, .. } = run;
-    let count = match random.below(8) {
-        0 => *QUERY_COUNTS.end(),
-        few => few,
-    };
+    let count = any_count(random);
     let mut queries = apart(random, parameters, count);
     for _ in 0..1 + random.below(3) {
         let (layer, index) = any_entry(random, &run);
