@@ -151,9 +151,7 @@ impl Operation {
         }
         call.with_fill(FILLS[random.below(2)])
     }
-}
 
-impl Operation {
     /// In the two halves of the word, and so in two cosets wherever there are two.
     fn any_queries(&self, random: &mut Random, k: u64) -> Vec<u64> {
         let in_range = 1 << k.min(*self.dimensions.end());

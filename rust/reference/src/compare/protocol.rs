@@ -360,6 +360,9 @@ fn judgings(library: &dyn Library, amounts: &Amounts) -> Vec<Comparison> {
         lists("judge, several queries in one coset", together::several),
         lists("judge, queries near each other", together::near),
         lists("judge, queries in one coset and other causes", together::and_other_causes),
+        judgings("judge, queries in one coset of damaged runs", &|random| {
+            damaged::some_in_one_coset(random, queries)
+        }),
         compared(library, "judge, long lists of queries", judge_call, |random| {
             together::long(random, &long)
         }),

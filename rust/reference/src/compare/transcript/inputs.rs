@@ -38,7 +38,7 @@ enum Source {
     Others(fn(&mut Random, &Amounts) -> Vec<Bytes>),
 }
 
-pub const SORTS: [Sort; 33] = [
+pub const SORTS: [Sort; 34] = [
     Sort("honest runs", Turns([84, 42, 21, 12, 7, 5], &[right::honest_with_queries])),
     Sort("honest runs of large parameters", Honest(Amounts::large)),
     Sort("honest runs of the largest parameters", Honest(Amounts::largest)),
@@ -78,10 +78,14 @@ pub const SORTS: [Sort; 33] = [
     Sort("powers of two as queries", OneSection(4, QUERIES, powers_of_two_as_queries)),
     Sort("two queries in one coset", Queries([1, 0, 1, 0, 0, 0], together::one_pair)),
     Sort("several queries in one coset", Queries([1, 0, 1, 0, 0, 0], together::several)),
-    Sort("queries near each other", Queries([1, 1, 0, 0, 0, 0], together::near)),
+    Sort("queries near each other", Queries([1, 1, 1, 0, 0, 0], together::near)),
     Sort(
         "queries in one coset and other causes",
-        Queries([1, 1, 0, 0, 0, 0], together::and_other_causes),
+        Queries([1, 0, 1, 0, 0, 0], together::and_other_causes),
+    ),
+    Sort(
+        "queries in one coset of damaged runs",
+        Turns([1, 1, 1, 0, 0, 0], &[damaged::some_in_one_coset]),
     ),
     Sort("long lists of queries", Others(long_lists)),
     Sort("queries in one coset and faults behind them", Made(3, in_one_coset_with_faults)),

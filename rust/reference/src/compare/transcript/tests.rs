@@ -83,11 +83,12 @@ const QUERIES: &str = "counts of queries";
 const OUTSIDE: &str = "queries out of range";
 const POWERS: &str = "powers of two as queries";
 const SEVERAL: &str = "several causes";
+const SHARED_DAMAGED: &str = "queries in one coset of damaged runs";
 const FAULTS: &str = "queries in one coset and faults behind them";
 const LIMIT: &str = "lengths near the limit and far longer";
 
 /// The numbers that are due among the byte strings of each sort.
-const DUE: [(&str, &[u64]); 33] = [
+const DUE: [(&str, &[u64]); 34] = [
     (HONEST, &[0]),
     ("honest runs of large parameters", &[0]),
     ("honest runs of the largest parameters", &[0]),
@@ -117,6 +118,7 @@ const DUE: [(&str, &[u64]); 33] = [
     (SEVERAL_SHARED, &[0, 11, 17]),
     (NEAR, &[0, 11, 17]),
     (OTHER_CAUSES, &[9, 10]),
+    (SHARED_DAMAGED, &[17]),
     (LONG, &[0, 11, 17]),
     (FAULTS, &[1, 2, 9, 10, 17]),
     (SEVERAL, &[1, 2, 3, 4, 5, 6, 7, 8, 9, 10, 17]),

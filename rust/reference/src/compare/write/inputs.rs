@@ -54,8 +54,8 @@ const NEAR: usize = 9;
 /// Counts of queries that are taken, and counts that are not.
 const ALL_COUNTS: [usize; 8] = [0, 1, 2, 255, 256, 257, 258, 300];
 
-/// All up to a dimension, and larger settings. The right length too, with which too many queries are
-/// refused for their count, and more than there are cosets for sharing one.
+/// All up to a dimension, and larger settings. The right length too, with which too many queries
+/// are refused for their count, and more than there are cosets for sharing one.
 pub fn near(
     mut random: Random,
     (largest_k, larger): (u64, &'static [Setting]),

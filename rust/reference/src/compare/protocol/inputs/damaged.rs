@@ -1,8 +1,9 @@
 //! Honest runs with entries, last coefficients or challenges made wrong.
 
+use super::together::insert_beside;
 use super::{all_queries, any_count, any_query, known, right, turns};
 use crate::parameters::{all_up_to, Parameters};
-use crate::protocol::Run;
+use crate::protocol::{Run, QUERY_COUNTS};
 use crate::queries::{apart, in_each_coset};
 use crate::random::Random;
 use crate::transcript::Judging;
@@ -69,6 +70,17 @@ pub fn some(random: &mut Random, amounts: &[usize]) -> Vec<Judging> {
     for (parameters, turn) in turns(amounts) {
         let honest = right::honest(random, parameters, turn);
         all.extend((0..TIMES).map(|_| with_some_damaged(random, honest.clone())));
+    }
+    all
+}
+
+/// The same with two more queries, each in the coset of an earlier one.
+pub fn some_in_one_coset(random: &mut Random, amounts: &[usize]) -> Vec<Judging> {
+    let mut all = some(random, amounts);
+    for Judging { run, queries } in &mut all {
+        queries.truncate(QUERY_COUNTS.end() - 2);
+        insert_beside(random, run.parameters, queries);
+        insert_beside(random, run.parameters, queries);
     }
     all
 }

@@ -22,6 +22,13 @@ fn any_beside(random: &mut Random, parameters: Parameters, query: u64) -> u64 {
     query ^ random.below(entries(parameters) as usize) as u64
 }
 
+/// Inserts a query in the coset of an earlier one.
+pub fn insert_beside(random: &mut Random, parameters: Parameters, queries: &mut Vec<u64>) {
+    let earlier = random.below(queries.len());
+    let later = earlier + 1 + random.below(queries.len() - earlier);
+    queries.insert(later, any_beside(random, parameters, queries[earlier]));
+}
+
 // One pair.
 
 /// At all places of short lists, the same query again and another one of its coset; two queries at
@@ -32,10 +39,8 @@ pub fn one_pair(random: &mut Random, parameters: Parameters) -> Vec<Vec<u64>> {
         (0..entries(parameters)).map(|distance| vec![one, one ^ distance]).collect();
     for count in 2..=5.min(most_apart(parameters) + 1) {
         for later in 1..count {
-            lists.extend(
-                (0..later)
-                    .flat_map(|earlier| pairs_at(random, parameters, count, [earlier, later])),
-            );
+            let at = |earlier| pairs_at(random, parameters, count, [earlier, later]);
+            lists.extend((0..later).flat_map(at));
         }
     }
     lists.extend(in_the_longest(random, parameters));
@@ -159,8 +164,9 @@ pub fn and_other_causes(random: &mut Random, parameters: Parameters) -> Vec<Vec<
 pub fn long(mut random: Random, all: &[Parameters]) -> impl Iterator<Item = Judging> + '_ {
     all.iter().enumerate().flat_map(move |(turn, &parameters)| {
         let random = &mut random;
-        let mut lists = vec![apart(random, parameters, MOST), in_each_coset(random, parameters)];
-        lists[1].truncate(MOST);
+        let mut in_order = in_each_coset(random, parameters);
+        in_order.truncate(MOST);
+        let mut lists = vec![apart(random, parameters, MOST), in_order];
         lists.extend(in_the_longest(random, parameters));
         lists.extend((0..parameters.k).map(|bit| vec![0, 1 << bit]));
         honest_and_failing(&coset_and_challenges(random, parameters, turn), lists)

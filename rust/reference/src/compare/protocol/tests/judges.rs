@@ -15,6 +15,7 @@ const CHALLENGES: &str = "judge, another challenge";
 const COUNTS: &str = "judge, counts of queries";
 const ONE_OUT: &str = "judge, a query out of range";
 const SOME_OUT: &str = "judge, several queries out of range";
+const SHARED_DAMAGED: &str = "judge, queries in one coset of damaged runs";
 const SEVERAL: &str = "judge, several causes";
 const OTHER_ANSWER: &str = "judge with an answer list of another length";
 const SAFE: &str = "judge, safe calls";
@@ -54,6 +55,7 @@ const OTHERS: Others = Others {
         SEVERAL_SHARED,
         NEAR,
         OTHER_CAUSES,
+        SHARED_DAMAGED,
         LONG,
     ],
     safely: &[CASES_G_TO_I, CASE_K, CASE_L, CASE_P, ACCEPTED],
@@ -71,7 +73,9 @@ fn the_table_holds() {
         shared_cosets(),
         reads(),
         refusals::rows(&JUDGE, HONEST),
-        together::rows(&JUDGE, HONEST, &[], |call, _| judged(&run_of(call), &call[Queries])),
+        together::rows(&JUDGE, HONEST, &[SHARED_DAMAGED], |call, _| {
+            judged(&run_of(call), &call[Queries])
+        }),
         shared_rows(&JUDGE, &OTHERS),
     ];
     hold(rows, |library| of_judge(library, &FEW));
@@ -99,12 +103,14 @@ fn in_all() -> Vec<Row<Wrong>> {
         judge("all are turned away", ALL, |_, _, _| refused(4))
             .differs(&FAILING)
             .differs(&SHARED)
+            .differs(&[SHARED_DAMAGED])
             .differs(&[HONEST, ONE_OUT, SOME_OUT, OTHER_CAUSES, ACCEPTED])
             .differs(&[CASES_G_TO_I, CASE_K, CASE_L, CASE_O, CASE_P])
             .agrees(&[OTHER_ANSWER]),
         judge("nothing is refused before a round", BEFORE_WORK, |_, _, _| accepted(0))
             .differs(&[COUNTS, ONE_OUT, SOME_OUT, OTHER_CAUSES, SEVERAL, SAFE, CASE_O, CASE_P])
             .differs(&SHARED)
+            .differs(&[SHARED_DAMAGED])
             .agrees(&[HONEST, EACH, CASE_L]),
         judge("only the constant of the last polynomial counts", JUDGED, |run, queries, _| {
             let mut constant = run.clone();
@@ -291,14 +297,16 @@ fn shared_cosets() -> Vec<Row<Wrong>> {
         judge("shared cosets are accepted with all their reads", &[17], |run, queries, _| {
             failing_at(run, queries, None)
         })
-        .differs(&SHARED),
+        .differs(&SHARED)
+        .differs(&[SHARED_DAMAGED]),
         judge("rounds come before shared cosets", &[17], |run, queries, right| {
             match judged(run, queries) {
                 failed if failed.number == 11 => failed,
                 _ => right,
             }
         })
-        .differs(&SHARED),
+        .differs(&SHARED)
+        .differs(&[SHARED_DAMAGED]),
         judge("queries before a shared coset are judged first", &[17], |run, queries, right| {
             let before = &queries[..right.place.map_or(0, |place| place as usize)];
             match judged(run, before) {
@@ -306,13 +314,15 @@ fn shared_cosets() -> Vec<Row<Wrong>> {
                 _ => right,
             }
         })
-        .differs(&SHARED),
+        .differs(&SHARED)
+        .differs(&[SHARED_DAMAGED]),
         judge("a query in a coset that was met is passed over", &[17], |run, queries, _| {
             let mut met = BTreeSet::new();
             let new = queries.iter().filter(|query| met.insert(**query >> run.parameters.step));
             judged(run, &new.copied().collect::<Vec<u64>>())
         })
-        .differs(&SHARED),
+        .differs(&SHARED)
+        .differs(&[SHARED_DAMAGED]),
     ]
 }
 

@@ -23,8 +23,8 @@ pub type Taking = fn(&Call, &mut Outputs) -> Answer;
 
 type Names = &'static [&'static str];
 
-/// The rows of an operation with a comparison of right calls, and with others in which queries share
-/// a coset.
+/// The rows of an operation with a comparison of right calls, and with others in which queries
+/// share a coset.
 pub fn rows(
     operation: Op,
     right_calls: &'static str,

@@ -258,7 +258,7 @@ fn earlier_place(bytes: &[u8], right: Answer) -> Answer {
 }
 
 /// All in which two queries share a coset, and nothing comes before that.
-const SHARED: [&str; 6] = [PAIR, SEVERAL_SHARED, NEAR, LONG, FAULTS, SEVERAL];
+const SHARED: [&str; 7] = [PAIR, SEVERAL_SHARED, NEAR, SHARED_DAMAGED, LONG, FAULTS, SEVERAL];
 
 pub fn shared_cosets() -> Vec<Row<Judges>> {
     let found = |what: &str, find: Find, differ: &[&str]| {
