@@ -257,6 +257,16 @@ fn earlier_place(bytes: &[u8], right: Answer) -> Answer {
     refused_at(17, earlier.expect("an earlier place") as u64)
 }
 
+/// Looks at each query as soon as it is read, where the bytes end in their section.
+fn as_they_are_read(bytes: &[u8], right: Answer) -> Answer {
+    let (sections, rest) = split(bytes, |count| count);
+    let ([first, _, _], Some(4)) = (&sections[..], right.place) else { return right };
+    let (entries, _) = rest.get(4..).unwrap_or_default().as_chunks();
+    let read: Vec<u64> = entries.iter().map(|entry| u64::from_le_bytes(*entry)).collect();
+    let places = together::again(&read, |query| query >> first.entries[2]);
+    places.first().map_or(right, |&place| refused_at(17, place as u64))
+}
+
 /// All in which two queries share a coset, and nothing comes before that.
 const SHARED: [&str; 7] = [PAIR, SEVERAL_SHARED, NEAR, SHARED_DAMAGED, LONG, FAULTS, SEVERAL];
 
@@ -281,6 +291,8 @@ pub fn shared_cosets() -> Vec<Row<Judges>> {
         told("the earlier place is told", &[17], earlier_place, &SHARED),
         told("the last such place is told", &[17], last_place, &[SEVERAL_SHARED]),
         told("shared cosets have reads", &[17], |_, a| Answer { reads: 2, ..a }, &SHARED),
+        told("shared cosets before the end of their section", &[1], as_they_are_read, &[FAULTS])
+            .agrees(&[CUT_NEAR]),
         told("shared cosets before the count", &[9], before_other_causes, &[OTHER_CAUSES]),
         told("shared cosets before queries outside", &[10], before_other_causes, &[OTHER_CAUSES]),
     ]
