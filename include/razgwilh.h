@@ -175,7 +175,7 @@ static inline struct rz_output rz_output_of(uint64_t *entries, size_t length);
  *   word                              2^k
  *   store                             rz_store_length
  *   last coefficients                 rz_last_length
- *   queries                           1 to 256
+ *   queries                           1 to 256, at most 2^(k - step)
  *   bytes of a transcript             rz_transcript_length, in bytes
  *   coefficients to be encoded        at most 2^k, where k is the length of the basis, 0 to 12
  *   values of an encoding             2^k

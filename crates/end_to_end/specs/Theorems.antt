@@ -20,8 +20,8 @@ use Rattle.prover.specs.Proved.{Proved}
 use Rattle.writer.specs.Written.{Written}
 use Rattle.fri.specs.Demand.{ValidCoset, ProverInput, LowDegree, ValidQueries, Apart, Any, Visits, Elements, Sound}
 
--- a word of low degree over a valid coset, any challenges, two lent lists of the lengths due, and a valid query list in
--- which no two queries share a first-layer coset
+-- a word of low degree over a valid coset, any challenges, two lent lists of the lengths due, and a valid query list
+-- in which no two queries share a first-layer coset
 pub record Honest (run : Run) (queries : List ℕ) : Type 0 where
   pub coset : ValidCoset run
   pub input : ProverInput run

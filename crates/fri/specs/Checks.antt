@@ -1,4 +1,4 @@
--- The checks of parameters, lists, bases and queries, in the order of document 01.
+-- The checks of parameters, lists, bases and queries, in the order of documents 01 and 02.
 use mathlib.Core.Bool.{Bool, false, cond, _&&_, _||_}
 use mathlib.Core.List.{List, [], _∷_, _++_, map}
 use Prim.Native.Nat.{ℕ, zero, suc, _+_, _/_, _^_}

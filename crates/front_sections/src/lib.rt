@@ -84,7 +84,7 @@ fn checked_basis(bytes: &[u8], at: usize, parameters: Parameters, basis: &mut [u
     run_checks::checked_bases(parameters, &basis[..])
 }
 
-// Section 4: 1 to 256 queries (9), then their indices.
+// Section 4: 1 to 256 queries (9), then their indices (10, then 17).
 fn checked_queries(bytes: &[u8], at: usize, parameters: Parameters) -> Outcome
     requires { ⌜ (at ≡ sectionStart (now bytes) 4) × ParametersOf (now bytes) parameters ⌝ }
     ensures { λ r. ⌜ r ≡ queriesSection (now (bytes .entry)) ⌝ }

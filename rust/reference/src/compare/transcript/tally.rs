@@ -4,7 +4,7 @@ use super::Bytes;
 use crate::transcript::{judge, judge_of_program};
 use std::collections::HashSet;
 
-/// The numbers from 0, accepted, to the highest that the paper has.
+/// The numbers from 0, accepted, to the highest that the papers have.
 const NUMBERS: usize = 18;
 
 /// All byte strings so far, and how often each number was due from the library and from the

@@ -152,7 +152,7 @@ fn there_are_twenty_thousand_byte_strings() {
 }
 
 /// What wrong judges are compared with: the byte strings of each sort, and the numbers that are
-/// due for them. The sorts that cost much are left out, and so are long lists of queries; of many
+/// due for them. The sorts that cost much are left out, and so is what takes many reads; of many
 /// byte strings only some are taken.
 static INPUTS: LazyLock<Vec<(&str, Vec<Bytes>, BTreeSet<u64>)>> = LazyLock::new(|| {
     let sorts = SORTS.iter().filter(|sort| ![FLIPPED, LIMIT].contains(&sort.0));
