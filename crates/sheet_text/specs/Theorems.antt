@@ -1,0 +1,62 @@
+-- What is proved of marking sheets, stated of their bytes: proofs/Theorems.antt has the values.
+use mathlib.Core.Path.{_≡_}
+use mathlib.Core.Logic.{_⊎_, _↔_, _≢_}
+use mathlib.Core.List.{List, []}
+use Prim.Native.Nat.{ℕ, _+_, _*_, _%_, _≤_, _<_}
+use lib.ListN.{length, getD, take, drop}
+use Rattle.refusal.specs.declared.Cause.the-variants.{RoundCheckFails}
+use Rattle.fri.specs.declared.Answer.the-variants.{Accepted, Refused}
+use Rattle.fri.specs.declared.Verdict.{Verdict}
+use Rattle.fri.specs.Judge.{numberOfAnswer}
+use Rattle.transcript.specs.Sections.{transcriptRounds, runIn, queriesIn}
+use Rattle.transcript.specs.Judge.{transcriptVerdict, longestTranscript, inputLimit, inputVerdict}
+use Rattle.line_text.specs.Digits.{bytes}
+use Rattle.sheet_text.specs.Sheet.{lineLength, sheetLine, sheetBy, transcriptSheet, sheetOf, largestSheet}
+
+-- line n of a sheet, and the mark in it
+abbrev pub lineAt : (sheet : List ℕ) (n : ℕ) → List ℕ
+lineAt sheet n = take lineLength (drop (lineLength * n) sheet)
+
+abbrev pub markAt : (sheet : List ℕ) (n : ℕ) → List ℕ
+markAt sheet n = take 2 (drop 53 (lineAt sheet n))
+
+-- the sheet beside what a judge of the same bytes answers
+pub record SheetsBeside (judge : List ℕ → Verdict) : Type 0 where
+  -- there are lines exactly where it accepts or answers 11
+  pub lines : (input : List ℕ)
+      → (sheetBy judge input ≢ [])
+      ↔ ((numberOfAnswer (judge input .answer) ≡ 0) ⊎ (numberOfAnswer (judge input .answer) ≡ 11))
+  -- then there are queries · r lines
+  pub count : (input : List ℕ) → sheetBy judge input ≢ []
+      → length (sheetBy judge input) ≡ lineLength * (length (queriesIn input) * transcriptRounds input)
+  -- each has 55 bytes and a line feed: this is the last byte of every 56, and no other
+  pub line-feeds : (input : List ℕ) (n : ℕ) → n < length (sheetBy judge input)
+      → (getD (sheetBy judge input) n 0 ≡ 10) ↔ (n % lineLength ≡ 55)
+  -- line t · r + i is that of query t and round i
+  pub line : (input : List ℕ) (t i : ℕ) → sheetBy judge input ≢ []
+      → t < length (queriesIn input) → i < transcriptRounds input
+      → lineAt (sheetBy judge input) (t * transcriptRounds input + i)
+      ≡ sheetLine (runIn input) t (getD (queriesIn input) t 0) i
+  -- where there are lines, all are `ok` if and only if the judge accepts
+  pub accepted : (input : List ℕ) → sheetBy judge input ≢ []
+      → ((n : ℕ) → lineLength * n < length (sheetBy judge input) → markAt (sheetBy judge input) n ≡ bytes "ok")
+      ↔ (judge input .answer ≡ Accepted)
+  -- the judge's 11 names the query and the round of the first `no`
+  pub first-no : (input : List ℕ) (t i : ℕ)
+      → (judge input .answer ≡ Refused (RoundCheckFails t i))
+      ↔ ((t < length (queriesIn input)) × (i < transcriptRounds input)
+      × (markAt (sheetBy judge input) (t * transcriptRounds input + i) ≡ bytes "no")
+      × ((n : ℕ) → n < t * transcriptRounds input + i → markAt (sheetBy judge input) n ≡ bytes "ok"))
+  pub largest : (input : List ℕ) → length (sheetBy judge input) ≤ largestSheet
+
+pub record Sheets : Type 0 where
+  -- what the program prints
+  pub program : SheetsBeside inputVerdict
+  -- the sheet of a transcript of any length
+  pub library : SheetsBeside transcriptVerdict
+  -- they are the same up to the limit; over it nothing is printed
+  pub short : (input : List ℕ) → length input ≤ inputLimit → sheetOf input ≡ transcriptSheet input
+  pub long : (input : List ℕ) → inputLimit < length input → sheetOf input ≡ []
+  -- a reader of larger files needs no more bytes than those of the longest transcript and one
+  pub first : (input : List ℕ) (read : ℕ) → longestTranscript < read
+      → transcriptSheet (take read input) ≡ transcriptSheet input
