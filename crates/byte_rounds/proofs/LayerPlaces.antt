@@ -17,7 +17,7 @@ use Rattle.round_checks.specs.Rounds.{noRound, nextQueryPoint, valueFolded}
 use Rattle.round_checks.proofs.Runs.{Checked, parametersOf, sizeIn, roundIn, indexOf, cosetIndex, cosetBegin}
 use Rattle.round_checks.proofs.Runs.{queryPointOf, index-inside, coset-ends, computed-by, found-by}
 use Rattle.round_checks.proofs.Judged.{Prepared, BeforeRound, RoundRead}
-use Rattle.round_checks.proofs.Judged.{query-inside, round-is, next-of, next-round}
+use Rattle.round_checks.proofs.Judged.{query-inside, round-inside, round-is, next-of, next-round}
 use Rattle.transcript.specs.Numerals.{entryAt}
 use Rattle.transcript.proofs.Numerals.{entry-of, part-of-entries}
 use Rattle.byte_rounds.specs.Layers.{layerAt, LaidOut, partAt, valueReadAt}
@@ -87,45 +87,49 @@ module _ {run : Run} (ready : Checked run) where
         ∙ entry-of bytes (placeOf run begin (suc i)) (sizeIn run (suc i)) (indexOf run j (suc i))
         (index-inside ready j (suc i) hj h)))
 
--- ---- a round, where the layers lie in the bytes
+-- ---- a query on its way through layers that lie in the bytes
 
--- before round i of a query, the entries of layer i beginning at `at`
-pub record AtLayer (run : Run) (queries : List ℕ) (count : ℕ) (table : List Round) (bytes : List ℕ)
-    (begin cosets query i : ℕ) (here : QueryPoint) (at : ℕ) : Type 0 where
-  pub before-round : BeforeRound run queries count table cosets query i here
+-- a query has come to layer i, whose entries begin at `at`
+pub record Standing (run : Run) (queries : List ℕ) (count : ℕ) (table : List Round) (bytes : List ℕ)
+    (begin query i : ℕ) (here : QueryPoint) (at : ℕ) : Type 0 where
+  pub prepared : Prepared run queries count table
   pub laid : LaidOut bytes begin run
+  pub here-is : here ≡ queryPointOf run (getD queries query 0) i
   pub at-is : at ≡ placeOf run begin i
 
-pub first-layer : {run : Run} {queries : List ℕ} {count : ℕ} {table : List Round} {bytes : List ℕ}
-    {begin cosets query : ℕ} {here : QueryPoint} → LaidOut bytes begin run
-    → BeforeRound run queries count table cosets query 0 here
-    → AtLayer run queries count table bytes begin cosets query 0 here begin
-first-layer {run} {begin = begin} laid r =
-    record { before-round = r; laid = laid; at-is = at-first (run .k) (stepsIn run) begin }
+pub first-standing : {run : Run} {queries : List ℕ} {count : ℕ} {table : List Round} {bytes : List ℕ}
+    {begin : ℕ} (query : ℕ) {here : QueryPoint} → Prepared run queries count table → LaidOut bytes begin run
+    → here ≡ queryPointOf run (getD queries query 0) 0
+    → Standing run queries count table bytes begin query 0 here begin
+first-standing {run} {begin = begin} query prepared laid here-is =
+    record { prepared = prepared; laid = laid; here-is = here-is; at-is = at-first (run .k) (stepsIn run) begin }
 
 module _ {run : Run} {queries : List ℕ} {count : ℕ} {table : List Round} {bytes : List ℕ}
-    {begin cosets query i at : ℕ} {here : QueryPoint}
-    (r : AtLayer run queries count table bytes begin cosets query i here at) (within : i < count) where
-  abbrev prepared : Prepared run queries count table
-  prepared = r .before-round .before-query .prepared
-
+    {begin query i at : ℕ} {here : QueryPoint}
+    (s : Standing run queries count table bytes begin query i here at) (within : i < count) where
   abbrev j : ℕ
   j = getD queries query 0
 
+  ready : Checked run
+  ready = s .prepared .ready
+
+  j-inside : j < 2 ^ run .k
+  j-inside = query-inside (s .prepared) query
+
   inside : i < roundsIn run
-  inside = omega (arith, prepared .count-is)
+  inside = round-inside (s .prepared) within
 
   -- ---- all numbers are small
 
   pub at-few : at ≤ 2 ^ 42
-  at-few = omega (arith, r .at-is, place-small (prepared .ready) begin i (r .laid .begins) (omega (arith, inside)))
+  at-few = omega (arith, s .at-is, place-small ready begin i (s .laid .begins) (omega (arith, inside)))
 
   pub index-few : here .index ≤ 2 ^ 20
   index-few =
       omega (
         arith,
-        ap (λ (v : QueryPoint). v .index) (r .before-round .here-is),
-        index-small (prepared .ready) j i (query-inside prepared query) (omega (arith, inside)),
+        ap (λ (v : QueryPoint). v .index) (s .here-is),
+        index-small ready j i j-inside (omega (arith, inside)),
       )
 
   module _ {next : QueryPoint} {next-at : ℕ}
@@ -134,61 +138,99 @@ module _ {run : Run} {queries : List ℕ} {count : ℕ} {table : List Round} {by
     next-place : next-at ≡ placeOf run begin (suc i)
     next-place =
         after
-        ∙ ap (λ (n : ℕ). n + 8 * sizeIn run i + 4) (r .at-is)
+        ∙ ap (λ (n : ℕ). n + 8 * sizeIn run i + 4) (s .at-is)
         ∙ at-next (run .k) (stepsIn run) begin i
 
-    next-point : next ≡ queryPointOf run j (suc i)
-    next-point = next-is ∙ next-of (r .before-round) within
+    pub next-point : next ≡ queryPointOf run j (suc i)
+    next-point = next-is ∙ next-of (s .prepared) within query (s .here-is)
 
     pub next-at-few : next-at ≤ 2 ^ 42
-    next-at-few = omega (arith, next-place, place-small (prepared .ready) begin (suc i) (r .laid .begins) inside)
+    next-at-few = omega (arith, next-place, place-small ready begin (suc i) (s .laid .begins) inside)
 
     pub next-index-few : next .index ≤ 2 ^ 20
     next-index-few =
         omega (
           arith,
           ap (λ (v : QueryPoint). v .index) next-point,
-          index-small (prepared .ready) j (suc i) (query-inside prepared query) inside,
+          index-small ready j (suc i) j-inside inside,
         )
 
-    -- ---- the two values, and the next round where they agree
+    pub next-standing : Standing run queries count table bytes begin query (i + 1) next next-at
+    next-standing =
+        record {
+          prepared = s .prepared;
+          laid = s .laid;
+          here-is = next-point ∙ ap (queryPointOf run j) (sym (add-one i));
+          at-is = next-place ∙ ap (placeOf run begin) (sym (add-one i));
+        }
 
-    module _ {computed found : ℕ}
-        (computed-is : computed
-        ≡ valueFolded (run .step) (getD table i noRound) here (partAt bytes at (run .step) here))
-        (found-is : found ≡ valueReadAt bytes next-at (ltb (i + 1) count) next (run .last)) where
-      pub read-in-bytes : RoundRead run queries count table cosets query i here next computed found
-      read-in-bytes =
-          record {
-            before-round = r .before-round;
-            round-within = within;
-            next-is = next-point;
-            computed-value =
-                computed-is
-                ∙ ap₂
-                (λ (round : Round) (v : QueryPoint). valueFolded (run .step) round v (partAt bytes at (run .step) v))
-                (round-is (r .before-round) within) (r .before-round .here-is)
-                ∙ ap
-                (λ (n : ℕ).
-                valueFolded (run .step) (roundIn run i) (queryPointOf run j i)
-                (partAt bytes n (run .step) (queryPointOf run j i)))
-                (r .at-is)
-                ∙ computed-in (prepared .ready) (r .laid) j i (query-inside prepared query) inside;
-            found-value =
-                found-is
-                ∙ ap₂ (λ (v : QueryPoint) (n : ℕ). valueReadAt bytes n (ltb (i + 1) count) v (run .last))
-                next-point next-place
-                ∙ ap₂
-                (λ (m n : ℕ).
-                valueReadAt bytes (placeOf run begin (suc i)) (ltb m n) (queryPointOf run j (suc i)) (run .last))
-                (add-one i) (prepared .count-is)
-                ∙ found-in (prepared .ready) (r .laid) j i (query-inside prepared query) inside;
-          }
+    -- ---- the two values
 
-      pub next-layer : computed ≡ found → AtLayer run queries count table bytes begin cosets query (i + 1) next next-at
-      next-layer same =
-          record {
-            before-round = next-round read-in-bytes same;
-            laid = r .laid;
-            at-is = next-place ∙ ap (placeOf run begin) (sym (add-one i));
-          }
+    pub computed-value : {computed : ℕ}
+        → computed ≡ valueFolded (run .step) (getD table i noRound) here (partAt bytes at (run .step) here)
+        → computed ≡ valueComputed run j i
+    computed-value e =
+        e
+        ∙ ap₂ (λ (round : Round) (v : QueryPoint). valueFolded (run .step) round v (partAt bytes at (run .step) v))
+        (round-is (s .prepared) within) (s .here-is)
+        ∙ ap
+        (λ (n : ℕ).
+        valueFolded (run .step) (roundIn run i) (queryPointOf run j i)
+        (partAt bytes n (run .step) (queryPointOf run j i)))
+        (s .at-is)
+        ∙ computed-in ready (s .laid) j i j-inside inside
+
+    pub found-value : {found : ℕ} → found ≡ valueReadAt bytes next-at (ltb (i + 1) count) next (run .last)
+        → found ≡ valueFound run j i
+    found-value e =
+        e
+        ∙ ap₂ (λ (v : QueryPoint) (n : ℕ). valueReadAt bytes n (ltb (i + 1) count) v (run .last)) next-point next-place
+        ∙ ap₂
+        (λ (m n : ℕ).
+        valueReadAt bytes (placeOf run begin (suc i)) (ltb m n) (queryPointOf run j (suc i)) (run .last))
+        (add-one i) (s .prepared .count-is)
+        ∙ found-in ready (s .laid) j i j-inside inside
+
+-- ---- a round of the judge
+
+-- before round i of a query, the entries of layer i beginning at `at`
+pub record AtLayer (run : Run) (queries : List ℕ) (count : ℕ) (table : List Round) (bytes : List ℕ)
+    (begin cosets query i : ℕ) (here : QueryPoint) (at : ℕ) : Type 0 where
+  pub before-round : BeforeRound run queries count table cosets query i here
+  pub standing : Standing run queries count table bytes begin query i here at
+
+pub first-layer : {run : Run} {queries : List ℕ} {count : ℕ} {table : List Round} {bytes : List ℕ}
+    {begin cosets query : ℕ} {here : QueryPoint} → LaidOut bytes begin run
+    → BeforeRound run queries count table cosets query 0 here
+    → AtLayer run queries count table bytes begin cosets query 0 here begin
+first-layer {query = query} laid r =
+    record {
+      before-round = r;
+      standing = first-standing query (r .before-query .prepared) laid (r .here-is);
+    }
+
+module _ {run : Run} {queries : List ℕ} {count : ℕ} {table : List Round} {bytes : List ℕ}
+    {begin cosets query i at : ℕ} {here : QueryPoint}
+    (r : AtLayer run queries count table bytes begin cosets query i here at) (within : i < count)
+    {next : QueryPoint} {next-at computed found : ℕ}
+    (next-is : next ≡ nextQueryPoint (run .step) (getD table i noRound .elements) here)
+    (after : next-at ≡ at + 8 * sizeIn run i + 4)
+    (computed-is : computed ≡ valueFolded (run .step) (getD table i noRound) here (partAt bytes at (run .step) here))
+    (found-is : found ≡ valueReadAt bytes next-at (ltb (i + 1) count) next (run .last)) where
+  pub read-in-bytes : RoundRead run queries count table cosets query i here next computed found
+  read-in-bytes =
+      record {
+        before-round = r .before-round;
+        round-within = within;
+        next-is = next-point (r .standing) within next-is after;
+        computed-value = computed-value (r .standing) within next-is after computed-is;
+        found-value = found-value (r .standing) within next-is after found-is;
+      }
+
+  -- the next round, where they agree
+  pub next-layer : computed ≡ found → AtLayer run queries count table bytes begin cosets query (i + 1) next next-at
+  next-layer same =
+      record {
+        before-round = next-round read-in-bytes same;
+        standing = next-standing (r .standing) within next-is after;
+      }

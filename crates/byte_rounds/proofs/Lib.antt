@@ -1,1 +1,2 @@
 pub mod LayerPlaces
+pub mod Carried

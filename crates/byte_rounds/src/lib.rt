@@ -78,7 +78,7 @@ pub fn judge_rounds(
 
 // Where the entries of the next layer begin, after those of layer i, which begin there, and a count. Layer 0 begins
 // before 2^41 (LaidOut), and twenty layers of at most 2^20 entries end before 2^42.
-fn after_layer(parameters: Parameters, at: usize, i: usize) -> usize
+pub fn after_layer(parameters: Parameters, at: usize, i: usize) -> usize
     requires { ⌜ Valid parameters × (i ≤ length (stepsBy parameters)) × (at ≤ 2 ^ 42) ⌝ }
     ensures { λ r. ⌜ r ≡ at + 8 * 2 ^ dimension (parameters .k) (stepsBy parameters) i + 4 ⌝ }
 {
@@ -88,7 +88,7 @@ fn after_layer(parameters: Parameters, at: usize, i: usize) -> usize
 
 // The fold, at the round's challenge, of the coset that holds the query's index, in a layer whose entries begin there;
 // a layer has at most 2^20 of them, so that the coset begins before 2^43.
-fn computed(bytes: &[u8], at: usize, step: usize, round: Round, here: QueryPoint) -> Element
+pub fn computed(bytes: &[u8], at: usize, step: usize, round: Round, here: QueryPoint) -> Element
     requires { ⌜ (1 ≤ step) × (step ≤ 3) × (at ≤ 2 ^ 42) × (here .index ≤ 2 ^ 20) ⌝ }
     ensures { λ r. ⌜ r .0 ≡ valueFolded step round here (partAt (now (bytes .entry)) at step here) ⌝ }
 {
@@ -116,7 +116,7 @@ fn folded(
 
 // The value that the fold must equal: an entry of the next layer, whose entries begin there, or, in the last round, the
 // last polynomial's.
-fn found(bytes: &[u8], at: usize, stored: bool, next: QueryPoint, last: &[u64]) -> Element
+pub fn found(bytes: &[u8], at: usize, stored: bool, next: QueryPoint, last: &[u64]) -> Element
     requires { ⌜ (at ≤ 2 ^ 42) × (next .index ≤ 2 ^ 20) ⌝ }
     ensures { λ r. ⌜ r .0 ≡ valueReadAt (now (bytes .entry)) at stored next (now (last .entry)) ⌝ }
 {

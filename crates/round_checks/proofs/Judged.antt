@@ -98,6 +98,9 @@ module _ {run : Run} {queries : List ℕ} {count : ℕ} {table : List Round} whe
     pub query-inside : (query : ℕ) → getD queries query 0 < 2 ^ run .k
     query-inside query = all-getD (λ j. j < 2 ^ run .k) queries query 0 (pow-pos (run .k)) (queries-are .within)
 
+    pub queries-most : length queries ≤ 256
+    queries-most = queries-are .most
+
     pub count-few : count ≤ 19
     count-few =
         subst (λ (n : ℕ). n ≤ 19) (sym (b .count-is)) (few-rounds (parametersOf run) (b .ready .coset .parameters))
@@ -169,7 +172,23 @@ module _ {run : Run} {queries : List ℕ} {count : ℕ} {table : List Round} whe
           (λ n l. r .rounds-passed n (omega (arith, r .before-query .prepared .count-is)))
       by t (inr before) = r .before-query .passed t before
 
-  -- ---- a round, where the layers are lists
+  -- ---- a round of a query
+
+  module _ (b : Prepared run queries count table) {i : ℕ} (within : i < count) where
+    pub round-inside : i < roundsIn run
+    round-inside = subst (λ (n : ℕ). i < n) (b .count-is) within
+
+    pub round-is : getD table i noRound ≡ roundIn run i
+    round-is = b .held i within
+
+    pub next-of : (query : ℕ) {here : QueryPoint} → here ≡ queryPointOf run (getD queries query 0) i
+        → nextQueryPoint (run .step) (getD table i noRound .elements) here
+        ≡ queryPointOf run (getD queries query 0) (suc i)
+    next-of query here-is =
+        ap₂ (λ (round : Round) (v : QueryPoint). nextQueryPoint (run .step) (round .elements) v) round-is here-is
+        ∙ next-query-point (b .ready) (getD queries query 0) i (query-inside b query) round-inside
+
+  -- ---- where the layers are lists
 
   module _ {cosets query i : ℕ} {here : QueryPoint} (r : BeforeRound run queries count table cosets query i here)
       (within : i < count) where
@@ -177,16 +196,14 @@ module _ {run : Run} {queries : List ℕ} {count : ℕ} {table : List Round} whe
     prepared = r .before-query .prepared
 
     inside : i < roundsIn run
-    inside = subst (λ (n : ℕ). i < n) (prepared .count-is) within
+    inside = round-inside prepared within
 
-    pub round-is : getD table i noRound ≡ roundIn run i
-    round-is = prepared .held i within
+    the-round : getD table i noRound ≡ roundIn run i
+    the-round = round-is prepared within
 
-    pub next-of : nextQueryPoint (run .step) (getD table i noRound .elements) here
+    the-next : nextQueryPoint (run .step) (getD table i noRound .elements) here
         ≡ queryPointOf run (getD queries query 0) (suc i)
-    next-of =
-        ap₂ (λ (round : Round) (v : QueryPoint). nextQueryPoint (run .step) (round .elements) v) round-is (r .here-is)
-        ∙ next-query-point (prepared .ready) (getD queries query 0) i (query-inside prepared query) inside
+    the-next = next-of prepared within query (r .here-is)
 
     pub part-fits : PartWithin (run .step) (getD table i noRound) here (eqb i 0) (run .word) (run .store)
     part-fits =
@@ -195,17 +212,17 @@ module _ {run : Run} {queries : List ℕ} {count : ℕ} {table : List Round} whe
         (subst
         (λ (round : Round).
         PartWithin (run .step) round (queryPointOf run (getD queries query 0) i) (eqb i 0) (run .word) (run .store))
-        (sym round-is)
+        (sym the-round)
         (part-within (prepared .ready) (getD queries query 0) (query-inside prepared query) i inside))
 
     pub found-fits : (next : QueryPoint) → next ≡ nextQueryPoint (run .step) (getD table i noRound .elements) here
         → ltb (i + 1) count ≡ true → getD table i noRound .next + next .index < length (run .store)
     found-fits next e t =
-        subst (λ (v : QueryPoint). getD table i noRound .next + v .index < length (run .store)) (sym (e ∙ next-of))
+        subst (λ (v : QueryPoint). getD table i noRound .next + v .index < length (run .store)) (sym (e ∙ the-next))
         (subst
         (λ (round : Round).
         round .next + queryPointOf run (getD queries query 0) (suc i) .index < length (run .store))
-        (sym round-is)
+        (sym the-round)
         (found-within (prepared .ready) (getD queries query 0) (query-inside prepared query) i
         (omega (arith, ltb-true (i + 1) count t, prepared .count-is))))
 
@@ -220,18 +237,18 @@ module _ {run : Run} {queries : List ℕ} {count : ℕ} {table : List Round} whe
         record {
           before-round = r;
           round-within = within;
-          next-is = e ∙ next-of;
+          next-is = e ∙ the-next;
           computed-value =
               c
               ∙ ap₂
               (λ (round : Round) (v : QueryPoint).
               valueFolded (run .step) round v (partRead (run .step) round v (eqb i 0) (run .word) (run .store)))
-              round-is (r .here-is)
+              the-round (r .here-is)
               ∙ computed-is (prepared .ready) (getD queries query 0) (query-inside prepared query) i inside;
           found-value =
               f
               ∙ ap₂ (λ (round : Round) (v : QueryPoint). valueRead round v (ltb (i + 1) count) (run .store) (run .last))
-              round-is (e ∙ next-of)
+              the-round (e ∙ the-next)
               ∙ ap₂
               (λ (m n : ℕ).
               valueRead (roundIn run i) (queryPointOf run (getD queries query 0) (suc i)) (ltb m n) (run .store)

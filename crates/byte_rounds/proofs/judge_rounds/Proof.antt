@@ -14,7 +14,8 @@ use Rattle.byte_rounds.proofs.LayerPlaces.{AtLayer, at-few, index-few, 
 use Rattle.byte_rounds.proofs.LayerPlaces.{first-layer, read-in-bytes, next-layer}
 use Rattle.round_checks.proofs.Runs.{Checked}
 use Rattle.round_checks.proofs.Judged.{checked-run, BeforeQuery}
-use Rattle.round_checks.proofs.Judged.{count-few, cosets-few, first-query, first-round, query-passed, accepted, refused}
+use Rattle.round_checks.proofs.Judged.{queries-most, count-few, cosets-few, first-query, first-round, query-passed}
+use Rattle.round_checks.proofs.Judged.{accepted, refused}
 use borrow.Author.Needs.{needs}
 use native.Mathlib.Omega.{arith}
 use Rattle.byte_rounds.proofs.judge_rounds.Statement.{statement}
@@ -110,7 +111,7 @@ after-layer-requires c κs =
     let in-loop = c .before .before in
     let l = in-loop .before .loop in
     let prepared = l .inv .before-round .before-query .prepared in
-    (prepared .ready .coset .parameters, omega (arith, prepared .count-is), at-few (l .inv) (in-loop .loop-test .taken))
+    (prepared .ready .coset .parameters, omega (arith, prepared .count-is), at-few (l .inv .standing) (in-loop .loop-test .taken))
 
 computed-requires : tie.Need-computed-requires Inv-loop μ-loop Inv-queries μ-queries
 computed-requires c κs =
@@ -119,8 +120,8 @@ computed-requires c κs =
     let valid = l .inv .before-round .before-query .prepared .ready .coset .parameters in (
       valid .step-least,
       valid .step-most,
-      at-few (l .inv) (in-loop .loop-test .taken),
-      index-few (l .inv) (in-loop .loop-test .taken),
+      at-few (l .inv .standing) (in-loop .loop-test .taken),
+      index-few (l .inv .standing) (in-loop .loop-test .taken),
     )
 
 add-found : tie.Need-add-found Inv-loop μ-loop Inv-queries μ-queries
@@ -132,8 +133,8 @@ found-requires c κs =
     let in-loop = after .before .before .before in
     let l = in-loop .before .loop in
     let within = in-loop .loop-test .taken in (
-      next-at-few (l .inv) within (after .before .next .ensures) (after .after-layer .ensures),
-      next-index-few (l .inv) within (after .before .next .ensures) (after .after-layer .ensures),
+      next-at-few (l .inv .standing) within (after .before .next .ensures) (after .after-layer .ensures),
+      next-index-few (l .inv .standing) within (after .before .next .ensures) (after .after-layer .ensures),
     )
 
 read-until-requires : tie.Need-read-until-requires Inv-loop μ-loop Inv-queries μ-queries
@@ -165,7 +166,9 @@ add-cosets-2 : tie.Need-add-cosets-2 Inv-loop μ-loop Inv-queries μ-queries
 add-cosets-2 c = omega (arith, cosets-few (c .before .loop .inv .before-round .before-query))
 
 add-query : tie.Need-add-query Inv-loop μ-loop Inv-queries μ-queries
-add-query c = search needs
+add-query c =
+    let round = c .before .loop .inv .before-round in
+    omega (arith, round .query-within, queries-most (round .before-query .prepared))
 
 queries-less : tie.Need-queries-less Inv-loop μ-loop Inv-queries μ-queries
 queries-less c = omega arith
