@@ -1,2 +1,4 @@
 pub mod Lines
 pub mod Sheets
+pub mod Marks
+pub mod Theorems

@@ -220,7 +220,7 @@ first-decide bytes read false e h =
     ∙ transcript-alone (take read bytes) (drop read bytes) more)
     more
 
-long-transcripts : LongTranscripts
+pub long-transcripts : LongTranscripts
 long-transcripts =
     record {
       size = refl;
