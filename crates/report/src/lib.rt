@@ -1,11 +1,9 @@
 // What the program prints of a verdict: a header and a line.
-mod writing;
-
-use crate::writing::put_number;
 use fri::Answer;
 use fri::Verdict;
 use placing::put;
 use refusal::Position;
+use writing::put_number;
 ghost use mathlib.Core.Path.{_≡_};
 ghost use mathlib.Core.List.{_++_};
 ghost use Prim.Native.Nat.{_+_, _-_, _≤_};

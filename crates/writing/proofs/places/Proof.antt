@@ -1,11 +1,11 @@
--- `report::writing::places` meets its contract, by counting. Assumes nothing.
+-- `writing::places` meets its contract, by counting. Assumes nothing.
 use Prim.Native.Nat.{_+_, _-_, _/_}
 use mathlib.Core.Path.{_≡_, subst}
 use native.Mathlib.Omega.{arith}
 use borrow.Author.Needs.{needs}
 use Rattle.line_text.proofs.Decimals.{Counting, counting-start, counting-next, counting-end}
-use Rattle.report.proofs.writing.places.Statement.{statement}
-use Rattle.report.proofs.writing.places.Tie as tie
+use Rattle.writing.proofs.places.Statement.{statement}
+use Rattle.writing.proofs.places.Tie as tie
 
 abbrev Inv-loop : tie.InvT-loop
 Inv-loop n count₀ rest₀ count rest = Counting n count rest (20 - count)

@@ -1,8 +1,8 @@
--- `report::writing::digit` meets its contract. Assumes nothing.
+-- `writing::digit` meets its contract. Assumes nothing.
 use borrow.Author.Needs.{needs}
 use borrow.Author.Tests.{lt-ltb, le-ltb}
-use Rattle.report.proofs.writing.digit.Statement.{statement}
-use Rattle.report.proofs.writing.digit.Tie as tie
+use Rattle.writing.proofs.digit.Statement.{statement}
+use Rattle.writing.proofs.digit.Tie as tie
 
 cast-result : tie.Need-cast-result
 cast-result c = search needs

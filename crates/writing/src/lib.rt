@@ -19,7 +19,7 @@ pub fn put_number(n: u64, at: usize, out: &mut [u8]) -> usize
 }
 
 // The last `width` digits of n in a base, filled in from the right.
-fn put_digits(n: u64, base: u64, width: usize, at: usize, out: &mut [u8]) -> usize
+pub fn put_digits(n: u64, base: u64, width: usize, at: usize, out: &mut [u8]) -> usize
     requires base { ⌜ (0 < base) × (base ≤ 16) ⌝ }
     requires room { ⌜ at + width ≤ length (now out) ⌝ }
     ensures { λ r. ⌜ Put (now (out .entry)) at (digits base width n) r (now (out .exit)) ⌝ }
@@ -43,7 +43,7 @@ fn digit(d: u64) -> u8
 }
 
 // How many decimal digits a number has.
-fn places(n: u64) -> usize
+pub fn places(n: u64) -> usize
     ensures { λ r. ⌜ (r ≡ placesWithin 19 n) × (r ≤ 20) ⌝ }
 {
     let mut count: usize = 1;

@@ -1,15 +1,15 @@
--- `report::writing::put_digits` meets its contract. The loop's invariant: the digits but the first `left` are filled
+-- `writing::put_digits` meets its contract. The loop's invariant: the digits but the first `left` are filled
 -- in. Assumes nothing.
 use mathlib.Core.Path.{_≡_, refl}
-use Prim.Native.Nat.{_-_, _≤_}
+use Prim.Native.Nat.{_≤_}
 use native.Mathlib.Nat.{mod-lt, div-le-self}
 use native.Mathlib.Omega.{arith}
 use lib.ListN.{length}
 use borrow.Author.Needs.{needs}
 use Rattle.line_text.specs.Digits.{digits}
-use Rattle.report.proofs.Filling.{Filling, filling-start, filling-next, filling-end}
-use Rattle.report.proofs.writing.put_digits.Statement.{statement}
-use Rattle.report.proofs.writing.put_digits.Tie as tie
+use Rattle.writing.proofs.Filling.{Filling, filling-start, filling-next, filling-end}
+use Rattle.writing.proofs.put_digits.Statement.{statement}
+use Rattle.writing.proofs.put_digits.Tie as tie
 
 abbrev Inv-loop : tie.InvT-loop
 Inv-loop n base width at out₀ rest₀ left₀ out rest left =

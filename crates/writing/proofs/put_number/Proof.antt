@@ -1,4 +1,4 @@
--- `report::writing::put_number` meets its contract: the digits follow the space. Assumes nothing.
+-- `writing::put_number` meets its contract: the digits follow the space. Assumes nothing.
 use mathlib.Core.Path.{ap}
 use Prim.Native.Nat.{ℕ}
 use native.Mathlib.Omega.{arith}
@@ -6,8 +6,8 @@ use borrow.Author.Needs.{needs}
 use Rattle.line_text.specs.Digits.{bytes, digits, decimal}
 use Rattle.placing.proofs.Placing.{put-append, put-same}
 use Rattle.line_text.proofs.Decimals.{length-digits}
-use Rattle.report.proofs.writing.put_number.Statement.{statement}
-use Rattle.report.proofs.writing.put_number.Tie as tie
+use Rattle.writing.proofs.put_number.Statement.{statement}
+use Rattle.writing.proofs.put_number.Tie as tie
 
 slice-aggregate-put : tie.Need-slice-aggregate-put
 slice-aggregate-put c = search needs
