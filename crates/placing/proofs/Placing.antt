@@ -1,6 +1,6 @@
 -- Texts put into a list one after the other, from the front or from the back. Assumes nothing.
 use mathlib.Core.Path.{_≡_, refl, sym, ap, ap₂, subst, _∙_}
-use mathlib.Core.List.{List, [], _∷_, _++_, append-assoc}
+use mathlib.Core.List.{List, [], _∷_, _++_, append-assoc, append-nil}
 use Prim.Native.Nat.{ℕ, zero, suc, _+_, _-_, _≤_, _<_}
 use native.Mathlib.Nat.{add-zero}
 use native.Mathlib.Omega.{arith}
@@ -53,6 +53,16 @@ put-append {held} {mid} {left} {s} {t} {at} {m} {end} p q =
 
 pub put-same : {held left s t : List ℕ} {at end : ℕ} → Put held at s end left → s ≡ t → Put held at t end left
 put-same {held} {left} {at = at} {end = end} p e = subst (λ (text : List ℕ). Put held at text end left) e p
+
+pub put-nothing : (held : List ℕ) (at : ℕ) → at ≤ length held → Put held at [] at held
+put-nothing held at h =
+    record {
+      list =
+          sym
+          (ap {B = List ℕ} (λ l. l ++ drop at held) (append-nil (take at held)) ∙ take-append-drop at held);
+      ends = sym (add-zero at);
+      room = h;
+    }
 
 -- ---- a text that is copied from the front
 

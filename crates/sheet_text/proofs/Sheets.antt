@@ -24,17 +24,17 @@ use Rattle.fri.specs.declared.Answer.the-variants.{Refused}
 use Rattle.fri.specs.declared.Verdict.{Verdict}
 use Rattle.fri.specs.Run.{Run, roundsIn}
 use Rattle.fri.specs.Rounds.{valueComputed, valueFound, roundsOutcome}
-use Rattle.fri.specs.Judge.{answerOf}
+use Rattle.fri.specs.Judge.{checksOutcome, answerOf}
 use Rattle.fri.specs.Theorems.{FailsFirst}
 use Rattle.fri.proofs.Layouts as layouts
+use Rattle.fri.proofs.Checks.{run-valid}
 use Rattle.fri.proofs.Rounds.{Ended, ended}
 use Rattle.fri.proofs.Verdicts.{checks-valid}
 use Rattle.fri.proofs.RoundChecks.{round-checks}
-use Rattle.transcript.specs.Sections.{transcriptK, transcriptRate, transcriptStep, transcriptRounds, runIn, queriesIn}
+use Rattle.transcript.specs.Sections.{transcriptRounds, runIn, queriesIn}
 use Rattle.transcript.specs.Checks.{transcriptOutcome}
 use Rattle.transcript.specs.Judge.{transcriptVerdict}
 use Rattle.transcript.specs.Theorems.{Carries}
-use Rattle.transcript.proofs.Carried as carried
 use Rattle.transcript.proofs.Carried.{checks-are, passed-carries}
 use Rattle.transcript.proofs.Theorems.{judging-bytes}
 use Rattle.sheet_text.specs.Sheet.{lineLength, sheetLine, queryLines, sheetLines, hasLines, sheetBy}
@@ -123,6 +123,21 @@ pub record Fits (run : Run) (queries : List ℕ) : Type 0 where
   pub queries-few : length queries ≤ 256
   pub indices : (t : ℕ) → getD queries t 0 < 2 ^ 20
 
+pub checked-fits : (run : Run) (queries : List ℕ) → checksOutcome run queries ≡ Done → Fits run queries
+checked-fits run queries done =
+    let passed = checks-valid run queries done in
+    let valid = run-valid run (passed .0) .0 in
+    record {
+      rounds-some = layouts.some-round (run .k) (run .rate) (run .step) (valid .step-least) (valid .k-enough);
+      rounds-few =
+          layouts.rounds-few (run .k) (run .rate) (run .step) (valid .rate-least) (valid .step-least) (valid .k-most);
+      queries-some = passed .1 .least;
+      queries-few = passed .1 .most;
+      indices = λ t.
+          lt-of-lt-of-le (all-getD (λ j. j < 2 ^ run .k) queries t 0 (pow-pos (run .k)) (passed .1 .within))
+          (pow-mono {i = run .k} {j = 20} (valid .k-most));
+    }
+
 module _ {run : Run} {queries : List ℕ} (fits : Fits run queries) where
   pub length-sheet-lines : (t : ℕ) → t ≤ length queries
       → length (sheetLines run (take t queries) 0) ≡ lineLength * (t * roundsIn run)
@@ -188,21 +203,7 @@ module _ (bytes : List ℕ) where
   -- ---- bytes whose sections pass
 
   pub passed-fits : transcriptOutcome bytes ≡ Done → Fits run queries
-  passed-fits done =
-      let c : Carries bytes = passed-carries bytes done in
-      let valid = checks-valid run queries (sym (checks-are bytes c) ∙ done) in
-      let k : ℕ = transcriptK bytes in
-      record {
-        rounds-some = carried.rounds-some bytes c;
-        rounds-few =
-            layouts.rounds-few k (transcriptRate bytes) (transcriptStep bytes) (c .parameters .rate-least)
-            (c .parameters .step-least) (c .parameters .k-most);
-        queries-some = valid .1 .least;
-        queries-few = valid .1 .most;
-        indices = λ t.
-            lt-of-lt-of-le (all-getD (λ j. j < 2 ^ k) queries t 0 (pow-pos k) (valid .1 .within))
-            (pow-mono {i = k} {j = 20} (c .parameters .k-most));
-      }
+  passed-fits done = checked-fits run queries (sym (checks-are bytes (passed-carries bytes done)) ∙ done)
 
   passed-lines : transcriptOutcome bytes ≡ Done → (outcome : Outcome) → roundsOutcome run queries 0 ≡ outcome
       → hasLines (answerOf outcome) ≡ true → hasLines (transcriptVerdict bytes .answer) ≡ true
