@@ -1,4 +1,5 @@
 mod Values
 pub mod TableA
 pub mod Needed
+mod Sheets
 mod Transcripts

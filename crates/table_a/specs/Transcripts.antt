@@ -1,4 +1,4 @@
--- Cases G, H and K as transcripts, byte by byte.
+-- Cases G, H and K as transcripts and their marking sheets, byte by byte.
 use mathlib.Core.Path.{_≡_}
 use mathlib.Core.List.{List, [], _∷_, _++_}
 use Prim.Native.Nat.{ℕ}
@@ -6,6 +6,8 @@ use lib.ListN.{length}
 use Rattle.refusal.specs.declared.Position.the-variants.{At, Absent}
 use Rattle.fri.specs.Theorems.{Tells}
 use Rattle.transcript.specs.Judge.{inputVerdict}
+use Rattle.line_text.specs.Digits.{bytes}
+use Rattle.sheet_text.specs.Sheet.{sheetOf}
 use Rattle.written.specs.Transcript.{transcriptOf}
 use Rattle.table_a.specs.TableA.{small, twoRounds}
 
@@ -41,3 +43,13 @@ pub record TranscriptCases : Type 0 where
   pub size : length (oneRound 2) ≡ 136
   pub g : Tells (inputVerdict (oneRound 2)) 0 Absent Absent 4
   pub h : Tells (inputVerdict (oneRound 3)) 11 (At 1) (At 0) 4
+  -- the sheets: in case H query 1 computes d where the last polynomial has b
+  pub sheet-g : sheetOf (oneRound 2)
+      ≡ bytes "    0        0   0 000000000000000b 000000000000000b ok\n"
+      ++ bytes "    1        3   0 000000000000000b 000000000000000b ok\n"
+  pub sheet-h : sheetOf (oneRound 3)
+      ≡ bytes "    0        0   0 000000000000000b 000000000000000b ok\n"
+      ++ bytes "    1        3   0 000000000000000d 000000000000000b no\n"
+  pub sheet-k : sheetOf twoRoundsBytes
+      ≡ bytes "    0        5   0 0000000000000016 0000000000000016 ok\n"
+      ++ bytes "    0        5   1 0000000000000001 0000000000000001 ok\n"
