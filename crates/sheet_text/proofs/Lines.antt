@@ -38,10 +38,7 @@ decimal-short width n h =
 
 pub length-decimal-field : (width n : ℕ) → length (decimal n) ≤ width → length (decimalField width n) ≡ width + 1
 unfolding decimalField bytes
-length-decimal-field width n h =
-    let spaces : List ℕ = replicate (width - length (decimal n)) 32 in
-    length-append (leftPadded width (decimal n)) (32 ∷ [])
-    ∙ omega (arith, length-append spaces (decimal n), length-replicate {A = ℕ} (width - length (decimal n)) 32)
+length-decimal-field width n h = simp (length-append, length-replicate) (omega arith)
 
 pub length-value-field : (value : ℕ) → length (valueField value) ≡ 17
 unfolding valueField bytes
@@ -84,19 +81,19 @@ plain-digits base (suc width) n =
     plain-append (digits base width (n / base)) (digit (n % base) ∷ []) (plain-digits base width (n / base))
     (plain-digit (ltb (n % base) 10) (n % base), record {})
 
+plain-spaces : (n : ℕ) → Plain (replicate n 32)
+plain-spaces n = all-replicate (λ b. b ≢ 10) n 32 (λ e. omega arith)
+
 plain-decimal : (width n : ℕ) → Plain (decimalField width n)
 unfolding decimalField decimal bytes
 plain-decimal width n =
-    plain-append (leftPadded width (decimal n)) (32 ∷ [])
-    (plain-append (replicate (width - length (decimal n)) 32) (decimal n)
-    (all-replicate (λ b. b ≢ 10) (width - length (decimal n)) 32 (λ e. omega arith))
-    (plain-digits 10 (placesWithin 19 n) n))
-    (λ e. omega arith, record {})
+    let spaces : Plain (replicate (width - length (decimal n)) 32) = plain-spaces (width - length (decimal n)) in
+    let number : Plain (decimal n) = plain-digits 10 (placesWithin 19 n) n in
+    search (plain-append, plain-spaces 1)
 
 plain-value : (value : ℕ) → Plain (valueField value)
 unfolding valueField bytes
-plain-value value =
-    plain-append (digits 16 16 value) (32 ∷ []) (plain-digits 16 16 value) (λ e. omega arith, record {})
+plain-value value = plain-append (digits 16 16 value) (32 ∷ []) (plain-digits 16 16 value) (plain-spaces 1)
 
 plain-before : (query index round computed found : ℕ) → Plain (beforeMark query index round computed found)
 plain-before query index round computed found = search (plain-append, plain-decimal, plain-value)

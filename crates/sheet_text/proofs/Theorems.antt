@@ -1,4 +1,4 @@
--- The sheets beside the judge's answers. Assumes nothing.
+-- Lines by example, and the sheets beside the judge's answers. Assumes nothing.
 use mathlib.Core.Path.{_≡_, refl, sym, ap, _∙_, subst}
 use mathlib.Core.Logic.{_≢_, _⊎_, _↔_, inl, inr, ⊎-elim}
 use mathlib.Core.Bool.{Bool, true, false, cond, _||_}
@@ -24,14 +24,20 @@ use Rattle.transcript.specs.Judge.{transcriptVerdict, longestTranscript, inputL
 use Rattle.transcript.proofs.Carried.{checks-are, passed-carries}
 use Rattle.transcript.proofs.Theorems.{judging-bytes, long-transcripts}
 use Rattle.transcript.proofs.Theorems as transcripts
-use Rattle.line_text.specs.Digits.{bytes}
-use Rattle.sheet_text.specs.Sheet.{lineLength, sheetLine, sheetLines, hasLines, sheetBy, transcriptSheet, sheetOf}
-use Rattle.sheet_text.specs.Sheet.{largestSheet}
-use Rattle.sheet_text.specs.Theorems.{lineAt, markAt, SheetsBeside, Sheets}
+use Rattle.line_text.specs.Digits.{bytes, digits, placesWithin, decimal}
+use Rattle.sheet_text.specs.Sheet.{decimalField, valueField, markField, lineText, lineLength, sheetLine}
+use Rattle.sheet_text.specs.Sheet.{sheetLines, hasLines, sheetBy, transcriptSheet, sheetOf, largestSheet}
+use Rattle.sheet_text.specs.Theorems.{Examples, lineAt, markAt, SheetsBeside, Sheets}
 use Rattle.sheet_text.proofs.Sheets.{Fits, length-all-lines, sheet-shown, sheet-empty, passed-fits, round-failed}
 use Rattle.sheet_text.proofs.Sheets.{no-lines, sheet-refused}
 use Rattle.sheet_text.proofs.Marks.{AllOk, FirstNo}
 use Rattle.sheet_text.proofs.Marks as marks
+
+-- ---- lines
+
+pub examples : Examples
+unfolding lineText decimalField valueField markField decimal digits placesWithin bytes
+examples = record { least = refl; largest = refl }
 
 -- ---- the judge's answer and the checks
 

@@ -2,7 +2,7 @@
 use mathlib.Core.Path.{_≡_}
 use mathlib.Core.Logic.{_⊎_, _↔_, _≢_}
 use mathlib.Core.List.{List, []}
-use Prim.Native.Nat.{ℕ, _+_, _*_, _%_, _≤_, _<_}
+use Prim.Native.Nat.{ℕ, _+_, _*_, _-_, _%_, _^_, _≤_, _<_}
 use lib.ListN.{length, getD, take, drop}
 use Rattle.refusal.specs.declared.Cause.the-variants.{RoundCheckFails}
 use Rattle.fri.specs.declared.Answer.the-variants.{Accepted, Refused}
@@ -11,7 +11,14 @@ use Rattle.fri.specs.Judge.{numberOfAnswer}
 use Rattle.transcript.specs.Sections.{transcriptRounds, runIn, queriesIn}
 use Rattle.transcript.specs.Judge.{transcriptVerdict, longestTranscript, inputLimit, inputVerdict}
 use Rattle.line_text.specs.Digits.{bytes}
-use Rattle.sheet_text.specs.Sheet.{lineLength, sheetLine, sheetBy, transcriptSheet, sheetOf, largestSheet}
+use Rattle.sheet_text.specs.Sheet.{lineText, lineLength, sheetLine, sheetBy, transcriptSheet, sheetOf}
+use Rattle.sheet_text.specs.Sheet.{largestSheet}
+
+-- a line of the least numbers, and one of the largest that a sheet has
+pub record Examples : Type 0 where
+  pub least : lineText 0 0 0 0 0 ≡ bytes "    0        0   0 0000000000000000 0000000000000000 ok\n"
+  pub largest : lineText 255 (2 ^ 20 - 1) 18 (2 ^ 64 - 1) 10
+      ≡ bytes "  255  1048575  18 ffffffffffffffff 000000000000000a no\n"
 
 -- line n of a sheet, and the mark in it
 abbrev pub lineAt : (sheet : List ℕ) (n : ℕ) → List ℕ
