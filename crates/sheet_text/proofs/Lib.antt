@@ -1,4 +1,5 @@
 pub mod Lines
 pub mod Sheets
 pub mod Marks
+pub mod Values
 pub mod Theorems

@@ -13,7 +13,7 @@ use Rattle.poly.specs.Polynomial.{All}
 use Rattle.poly.proofs.Entries.{all-append, all-replicate, all-getD}
 use Rattle.line_text.specs.Digits.{bytes, digit, digits, placesWithin, decimal}
 use Rattle.line_text.proofs.Decimals.{length-digits, places-digit, places-tenth}
-use Rattle.sheet_text.specs.Sheet.{leftPadded, decimalField, valueField, markField, lineText, lineLength}
+use Rattle.sheet_text.specs.Sheet.{decimalField, valueField, markField, lineText, lineLength}
 
 -- ---- how many bytes
 

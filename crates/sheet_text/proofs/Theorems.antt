@@ -3,12 +3,12 @@ use mathlib.Core.Path.{_≡_, refl, sym, ap, _∙_, subst}
 use mathlib.Core.Logic.{_≢_, _⊎_, _↔_, inl, inr, ⊎-elim}
 use mathlib.Core.Bool.{Bool, true, false, cond, _||_}
 use mathlib.Core.List.{List, []}
-use Prim.Native.Nat.{ℕ, _+_, _*_, _%_, _≤_, _<_}
+use Prim.Native.Nat.{ℕ, _+_, _*_, _%_, _^_, _≤_, _<_}
 use native.Mathlib.Nat.{mul-le-mul}
 use native.Mathlib.Omega.{arith}
 use lib.Dec.{leb, eqb}
 use lib.ListN.{length, getD, take, drop}
-use lib.Seq.{take-all, drop-nil, length-take-le}
+use lib.Seq.{take-at, take-all, drop-nil, length-take-le}
 use borrow.Author.Tests.{eqb-true, leb-true, leb-false}
 use Rattle.refusal.specs.declared.Cause.the-variants.{RoundCheckFails}
 use Rattle.refusal.specs.declared.Outcome.{Outcome}
@@ -16,8 +16,10 @@ use Rattle.refusal.specs.declared.Outcome.the-variants as outcomes
 use Rattle.fri.specs.declared.Answer.{Answer}
 use Rattle.fri.specs.declared.Answer.the-variants.{Accepted, Refused}
 use Rattle.fri.specs.declared.Verdict.{Verdict}
+use Rattle.fri.specs.Rounds.{valueComputed, valueFound}
 use Rattle.fri.specs.Judge.{numberOfAnswer, verdictOf, checksOutcome}
 use Rattle.fri.proofs.Verdicts.{accepted-checks, accepted-by, refused-by}
+use Rattle.transcript.specs.Numerals.{AreBytes}
 use Rattle.transcript.specs.Sections.{transcriptRounds, runIn, queriesIn}
 use Rattle.transcript.specs.Checks.{transcriptOutcome}
 use Rattle.transcript.specs.Judge.{transcriptVerdict, longestTranscript, inputLimit, inputVerdict}
@@ -25,11 +27,14 @@ use Rattle.transcript.proofs.Carried.{checks-are, passed-carries}
 use Rattle.transcript.proofs.Theorems.{judging-bytes, long-transcripts}
 use Rattle.transcript.proofs.Theorems as transcripts
 use Rattle.line_text.specs.Digits.{bytes, digits, placesWithin, decimal}
+use Rattle.line_text.proofs.Decimals.{length-digits}
 use Rattle.sheet_text.specs.Sheet.{decimalField, valueField, markField, lineText, lineLength, sheetLine}
 use Rattle.sheet_text.specs.Sheet.{sheetLines, hasLines, sheetBy, transcriptSheet, sheetOf, largestSheet}
-use Rattle.sheet_text.specs.Theorems.{Examples, lineAt, markAt, SheetsBeside, Sheets}
+use Rattle.sheet_text.specs.Theorems.{Examples, hexadecimalOf, Hexadecimals, lineAt, markAt, SheetsBeside}
+use Rattle.sheet_text.specs.Theorems.{Sheets}
 use Rattle.sheet_text.proofs.Sheets.{Fits, length-all-lines, sheet-shown, sheet-empty, passed-fits, round-failed}
 use Rattle.sheet_text.proofs.Sheets.{no-lines, sheet-refused}
+use Rattle.sheet_text.proofs.Values.{passed-elements, hexadecimal}
 use Rattle.sheet_text.proofs.Marks.{AllOk, FirstNo}
 use Rattle.sheet_text.proofs.Marks as marks
 
@@ -38,6 +43,11 @@ use Rattle.sheet_text.proofs.Marks as marks
 pub examples : Examples
 unfolding lineText decimalField valueField markField decimal digits placesWithin bytes
 examples = record { least = refl; largest = refl }
+
+pub hexadecimals : Hexadecimals
+unfolding valueField
+hexadecimals value h =
+    ap hexadecimalOf (take-at (digits 16 16 value) (bytes " ") 16 (length-digits 16 16 value)) ∙ hexadecimal 16 value h
 
 -- ---- the judge's answer and the checks
 
@@ -168,6 +178,11 @@ module _ (judge : List ℕ → Verdict)
       ap (λ (text : List ℕ). lineAt text (t * transcriptRounds input + i)) (s .sheet)
       ∙ marks.line-at (fits s) t i l m
 
+  values : (t i : ℕ) → AreBytes input → sheetBy judge input ≢ []
+      → (valueComputed (runIn input) (getD (queriesIn input) t 0) i < 2 ^ 64)
+      × (valueFound (runIn input) (getD (queriesIn input) t 0) i < 2 ^ 64)
+  values t i h some = passed-elements input h (shown some .passed) (getD (queriesIn input) t 0) i
+
   -- ---- what the marks tell
 
   accepted : sheetBy judge input ≢ [] → AllOk (sheetBy judge input) ↔ (answer ≡ Accepted)
@@ -209,6 +224,7 @@ beside judge agrees =
       count = count judge agrees;
       line-feeds = line-feeds judge agrees;
       line = line judge agrees;
+      values = values judge agrees;
       accepted = accepted judge agrees;
       first-no = first-no judge agrees;
       largest = largest judge agrees;

@@ -1,24 +1,43 @@
 -- What is proved of marking sheets, stated of their bytes: proofs/Theorems.antt has the values.
 use mathlib.Core.Path.{_≡_}
 use mathlib.Core.Logic.{_⊎_, _↔_, _≢_}
-use mathlib.Core.List.{List, []}
+use mathlib.Core.Bool.{cond}
+use mathlib.Core.List.{List, [], _∷_}
 use Prim.Native.Nat.{ℕ, _+_, _*_, _-_, _%_, _^_, _≤_, _<_}
+use lib.Dec.{ltb}
 use lib.ListN.{length, getD, take, drop}
 use Rattle.refusal.specs.declared.Cause.the-variants.{RoundCheckFails}
 use Rattle.fri.specs.declared.Answer.the-variants.{Accepted, Refused}
 use Rattle.fri.specs.declared.Verdict.{Verdict}
+use Rattle.fri.specs.Rounds.{valueComputed, valueFound}
 use Rattle.fri.specs.Judge.{numberOfAnswer}
+use Rattle.transcript.specs.Numerals.{AreBytes}
 use Rattle.transcript.specs.Sections.{transcriptRounds, runIn, queriesIn}
 use Rattle.transcript.specs.Judge.{transcriptVerdict, longestTranscript, inputLimit, inputVerdict}
 use Rattle.line_text.specs.Digits.{bytes}
-use Rattle.sheet_text.specs.Sheet.{lineText, lineLength, sheetLine, sheetBy, transcriptSheet, sheetOf}
-use Rattle.sheet_text.specs.Sheet.{largestSheet}
+use Rattle.sheet_text.specs.Sheet.{valueField, lineText, lineLength, sheetLine, sheetBy}
+use Rattle.sheet_text.specs.Sheet.{transcriptSheet, sheetOf, largestSheet}
 
--- a line of the least numbers, and one of the largest that a sheet has
+-- a line of the least numbers, and one of the largest query, index, round and value that a sheet has
 pub record Examples : Type 0 where
   pub least : lineText 0 0 0 0 0 ≡ bytes "    0        0   0 0000000000000000 0000000000000000 ok\n"
   pub largest : lineText 255 (2 ^ 20 - 1) 18 (2 ^ 64 - 1) 10
       ≡ bytes "  255  1048575  18 ffffffffffffffff 000000000000000a no\n"
+
+-- the number that hexadecimal digits stand for, read on after those that stand for `before`
+abbrev pub digitValue : (d : ℕ) → ℕ
+digitValue d = cond (ltb d 97) (d - 48) (d - 87)
+
+unfoldable pub hexadecimalAfter : (before : ℕ) (digits : List ℕ) → ℕ
+hexadecimalAfter before [] = before
+hexadecimalAfter before (d ∷ rest) = hexadecimalAfter (16 * before + digitValue d) rest
+
+abbrev pub hexadecimalOf : (digits : List ℕ) → ℕ
+hexadecimalOf = hexadecimalAfter 0
+
+-- the digits of a 64-bit value stand for it
+abbrev pub Hexadecimals : Type 0
+Hexadecimals = (value : ℕ) → value < 2 ^ 64 → hexadecimalOf (take 16 (valueField value)) ≡ value
 
 -- line n of a sheet, and the mark in it
 abbrev pub lineAt : (sheet : List ℕ) (n : ℕ) → List ℕ
@@ -44,6 +63,10 @@ pub record SheetsBeside (judge : List ℕ → Verdict) : Type 0 where
       → t < length (queriesIn input) → i < transcriptRounds input
       → lineAt (sheetBy judge input) (t * transcriptRounds input + i)
       ≡ sheetLine (runIn input) t (getD (queriesIn input) t 0) i
+  -- its values are 64-bit numbers where the sheet is of bytes
+  pub values : (input : List ℕ) (t i : ℕ) → AreBytes input → sheetBy judge input ≢ []
+      → (valueComputed (runIn input) (getD (queriesIn input) t 0) i < 2 ^ 64)
+      × (valueFound (runIn input) (getD (queriesIn input) t 0) i < 2 ^ 64)
   -- where there are lines, all are `ok` if and only if the judge accepts
   pub accepted : (input : List ℕ) → sheetBy judge input ≢ []
       → ((n : ℕ) → lineLength * n < length (sheetBy judge input) → markAt (sheetBy judge input) n ≡ bytes "ok")
