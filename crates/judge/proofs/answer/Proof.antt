@@ -1,51 +1,35 @@
 -- `judge::answer` meets its contract: the verdict is that on the bytes read, and the text has its lines.
 -- Assumes nothing.
-use mathlib.Core.Path.{_≡_, refl, sym, ap, subst, _∙_}
-use mathlib.Core.Logic.{⊎-elim}
-use mathlib.Core.List.{List, [], _∷_}
-use Prim.Native.Nat.{ℕ, _≤_}
+use mathlib.Core.Path.{_≡_, refl, ap, _∙_}
+use Prim.Native.Nat.{_≤_}
 use native.Mathlib.Omega.{arith}
 use lib.ListN.{length, take, length-take}
-use types.Run.{OneOf}
-use denote.Enum.Declared.{tagOf}
 use borrow.Author.Needs.{needs}
-use Rattle.transcript.specs.Judge.{inputVerdict}
 use Rattle.line_text.specs.Lines.{linesOf}
-use Rattle.judge.specs.declared.Reading.{Reading}
-use Rattle.judge.specs.declared.Reading.the-variants.{More, Done, Failed}
-use Rattle.judge.specs.Reading.{Over, printed}
-use Rattle.judge.proofs.Reading.{the-type}
+use Rattle.input.specs.Reading.{printedOf}
+use Rattle.input.proofs.Printed.{printed-nothing, printed-done, done-within}
+use Rattle.judge.specs.Printed.{verdictLines}
 use Rattle.judge.proofs.answer.Statement.{statement}
 use Rattle.judge.proofs.answer.Tie as tie
-
--- the variant is not the second
-nothing : (reading : Reading) (input : List ℕ) → OneOf (0 ∷ 2 ∷ []) (tagOf the-type reading)
-    → [] ≡ printed reading input
-nothing (More count) input keys = refl
-nothing (Done count) input keys = absurd (⊎-elim (λ e. omega arith) (λ e. omega arith) keys)
-nothing Failed input keys = refl
 
 enum-known-reading : tie.Need-enum-known-reading
 enum-known-reading c = search needs
 
 returns : tie.Need-returns
 returns c = (
-  nothing (c .before .before .args .reading) (c .before .before .args .input .now) (c .match .keys2),
+  printed-nothing verdictLines (c .before .before .args .reading) (c .before .before .args .input .now)
+      (c .match .keys2),
   (search needs, refl),
 )
 
 -- the bytes that were read lie in the list
 within : (c : tie.After-reading) → c .reading .given .0 .0 ≤ length (c .before .before .before .args .input .now)
-within c =
-    subst (Over (length (c .before .before .before .args .input .now))) (c .reading .given .1)
-    (c .before .before .before .pre .1)
+within c = done-within _ _ _ (c .reading .given .1) (c .before .before .before .pre .1)
 
 as-printed : (c : tie.After-reading)
-    → linesOf (inputVerdict (take (c .reading .given .0 .0) (c .before .before .before .args .input .now)))
-    ≡ printed (c .before .before .before .args .reading) (c .before .before .before .args .input .now)
-as-printed c =
-    ap (λ (reading : Reading). printed reading (c .before .before .before .args .input .now))
-    (sym (c .reading .given .1))
+    → verdictLines (take (c .reading .given .0 .0) (c .before .before .before .args .input .now))
+    ≡ printedOf verdictLines (c .before .before .before .args .reading) (c .before .before .before .args .input .now)
+as-printed c = printed-done verdictLines _ _ (c .before .before .before .args .input .now) (c .reading .given .1)
 
 slice-aggregate-judge-input : tie.Need-slice-aggregate-judge-input
 slice-aggregate-judge-input c = let inside = within (c .before .before) in simp length-take (omega arith)

@@ -1,4 +1,4 @@
--- `judge::read` meets its contract. The loop's invariant: what was read fits the list, whose length stays. The measure
+-- `input::read` meets its contract. The loop's invariant: what was read fits the list, whose length stays. The measure
 -- is the room that is left, of which every turn but the last takes some. Assumes nothing.
 use mathlib.Core.Path.{_≡_, refl, sym, subst}
 use mathlib.Core.Logic.{⊎-elim}
@@ -18,12 +18,12 @@ use borrow.Rule.Slice.PartMut.{putMid, midOf}
 use borrow.Author.Tests.{ltb-true}
 use borrow.Author.Needs.{needs}
 use Rattle.libc.specs.Io.{Moved}
-use Rattle.judge.specs.declared.Reading.{Reading}
-use Rattle.judge.specs.declared.Reading.the-variants.{More, Done, Failed}
-use Rattle.judge.specs.Reading.{readAfter, Over}
-use Rattle.judge.proofs.Reading.{the-type}
-use Rattle.judge.proofs.read.Statement.{statement}
-use Rattle.judge.proofs.read.Tie as tie
+use Rattle.input.specs.declared.Reading.{Reading}
+use Rattle.input.specs.declared.Reading.the-variants.{More, Done, Failed}
+use Rattle.input.specs.Reading.{readAfter, Over}
+use Rattle.input.proofs.Reading.{the-type}
+use Rattle.input.proofs.read.Statement.{statement}
+use Rattle.input.proofs.read.Tie as tie
 
 -- ---- what a turn leaves
 

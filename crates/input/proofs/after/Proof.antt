@@ -1,4 +1,4 @@
--- `judge::after` meets its contract. A signed number is held as bits: `counted` says once that past the first test
+-- `input::after` meets its contract. A signed number is held as bits: `counted` says once that past the first test
 -- what they count is the answer of the read. Assumes nothing.
 use mathlib.Core.Path.{_≡_, refl, sym, ap, subst, _∙_}
 use mathlib.Core.Logic.{_≢_}
@@ -14,10 +14,10 @@ use mir.Val.{toZ, ofZ, Fits, SFits}
 use mir.Facts.{toZ-ofZ}
 use borrow.Author.Tests.{lt-ltb, le-ltb, ltb-true}
 use borrow.Author.Needs.{needs}
-use Rattle.judge.specs.declared.Reading.the-variants.{More, Done, Failed}
-use Rattle.judge.specs.Reading.{readAfter}
-use Rattle.judge.proofs.after.Statement.{statement}
-use Rattle.judge.proofs.after.Tie as tie
+use Rattle.input.specs.declared.Reading.the-variants.{More, Done, Failed}
+use Rattle.input.specs.Reading.{readAfter}
+use Rattle.input.proofs.after.Statement.{statement}
+use Rattle.input.proofs.after.Tie as tie
 
 -- ---- by cases on what a read answered
 

@@ -5,10 +5,8 @@ use Prim.Native.Nat.{ℕ, zero, suc, _+_, _≤_}
 use lib.Dec.{ltb}
 use lib.IntN.{ℤ, pos, negsuc}
 use lib.ListN.{take}
-use Rattle.transcript.specs.Judge.{inputVerdict}
-use Rattle.line_text.specs.Lines.{linesOf}
-use Rattle.judge.specs.declared.Reading.{Reading}
-use Rattle.judge.specs.declared.Reading.the-variants.{More, Done, Failed}
+use Rattle.input.specs.declared.Reading.{Reading}
+use Rattle.input.specs.declared.Reading.the-variants.{More, Done, Failed}
 
 -- after count of size bytes a read answered this number: one below 0 is a failure, 0 is the end of the input,
 -- and at size there is no more room
@@ -23,8 +21,8 @@ Over size (More count) = ⊥
 Over size (Done count) = count ≤ size
 Over size Failed = Unit {0}
 
--- what is printed: the lines of the verdict on the bytes that were read, or nothing
-abbrev pub printed : (reading : Reading) (input : List ℕ) → List ℕ
-printed (More count) input = []
-printed (Done count) input = linesOf (inputVerdict (take count input))
-printed Failed input = []
+-- what a program prints that has this text for an input: that of the bytes that were read, or nothing
+abbrev pub printedOf : (text : List ℕ → List ℕ) (reading : Reading) (input : List ℕ) → List ℕ
+printedOf text (More count) input = []
+printedOf text (Done count) input = text (take count input)
+printedOf text Failed input = []

@@ -1,0 +1,2 @@
+-- What the programs' proofs cite.
+pub mod Printed

@@ -1,0 +1,2 @@
+-- What the contracts of the programs cite.
+pub mod Reading
