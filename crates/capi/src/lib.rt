@@ -13,6 +13,7 @@ ghost use Rattle.layout.specs.Parameters.{runOf};
 ghost use Rattle.layout.specs.Parts.{partOf};
 ghost use Rattle.layout.specs.Lengths.{lengthsOf};
 ghost use Rattle.transcript.specs.Judge.{transcriptVerdict};
+ghost use Rattle.sheet_text.specs.Sheet.{transcriptSheet, inFront};
 ghost use Rattle.writer.specs.Lengths.{transcriptLengthOf};
 ghost use Rattle.c_answers.specs.Answers.{answerOfInverted, answerOfOutcome, answerOfPart, answerOfVerdict};
 ghost use Rattle.c_answers.specs.Answers.{answered, whereAnswered};
@@ -250,6 +251,14 @@ pub extern "C" fn rz_judge_transcript(bytes: &[u8], answer: &mut [u64])
     }
     let verdict = reader::judge(bytes);
     Answer::of_verdict(verdict).write(answer);
+}
+
+#[no_mangle]
+pub extern "C" fn rz_sheet(bytes: &[u8], out: &mut [u8]) -> u64
+    ensures length { λ r. ⌜ r ≡ length (transcriptSheet (now (bytes .entry))) ⌝ }
+    ensures list { λ _. ⌜ now (out .exit) ≡ inFront (transcriptSheet (now (bytes .entry))) (now (out .entry)) ⌝ }
+{
+    marking::sheet(bytes, out) as u64
 }
 
 #[no_mangle]
