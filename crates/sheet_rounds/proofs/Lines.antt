@@ -40,32 +40,32 @@ module _ (run : Run) (queries : List ℕ) (count : ℕ) (table : List Round) (by
     pub lines : Put held start (queryLines run query (getD queries query 0) 0 i) end out
 
 module _ {run : Run} {queries : List ℕ} {count : ℕ} {table : List Round} (prepared : Prepared run queries count table)
-    where
-  fits : Fits run queries
-  fits = checked-fits run queries (prepared .checks)
+  where
+    fits : Fits run queries
+    fits = checked-fits run queries (prepared .checks)
 
-  -- the lines of the queries before one end where its own begin
-  lines-before : (query : ℕ) → query ≤ length queries
-      → length (sheetLines run (take query queries) 0) ≡ lineLength * (query * count)
-  lines-before query h =
-      length-sheet-lines fits query h ∙ ap (λ (n : ℕ). lineLength * (query * n)) (sym (prepared .count-is))
+    -- the lines of the queries before one end where its own begin
+    lines-before : (query : ℕ) → query ≤ length queries
+        → length (sheetLines run (take query queries) 0) ≡ lineLength * (query * count)
+    lines-before query h =
+        length-sheet-lines fits query h ∙ ap (λ (n : ℕ). lineLength * (query * n)) (sym (prepared .count-is))
 
-  lines-of : (query i : ℕ) → query < length queries → i ≤ count
-      → length (queryLines run query (getD queries query 0) 0 i) ≡ lineLength * i
-  lines-of query i h l =
-      length-query-lines run query (getD queries query 0) 0 i
-      (omega (arith, fits .queries-few))
-      (omega (arith, fits .indices query))
-      (omega (arith, count-few prepared))
+    lines-of : (query i : ℕ) → query < length queries → i ≤ count
+        → length (queryLines run query (getD queries query 0) 0 i) ≡ lineLength * i
+    lines-of query i h l =
+        length-query-lines run query (getD queries query 0) 0 i
+        (omega (arith, fits .queries-few))
+        (omega (arith, fits .indices query))
+        (omega (arith, count-few prepared))
 
-  -- and there is room for them
-  room-of : (query : ℕ) → query < length queries
-      → lineLength * (query * count) + lineLength * count ≤ length (sheetLines run queries 0)
-  room-of query h =
-      let all : length (sheetLines run queries 0) ≡ lineLength * (length queries * count) =
-      length-all-lines fits ∙ ap (λ (n : ℕ). lineLength * (length queries * n)) (sym (prepared .count-is)) in
-      let most : suc query * count ≤ length queries * count = mul-le-mul-right count h in
-      omega (arith, all, most, suc-mul query count)
+    -- and there is room for them
+    room-of : (query : ℕ) → query < length queries
+        → lineLength * (query * count) + lineLength * count ≤ length (sheetLines run queries 0)
+    room-of query h =
+        let all : length (sheetLines run queries 0) ≡ lineLength * (length queries * count) =
+        length-all-lines fits ∙ ap (λ (n : ℕ). lineLength * (length queries * n)) (sym (prepared .count-is)) in
+        let most : suc query * count ≤ length queries * count = mul-le-mul-right count h in
+        omega (arith, all, most, suc-mul query count)
 
 module _ {run : Run} {queries : List ℕ} {count : ℕ} {table : List Round} {bytes : List ℕ} {begin : ℕ} where
   -- ---- from query to query
@@ -129,35 +129,35 @@ module _ {run : Run} {queries : List ℕ} {count : ℕ} {table : List Round} {by
 
   module _ {held : List ℕ} {start query i : ℕ} {here : QueryPoint} {at end : ℕ} {out : List ℕ}
       (r : BeforeRound run queries count table bytes begin held start query i here at end out) (within : i < count)
-      where
-    prepared : Prepared run queries count table
-    prepared = r .standing .prepared
+    where
+      prepared : Prepared run queries count table
+      prepared = r .standing .prepared
 
-    -- its numbers fit in a line
-    pub narrow : (query < 10 ^ 5) × (getD queries query 0 < 10 ^ 8) × (i < 10 ^ 3)
-    narrow = (
-      omega (arith, r .query-within, fits prepared .queries-few),
-      omega (arith, fits prepared .indices query),
-      omega (arith, count-few prepared),
-    )
+      -- its numbers fit in a line
+      pub narrow : (query < 10 ^ 5) × (getD queries query 0 < 10 ^ 8) × (i < 10 ^ 3)
+      narrow = (
+        omega (arith, r .query-within, fits prepared .queries-few),
+        omega (arith, fits prepared .indices query),
+        omega (arith, count-few prepared),
+      )
 
-    pub line-room : end + lineLength ≤ length out
-    line-room =
-        let ends = lines-of prepared query i (r .query-within) (r .round-most) in
-        omega (arith, r .room, r .lines .ends, ends, length-put (r .lines))
+      pub line-room : end + lineLength ≤ length out
+      line-room =
+          let ends = lines-of prepared query i (r .query-within) (r .round-most) in
+          omega (arith, r .room, r .lines .ends, ends, length-put (r .lines))
 
-    pub next-round : {next : QueryPoint} {next-at next-end : ℕ} {left : List ℕ}
-        → Standing run queries count table bytes begin query (i + 1) next next-at
-        → Put out end (sheetLine run query (getD queries query 0) i) next-end left
-        → BeforeRound run queries count table bytes begin held start query (i + 1) next next-at next-end left
-    next-round standing line =
-        record {
-          standing = standing;
-          room = r .room;
-          query-within = r .query-within;
-          round-most = omega arith;
-          lines =
-              put-same (put-append (r .lines) line)
-              (sym (query-lines-next run query (getD queries query 0) i)
-              ∙ ap (queryLines run query (getD queries query 0) 0) (sym (add-one i)));
-        }
+      pub next-round : {next : QueryPoint} {next-at next-end : ℕ} {left : List ℕ}
+          → Standing run queries count table bytes begin query (i + 1) next next-at
+          → Put out end (sheetLine run query (getD queries query 0) i) next-end left
+          → BeforeRound run queries count table bytes begin held start query (i + 1) next next-at next-end left
+      next-round standing line =
+          record {
+            standing = standing;
+            room = r .room;
+            query-within = r .query-within;
+            round-most = omega arith;
+            lines =
+                put-same (put-append (r .lines) line)
+                (sym (query-lines-next run query (getD queries query 0) i)
+                ∙ ap (queryLines run query (getD queries query 0) 0) (sym (add-one i)));
+          }

@@ -48,7 +48,8 @@ module _ (bytes : List ℕ) (c : Carries bytes) where
 
   -- there are at most 24 sections, each of less than 2^35 bytes
   pub length-small : AreBytes bytes → length bytes ≤ 2 ^ 40
-  length-small known = omega (arith, c .ends, start-below bytes known (suc (layerSection r)) (omega (arith, rounds-few)))
+  length-small known =
+      omega (arith, c .ends, start-below bytes known (suc (layerSection r)) (omega (arith, rounds-few)))
 
   pub last-are : entriesAt bytes (length bytes - 8 * last-due) last-due ≡ runIn bytes .last
   last-are =

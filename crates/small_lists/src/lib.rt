@@ -12,8 +12,8 @@ ghost use Rattle.transcript.specs.Checks.{transcriptOutcome};
 ghost use Rattle.sections.specs.Views.{sectionsIn};
 ghost use Rattle.small_lists.specs.Lists.{listsIn};
 
-// Each list stands at the front of its array, with zeros after it; k, `rounds`, `query_count` and `last_count` are their
-// lengths.
+// Each list stands at the front of its array, with zeros after it. Their lengths are k, `rounds`, `query_count` and
+// `last_count`.
 pub struct Lists {
     pub parameters: Parameters,
     pub rounds: usize,

@@ -111,7 +111,8 @@ after-layer-requires c κs =
     let in-loop = c .before .before in
     let l = in-loop .before .loop in
     let prepared = l .inv .before-round .before-query .prepared in
-    (prepared .ready .coset .parameters, omega (arith, prepared .count-is), at-few (l .inv .standing) (in-loop .loop-test .taken))
+    let few = at-few (l .inv .standing) (in-loop .loop-test .taken) in
+    (prepared .ready .coset .parameters, omega (arith, prepared .count-is), few)
 
 computed-requires : tie.Need-computed-requires Inv-loop μ-loop Inv-queries μ-queries
 computed-requires c κs =

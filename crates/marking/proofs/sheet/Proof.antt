@@ -51,7 +51,8 @@ returns-2 : tie.Need-returns-2
 returns-2 c =
     let checked = c .before .before in
     let a = checked .before .before .before .before .args in
-    let none = nothing (a .bytes .now) (checked .checked .result) (c .before .match .keys2) (checked .checked .ensures) in
+    let told = checked .checked in
+    let none = nothing (a .bytes .now) (told .result) (c .before .match .keys2) (told .ensures) in
     (sym (ap length none), nothing-in-front (transcriptSheet (a .bytes .now)) (a .out .now) none)
 
 pub sheet-spec : {M : Type 1} → statement M

@@ -126,8 +126,8 @@ lines-are c =
     let read = at-lists (c .before .before .before .before .before .before) in
     let start = read .before .before .before in
     let bytes = start .args .bytes .now in
-    ap₂ (λ (run : Run) (queries : List ℕ). sheetLines run queries 0) (sent-run bytes (start .pre .1) (read .read .ensures))
-    (queries-front bytes (start .pre .1) (read .read .ensures))
+    ap₂ (λ (run : Run) (queries : List ℕ). sheetLines run queries 0)
+    (sent-run bytes (start .pre .1) (read .read .ensures)) (queries-front bytes (start .pre .1) (read .read .ensures))
     ∙ sym (sheet-passed bytes (start .pre .1))
 
 put-lines-requires : tie.Need-put-lines-requires
@@ -138,8 +138,10 @@ put-lines-requires c κs =
     let bytes = start .args .bytes .now in
     let same = length-is bytes (start .pre .1) (read .read .ensures) in (
       sent-checks bytes (start .pre .1) (read .read .ensures),
-      (sent-layers bytes (start .pre .1) (read .read .ensures) (known (read .before .before)) (start .pre .0),
-      omega (arith, ap length (lines-are c), same, inside .before .before .before .before .if1 .left)),
+      (
+        sent-layers bytes (start .pre .1) (read .read .ensures) (known (read .before .before)) (start .pre .0),
+        omega (arith, ap length (lines-are c), same, inside .before .before .before .before .if1 .left),
+      ),
     )
 
 same-length : tie.Need-same-length

@@ -27,9 +27,10 @@ returns-2 c =
     let sheet = c .before .before in
     let short = sheet .before .before in
     let a = short .before .before .before .args in
-    let same = sym (sheets .short (a .bytes .now) (short .if1 .left)) in
-    (sheet .sheet .ensures .0 ∙ ap length same,
-    sheet .sheet .ensures .1 ∙ ap (λ (text : List ℕ). inFront text (a .out .now)) same)
+    let same = sym (sheets .short (a .bytes .now) (short .if1 .left)) in (
+      sheet .sheet .ensures .0 ∙ ap length same,
+      sheet .sheet .ensures .1 ∙ ap (λ (text : List ℕ). inFront text (a .out .now)) same,
+    )
 
 pub sheet-input-spec : {M : Type 1} → statement M
 sheet-input-spec = tie.close (tie.spec returns sheet-requires same-length returns-2)

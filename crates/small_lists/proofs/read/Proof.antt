@@ -4,22 +4,20 @@ use mathlib.Core.List.{List}
 use Prim.Native.Nat.{ℕ, _+_, _*_, _-_, _^_, _≤_}
 use native.Mathlib.Omega.{arith}
 use lib.ListN.{length}
-use borrow.Author.Needs.{needs}
 use Rattle.poly.specs.Carrier.{gf64}
 use Rattle.poly.specs.Polynomial.{padded}
 use Rattle.fri.specs.Layout.{lastCount}
 use Rattle.layout.specs.declared.Parameters.{Parameters}
 use Rattle.layout.specs.Parameters.{stepsBy, Valid}
 use Rattle.transcript.specs.Numerals.{AreBytes, countAt, entryAt, entriesAt}
-use Rattle.transcript.specs.Sections.{sectionCount, transcriptK, transcriptRounds, runIn, queriesIn}
+use Rattle.transcript.specs.Sections.{sectionCount, transcriptK, transcriptRounds}
 use Rattle.transcript.specs.Theorems.{Carries}
 use Rattle.transcript.proofs.Numerals.{are-bytes}
 use Rattle.transcript.proofs.Carried.{passed-carries, queries-few}
 use Rattle.sections.specs.declared.Sections.{Sections}
-use Rattle.sections.specs.Views.{parametersIn}
 use Rattle.sections.proofs.Places.{start-near, basis-is}
 use Rattle.small_lists.specs.declared.Lists.{Lists}
-use Rattle.small_lists.specs.Lists.{lastCountIn, listsIn}
+use Rattle.small_lists.specs.Lists.{lastCountIn}
 use Rattle.small_lists.proofs.Places.{rounds-few, offset-is, challenges-are, last-within, last-few}
 use Rattle.small_lists.proofs.Places.{length-small, last-are}
 use Rattle.small_lists.proofs.read.Statement.{statement}
@@ -154,12 +152,26 @@ lists-equal : {p q : Parameters} {r s m n d e o u : ℕ} {b v c w j x l y : List
     → p ≡ q → r ≡ s → m ≡ n → d ≡ e → o ≡ u → b ≡ v → c ≡ w → j ≡ x → l ≡ y
     → _≡_ {A = Lists}
     (record {
-      parameters = p; rounds = r; «query_count» = m; «last_count» = d; offset = record { 0 = o };
-      basis = b; challenges = c; queries = j; last = l;
+      parameters = p;
+      rounds = r;
+      «query_count» = m;
+      «last_count» = d;
+      offset = record { 0 = o };
+      basis = b;
+      challenges = c;
+      queries = j;
+      last = l;
     })
     (record {
-      parameters = q; rounds = s; «query_count» = n; «last_count» = e; offset = record { 0 = u };
-      basis = v; challenges = w; queries = x; last = y;
+      parameters = q;
+      rounds = s;
+      «query_count» = n;
+      «last_count» = e;
+      offset = record { 0 = u };
+      basis = v;
+      challenges = w;
+      queries = x;
+      last = y;
     })
 lists-equal ep er en ed eo eb ec ej el = cc
 
