@@ -6,21 +6,38 @@ use native.Mathlib.Numerals.{add-one}
 use native.Mathlib.Omega.{arith}
 use lib.Dec.{ltb}
 use lib.ListN.{getD, take, drop}
+use Rattle.refusal.specs.declared.Outcome.the-variants.{Done}
+use Rattle.coset.proofs.Points.{all-elements}
 use Rattle.fold.specs.Fold.{cosetEntries}
 use Rattle.fri.specs.Layout.{dimension}
 use Rattle.fri.specs.Run.{Run, stepsIn, roundsIn, layerIn}
 use Rattle.fri.specs.Rounds.{valueComputed, valueFound}
+use Rattle.fri.specs.Judge.{checksOutcome}
+use Rattle.layout.specs.declared.Parameters.{Parameters}
 use Rattle.layout.proofs.Sizes.{few-rounds, layer-small}
 use Rattle.round_checks.specs.declared.Round.{Round}
 use Rattle.round_checks.specs.declared.QueryPoint.{QueryPoint}
 use Rattle.round_checks.specs.Rounds.{noRound, nextQueryPoint, valueFolded}
 use Rattle.round_checks.proofs.Runs.{Checked, parametersOf, sizeIn, roundIn, indexOf, cosetIndex, cosetBegin}
 use Rattle.round_checks.proofs.Runs.{queryPointOf, index-inside, coset-ends, computed-by, found-by}
-use Rattle.round_checks.proofs.Judged.{Prepared, BeforeRound, RoundRead}
+use Rattle.round_checks.proofs.Judged.{checked-run, Prepared, BeforeRound, RoundRead}
 use Rattle.round_checks.proofs.Judged.{query-inside, round-inside, round-is, next-of, next-round}
 use Rattle.transcript.specs.Numerals.{entryAt}
-use Rattle.transcript.proofs.Numerals.{entry-of, part-of-entries}
-use Rattle.byte_rounds.specs.Layers.{layerAt, LaidOut, partAt, valueReadAt}
+use Rattle.transcript.proofs.Numerals.{are-bytes, entry-of, part-of-entries}
+use Rattle.transcript.proofs.Sections.{run-fits}
+use Rattle.byte_rounds.specs.Layers.{sentIn, layerAt, LaidOut, partAt, valueReadAt}
+
+-- ---- the run
+
+-- what the checks tell of a run whose layers lie in bytes
+pub checked-sent : (p : Parameters) (offset : ℕ) (basis challenges bytes last queries : List ℕ)
+    → checksOutcome (sentIn p offset basis challenges bytes last) queries ≡ Done → offset < 2 ^ 64
+    → ((i : ℕ) → getD basis i 0 < 2 ^ 64) → ((i : ℕ) → getD challenges i 0 < 2 ^ 64)
+    → ((i : ℕ) → getD bytes i 0 < 256) → Checked (sentIn p offset basis challenges bytes last)
+checked-sent p offset basis challenges bytes last queries done ho hb hc known =
+    let sent = run-fits bytes (are-bytes bytes known) in
+    checked-run (sentIn p offset basis challenges bytes last) queries done ho
+    (all-elements basis hb) (all-elements challenges hc) (sent .word) (sent .store)
 
 -- ---- where they begin
 

@@ -5,15 +5,12 @@ use mathlib.Core.Path.{subst}
 use mathlib.Core.Logic.{⊎-elim}
 use Prim.Native.Nat.{ℕ, _-_, _^_, _<_}
 use lib.ListN.{length}
-use Rattle.coset.proofs.Points.{all-elements}
 use Rattle.fri.specs.Run.{Run}
-use Rattle.transcript.proofs.Sections.{run-fits}
-use Rattle.transcript.proofs.Numerals.{are-bytes}
 use Rattle.byte_rounds.specs.Layers.{sentIn}
 use Rattle.byte_rounds.proofs.LayerPlaces.{AtLayer, at-few, index-few, next-at-few, next-index-few}
-use Rattle.byte_rounds.proofs.LayerPlaces.{first-layer, read-in-bytes, next-layer}
+use Rattle.byte_rounds.proofs.LayerPlaces.{checked-sent, first-layer, read-in-bytes, next-layer}
 use Rattle.round_checks.proofs.Runs.{Checked}
-use Rattle.round_checks.proofs.Judged.{checked-run, BeforeQuery}
+use Rattle.round_checks.proofs.Judged.{BeforeQuery}
 use Rattle.round_checks.proofs.Judged.{queries-most, count-few, cosets-few, first-query, first-round, query-passed}
 use Rattle.round_checks.proofs.Judged.{accepted, refused}
 use borrow.Author.Needs.{needs}
@@ -54,12 +51,11 @@ checked c =
     let basis = challenges .before in
     let start = basis .before in
     let a = start .args in
-    let known = are-bytes (a .bytes .now) (λ i. omega (arith, c .before .shared-slice-known4 .given i)) in
-    let sent = run-fits (a .bytes .now) known in
-    checked-run (run start) (a .queries .now) (start .pre .0) (offset-element start)
-    (all-elements (a .basis .now) (λ i. omega (arith, basis .shared-slice-known .given i)))
-    (all-elements (a .challenges .now) (λ i. omega (arith, challenges .shared-slice-known2 .given i)))
-    (sent .word) (sent .store)
+    checked-sent (a .parameters) (a .offset .0) (a .basis .now) (a .challenges .now) (a .bytes .now) (a .last .now)
+    (a .queries .now) (start .pre .0) (offset-element start)
+    (λ i. omega (arith, basis .shared-slice-known .given i))
+    (λ i. omega (arith, challenges .shared-slice-known2 .given i))
+    (λ i. omega (arith, c .before .shared-slice-known4 .given i))
 
 rounds-requires : tie.Need-rounds-requires Inv-loop μ-loop Inv-queries μ-queries
 rounds-requires c κs = checked c .coset .parameters

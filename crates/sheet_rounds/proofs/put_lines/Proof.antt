@@ -6,15 +6,12 @@ use native.Mathlib.Omega.{arith}
 use lib.ListN.{length, getD}
 use borrow.Author.Needs.{needs}
 use Rattle.placing.proofs.Placing.{length-put, put-same}
-use Rattle.coset.proofs.Points.{all-elements}
 use Rattle.fri.specs.Run.{Run}
-use Rattle.transcript.proofs.Numerals.{are-bytes}
-use Rattle.transcript.proofs.Sections.{run-fits}
 use Rattle.round_checks.proofs.Runs.{Checked}
-use Rattle.round_checks.proofs.Judged.{checked-run, queries-most, count-few}
+use Rattle.round_checks.proofs.Judged.{queries-most, count-few}
 use Rattle.byte_rounds.specs.Layers.{sentIn}
 use Rattle.byte_rounds.proofs.LayerPlaces.{at-few, index-few, next-at-few, next-index-few, next-standing}
-use Rattle.byte_rounds.proofs.LayerPlaces.{computed-value, found-value}
+use Rattle.byte_rounds.proofs.LayerPlaces.{checked-sent, computed-value, found-value}
 use Rattle.sheet_text.specs.Sheet.{lineText}
 use Rattle.sheet_rounds.proofs.Lines.{BeforeQuery, BeforeRound, first-query, first-round, query-done, all-lines}
 use Rattle.sheet_rounds.proofs.Lines.{narrow, line-room, next-round}
@@ -57,12 +54,11 @@ checked c =
     let basis = challenges .before in
     let start = basis .before in
     let a = start .args in
-    let known = are-bytes (a .bytes .now) (λ i. omega (arith, c .before .shared-slice-known4 .given i)) in
-    let sent = run-fits (a .bytes .now) known in
-    checked-run (run start) (a .queries .now) (start .pre .0) (offset-element start)
-    (all-elements (a .basis .now) (λ i. omega (arith, basis .shared-slice-known .given i)))
-    (all-elements (a .challenges .now) (λ i. omega (arith, challenges .shared-slice-known2 .given i)))
-    (sent .word) (sent .store)
+    checked-sent (a .parameters) (a .offset .0) (a .basis .now) (a .challenges .now) (a .bytes .now) (a .last .now)
+    (a .queries .now) (start .pre .0) (offset-element start)
+    (λ i. omega (arith, basis .shared-slice-known .given i))
+    (λ i. omega (arith, challenges .shared-slice-known2 .given i))
+    (λ i. omega (arith, c .before .shared-slice-known4 .given i))
 
 rounds-requires : tie.Need-rounds-requires Inv-loop2 μ-loop2 Inv-loop μ-loop
 rounds-requires c κs = checked (c .before) .coset .parameters
