@@ -138,7 +138,7 @@ enum rz_number {
  *
  * A null pointer with length 0 is a list without entries, wherever part 6 takes a list or bytes. A
  * null pointer with another length, and a null pointer to a run or a fold call, are mistakes of
- * the caller: the answer's number is RZ_NONE, and nothing is done. */
+ * the caller: the answer's number, or a sheet's length, is RZ_NONE, and nothing is done. */
 
 /* A list that is read. */
 struct rz_list {
@@ -373,12 +373,44 @@ static inline struct rz_answer rz_write_transcript_answer(const struct rz_run *r
 RZ_MUST_USE
 static inline struct rz_answer rz_judge_transcript_answer(const uint8_t *bytes, size_t length);
 
+/* The marking sheet of a transcript, of any length: a line for every query and every round, by
+ * query, then round, also those after the first check that fails. A line has 55 bytes and a line
+ * feed; its fields, with one space between, are
+ *   query            5, decimal: its position in section 4, from 0
+ *   index            8, decimal: the entry of section 4, as given
+ *   round            3, decimal, from 0
+ *   value computed  16 hexadecimal digits: the fold
+ *   value found     16 hexadecimal digits: what the fold must equal
+ *   `ok` where the two values are equal, else `no`
+ * Decimals are padded with spaces on the left, hexadecimal digits, in lower case, with zeros. The
+ * two values are those that rz_judge_answer compares. There is no header, and no byte behind the
+ * last line feed. The first line of case G:
+ *
+ *         0        0   0 000000000000000b 000000000000000b ok
+ *
+ * Gives the length of the sheet in bytes: 56 * queries * r where rz_judge_transcript_answer gives
+ * number 0 or 11, and 0, for no lines, where it gives another. Every line is `ok` exactly where
+ * number is 0; else the first `no` stands at the query and round of number 11. No number of part 3
+ * is given.
+ *
+ * Where the sheet is not longer than `room`, how many bytes `out` has, the front of `out` becomes
+ * the sheet and the rest stays as it was; else all of `out` stays as it was. So the length can be
+ * asked for with a null pointer and 0, and no round is computed then. RZ_LARGEST_SHEET bytes are
+ * room enough for every sheet. */
+RZ_MUST_USE
+static inline uint64_t rz_sheet_into(const uint8_t *bytes, size_t length, uint8_t *out,
+                                     size_t room);
+
+/* The length of the largest sheet: 256 queries, 19 rounds (k 20, rate 1, step 1), 56 bytes. */
+#define RZ_LARGEST_SHEET (256 * 19 * 56)
+
 /* 7. THE RAW FUNCTIONS
  *
  * They are for those who bind another language; a C program calls those of part 6. rz_judge does
  * what is said of rz_judge_answer, rz_prove what is said of rz_prove_answer, and so on, with these
  * differences: the answer's five numbers, in the order of part 2, are written into the list
- * `answer`, and no pointer may be null, even where the list is empty.
+ * `answer`, and no pointer may be null, even where the list is empty. rz_sheet, which answers no
+ * such numbers, does what is said of rz_sheet_into with the second difference alone.
  *
  * WARNING. Where `answer_length` is not RZ_ANSWER_LENGTH, nothing at all is written or done: the
  * list `answer` is left alone. A list of zeros then reads as accepted:
@@ -431,10 +463,12 @@ void rz_write_transcript(size_t k, size_t rate, size_t step, uint64_t offset,
 void rz_judge_transcript(const uint8_t *bytes, size_t bytes_length, uint64_t *answer,
                          size_t answer_length);
 
+uint64_t rz_sheet(const uint8_t *bytes, size_t bytes_length, uint8_t *out, size_t out_length);
+
 /* 8. THE FUNCTIONS OF PART 6, MADE OF THOSE OF PART 7
  *
  * Each presets the five numbers, calls the raw function unless a pointer is missing, and names
- * what stands there then. */
+ * what stands there then; for the sheet, the length is RZ_NONE where a pointer is missing. */
 
 static inline int rz_accepted(struct rz_answer verdict) {
     return verdict.number == RZ_ACCEPTED;
@@ -501,6 +535,20 @@ static inline uint64_t *rz_room(struct rz_output output) {
     static uint64_t unwritten = 0;
 
     return output.entries == NULL ? &unwritten : output.entries;
+}
+
+/* The same for bytes that are read. */
+static inline const uint8_t *rz_bytes(const uint8_t *bytes) {
+    static const uint8_t unread = 0;
+
+    return bytes == NULL ? &unread : bytes;
+}
+
+/* The same for bytes that are written to. */
+static inline uint8_t *rz_bytes_room(uint8_t *bytes) {
+    static uint8_t unwritten = 0;
+
+    return bytes == NULL ? &unwritten : bytes;
 }
 
 static inline struct rz_answer rz_inverse_answer(uint64_t a) {
@@ -591,7 +639,6 @@ static inline struct rz_answer rz_write_transcript_answer(const struct rz_run *r
                                                           struct rz_list store,
                                                           struct rz_list last, uint8_t *bytes,
                                                           size_t length) {
-    static uint8_t unwritten = 0;
     uint64_t numbers[RZ_ANSWER_LENGTH] = RZ_NO_ANSWER;
 
     if (rz_run_there(run) && rz_list_there(queries) && rz_list_there(store) &&
@@ -600,21 +647,27 @@ static inline struct rz_answer rz_write_transcript_answer(const struct rz_run *r
                             run->basis.length, rz_entries(run->challenges),
                             run->challenges.length, rz_entries(queries), queries.length,
                             rz_entries(run->word), run->word.length, rz_entries(store),
-                            store.length, rz_entries(last), last.length,
-                            bytes == NULL ? &unwritten : bytes, length, numbers,
-                            RZ_ANSWER_LENGTH);
+                            store.length, rz_entries(last), last.length, rz_bytes_room(bytes),
+                            length, numbers, RZ_ANSWER_LENGTH);
     }
     return rz_answer_of(numbers);
 }
 
 static inline struct rz_answer rz_judge_transcript_answer(const uint8_t *bytes, size_t length) {
-    static const uint8_t unread = 0;
     uint64_t numbers[RZ_ANSWER_LENGTH] = RZ_NO_ANSWER;
 
     if (rz_there(bytes, length)) {
-        rz_judge_transcript(bytes == NULL ? &unread : bytes, length, numbers, RZ_ANSWER_LENGTH);
+        rz_judge_transcript(rz_bytes(bytes), length, numbers, RZ_ANSWER_LENGTH);
     }
     return rz_answer_of(numbers);
+}
+
+static inline uint64_t rz_sheet_into(const uint8_t *bytes, size_t length, uint8_t *out,
+                                     size_t room) {
+    if (!rz_there(bytes, length) || !rz_there(out, room)) {
+        return RZ_NONE;
+    }
+    return rz_sheet(rz_bytes(bytes), length, rz_bytes_room(out), room);
 }
 
 #ifdef __cplusplus

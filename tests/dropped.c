@@ -1,5 +1,5 @@
-/* Drops the answer of every function that gives one: no compiler that knows -Werror=unused-result
- * takes it, and it is never run. */
+/* Drops the answer of every function that gives one, and the length of a sheet: no compiler that
+ * knows -Werror=unused-result takes it, and it is never run. */
 #include "razgwilh.h"
 
 int main(void) {
@@ -15,5 +15,6 @@ int main(void) {
     rz_judge_answer(NULL, list, list, list);
     rz_write_transcript_answer(NULL, list, list, list, NULL, 0);
     rz_judge_transcript_answer(NULL, 0);
+    rz_sheet_into(NULL, 0, NULL, 0);
     return 0;
 }

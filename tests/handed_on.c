@@ -1,7 +1,7 @@
 /* Defines the raw functions itself, without the library: each records what it is handed and
- * answers five different numbers. So every function of the header's part 6 is seen to hand on its
- * arguments whole and in their order, never a null pointer, and to name what comes back. C and C++
- * both compile it. */
+ * answers five different numbers, that of the sheet a length. So every function of the header's
+ * part 6 is seen to hand on its arguments whole and in their order, never a null pointer, and to
+ * name what comes back. C and C++ both compile it. */
 #include "razgwilh.h"
 
 #include <stdio.h>
@@ -21,6 +21,7 @@ static struct {
 
 static const uint64_t nothing_done[] = {RZ_NONE, RZ_NONE, RZ_NONE, 0, RZ_NONE};
 static const uint64_t answered[] = {101, 102, 103, 104, 105};
+static const uint64_t sheet_length = 106;
 
 static const char *function = "";
 static int failures = 0;
@@ -162,6 +163,13 @@ void rz_judge_transcript(const uint8_t *bytes, size_t bytes_length, uint64_t *an
     give_answer(answer, answer_length);
 }
 
+uint64_t rz_sheet(const uint8_t *bytes, size_t bytes_length, uint8_t *out, size_t out_length) {
+    take(bytes, bytes_length);
+    take(out, out_length);
+    handed.calls++;
+    return sheet_length;
+}
+
 static uint64_t number(size_t place) {
     return given[place].length;
 }
@@ -223,6 +231,16 @@ static struct rz_answer call_write_transcript(void) {
 
 static struct rz_answer call_judge_transcript(void) {
     return rz_judge_transcript_answer((const uint8_t *)given[0].entries, number(0));
+}
+
+/* The length that the raw function gave stands for its answer, and RZ_NONE for nothing done. */
+static struct rz_answer call_sheet(void) {
+    const uint64_t length =
+        rz_sheet_into((const uint8_t *)given[0].entries, number(0), (uint8_t *)given[1].entries,
+                      number(1));
+
+    expect(length == sheet_length || length == RZ_NONE, "the length of a sheet");
+    return rz_answer_of(length == sheet_length ? answered : nothing_done);
 }
 
 /* Every place gets a pointer and a number of its own. No narrower type holds the numbers. */
@@ -295,6 +313,7 @@ int main(void) {
     expect_function("rz_judge_answer", call_judge, "nnnnllllll");
     expect_function("rz_write_transcript_answer", call_write_transcript, "nnnnlllllll");
     expect_function("rz_judge_transcript_answer", call_judge_transcript, "l");
+    expect_function("rz_sheet_into", call_sheet, "ll");
 
     start("rz_fold_answer without a fold call");
     expect_nothing_done(rz_fold_answer(NULL, output(0), output(1)));

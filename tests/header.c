@@ -549,6 +549,77 @@ static void expect_transcripts(void) {
     expect_transcript(changed, sizeof changed, refused(RZ_COUNT_DIFFERS, 1));
 }
 
+/* As many bytes of a transcript have the sheet `due`; a room of `room` bytes gets it where it is
+ * large enough, and is left alone else. */
+static void expect_sheet_in(size_t room, const uint8_t *bytes, size_t length, const char *due) {
+    const size_t due_length = strlen(due), written = due_length <= room ? due_length : 0;
+    uint8_t raw[BYTES_ROOM], out[BYTES_ROOM];
+
+    fill_bytes(raw);
+    expect(rz_sheet(bytes, length, raw, room) == due_length, "rz_sheet: length");
+    expect_bytes(raw, (const uint8_t *)due, written, "rz_sheet: lines");
+    fill_bytes(out);
+    expect(rz_sheet_into(bytes, length, out, room) == due_length, "rz_sheet_into: length");
+    expect_bytes(out, (const uint8_t *)due, written, "rz_sheet_into: lines");
+}
+
+/* With room for exactly the sheet, for more, for a byte less, and with none. */
+static void expect_sheet(const uint8_t *bytes, size_t length, const char *due) {
+    const size_t due_length = strlen(due);
+
+    expect_sheet_in(due_length, bytes, length, due);
+    expect_sheet_in(due_length + 1, bytes, length, due);
+    expect_sheet_in(BYTES_ROOM, bytes, length, due);
+    expect_sheet_in(due_length == 0 ? 0 : due_length - 1, bytes, length, due);
+    expect_sheet_in(0, bytes, length, due);
+    expect(rz_sheet_into(bytes, length, NULL, 0) == due_length, "null: no room for a sheet");
+    expect(rz_sheet_into(bytes, length, NULL, due_length + 1) == RZ_NONE, "null: room");
+}
+
+/* Case G; with entry 1 of the word made 5, which has a line behind the first check that fails;
+ * and refused for another cause than that. */
+static void expect_sheets(void) {
+    uint8_t changed[sizeof case_g];
+
+    expect_sheet(case_g, sizeof case_g,
+                 "    0        0   0 000000000000000b 000000000000000b ok\n"
+                 "    1        3   0 000000000000000b 000000000000000b ok\n");
+    expect_sheet(case_g, 0, "");
+    expect_sheet(case_g, sizeof case_g - 1, "");
+    memcpy(changed, case_g, sizeof case_g);
+    changed[100] = 5;
+    expect_sheet(changed, sizeof changed,
+                 "    0        0   0 000000000000000f 000000000000000b no\n"
+                 "    1        3   0 000000000000000b 000000000000000b ok\n");
+    changed[80] = 1;
+    expect_sheet(changed, sizeof changed, "");
+    expect(rz_sheet_into(NULL, 0, NULL, 0) == 0, "null: the sheet of no bytes");
+    expect(rz_sheet_into(NULL, 1, changed, sizeof changed) == RZ_NONE, "null: bytes of a sheet");
+}
+
+/* The largest sheet: of the zero word, which is accepted, with 256 queries and 19 rounds. */
+static void expect_largest_sheet(void) {
+    static const uint64_t zeros[1 << 20] = {0};
+    static uint64_t points[20], queries[256];
+    static uint8_t bytes[16779680], out[RZ_LARGEST_SHEET];
+    const struct rz_run run = {20, 1, 1, 0, RZ_LIST(points), {zeros, 19}, RZ_LIST(zeros)};
+    const struct rz_list store = {zeros, rz_store_length(20, 1, 1)};
+
+    for (size_t i = 0; i < LENGTH(points); i++) {
+        points[i] = UINT64_C(1) << i;
+    }
+    for (size_t i = 0; i < LENGTH(queries); i++) {
+        queries[i] = 2 * i;
+    }
+    expect_answer(rz_write_transcript_answer(&run, RZ_LIST(queries), store, rz_list_of(zeros, 1),
+                                             bytes, sizeof bytes),
+                  done(), "the largest transcript");
+    expect(rz_sheet_into(bytes, sizeof bytes, out, sizeof out) == sizeof out, "RZ_LARGEST_SHEET");
+    expect(memcmp(out + sizeof out - 56,
+                  "  255      510  18 0000000000000000 0000000000000000 ok\n", 56) == 0,
+           "the last line of the largest sheet");
+}
+
 /* A section of a transcript: its count and its entries, the lowest byte first. Answers where it
  * ends. */
 static size_t put_section(uint8_t *bytes, size_t at, struct rz_list list) {
@@ -941,6 +1012,8 @@ int main(void) {
     expect_runs_refused();
     expect_own_numbers();
     expect_transcripts();
+    expect_sheets();
+    expect_largest_sheet();
     expect_writing();
     expect_writings_refused();
     expect_trap();
