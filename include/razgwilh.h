@@ -23,9 +23,9 @@
 #include <stddef.h>
 #include <stdint.h>
 
-#define RZ_VERSION "0.4.0"
+#define RZ_VERSION "0.5.0"
 #define RZ_VERSION_MAJOR 0
-#define RZ_VERSION_MINOR 4
+#define RZ_VERSION_MINOR 5
 #define RZ_VERSION_PATCH 0
 
 #ifdef __cplusplus
