@@ -8,10 +8,11 @@
 //!
 //! There is arithmetic ([`sum`], [`product`], [`inverse`]), [`encode`] and [`interpolate`], a
 //! lone [`fold`], the lengths of a run's lists ([`Run::store_length`] and others), the prover
-//! ([`prove`]), the [`layer`] of a store, the writer of transcripts ([`write_transcript`]), and
-//! the judge, over lists ([`judge`]) and over the bytes of a transcript ([`judge_transcript`]).
-//! `include/razgwilh.h` describes each function in full, with the order of its refusals;
-//! [`raw`] has them by the C convention.
+//! ([`prove`]), the [`layer`] of a store, the writer of transcripts ([`write_transcript`]), the
+//! judge, over lists ([`judge`]) and over the bytes of a transcript ([`judge_transcript`]), and the
+//! marking sheet of a transcript ([`sheet`], [`sheet_into`]). `include/razgwilh.h` describes each
+//! function in full, with the order of its refusals; [`raw`] has those that can refuse by the C
+//! convention. Only [`sheet`] needs an allocator: it is left out without the feature `alloc`.
 //!
 //! Whatever a caller passes, a refusal is an `Err` with its [`Cause`], whose number
 //! `docs/NUMBERS.md` lists. Only number 0 reads as done or accepted: the five numbers of an
@@ -77,11 +78,16 @@
 #![no_std]
 #![warn(missing_docs)]
 
+#[cfg(feature = "alloc")]
+extern crate alloc;
+
 pub mod raw;
 mod refusal;
 
 pub use refusal::{Cause, Refusal};
 
+#[cfg(feature = "alloc")]
+use alloc::{vec, vec::Vec};
 use raw::Answer;
 
 /// The program of README.md is compiled with the examples of this crate.
@@ -273,6 +279,31 @@ pub fn write_transcript(
 /// 16 or 17, of which 1 and 2 have the section for their place.
 pub fn judge_transcript(bytes: &[u8]) -> Result<Accepted, Refusal> {
     accepted(|answer| raw::judge_transcript(bytes, answer))
+}
+
+/// The bytes of the largest sheet: 256 queries, 19 rounds (k 20, rate 1, step 1), 56 bytes a line.
+pub const LARGEST_SHEET: usize = 256 * 19 * 56;
+
+/// The marking sheet of a transcript, of any length: a line of 55 bytes and a line feed for every
+/// query and every round, by query, then round, also those after the first check that fails. Its
+/// fields are query, index, round, value computed, value found, and `ok` where the two values are
+/// equal, else `no`. It is empty where [`judge_transcript`] refuses with another number than 11;
+/// else every line is `ok` exactly where that accepts.
+#[cfg(feature = "alloc")]
+pub fn sheet(bytes: &[u8]) -> Vec<u8> {
+    // One call: to ask for the length first would have all sections of the transcript read twice.
+    let mut room = vec![0; LARGEST_SHEET];
+    let length = sheet_into(bytes, &mut room);
+    room[..length as usize].to_vec()
+}
+
+/// Makes the front of `out` the [`sheet`] of the transcript where `out` is long enough for it, and
+/// leaves the rest as it was, else all of `out`. Gives the length of the sheet in either case, so
+/// that it can be asked for with an empty `out`; no round is computed then.
+#[must_use]
+pub fn sheet_into(bytes: &[u8], out: &mut [u8]) -> u64 {
+    // SAFETY: each pointer and length are one slice's; what is exclusive overlaps no other.
+    unsafe { raw::rz_sheet(bytes.as_ptr(), bytes.len(), out.as_mut_ptr(), out.len()) }
 }
 
 fn done(call: impl FnOnce(&mut [u64])) -> Result<(), Refusal> {

@@ -371,4 +371,10 @@ extern "C" {
         answer: *mut u64,
         answer_length: usize,
     );
+    pub(crate) fn rz_sheet(
+        bytes: *const u8,
+        bytes_length: usize,
+        out: *mut u8,
+        out_length: usize,
+    ) -> u64;
 }
