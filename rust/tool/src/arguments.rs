@@ -16,6 +16,8 @@ pub fn usage() -> &'static str {
 
 pub enum Command {
     Judge(Request),
+    /// Of this file.
+    Sheet(OsString),
     Write(Writing),
     Help,
     Version,
@@ -39,6 +41,7 @@ pub fn command(mut arguments: impl Iterator<Item = OsString>) -> Result<Command,
     let name = arguments.next().ok_or("no command")?;
     match name.to_str() {
         Some("judge") => to_judge(arguments),
+        Some("sheet") => to_sheet(arguments),
         Some("write") => to_write(arguments),
         Some("--help" | "-h") => Ok(Command::Help),
         Some("--version" | "-V") => Ok(Command::Version),
@@ -46,32 +49,48 @@ pub fn command(mut arguments: impl Iterator<Item = OsString>) -> Result<Command,
     }
 }
 
-fn to_judge(mut arguments: impl Iterator<Item = OsString>) -> Result<Command, String> {
-    let mut request = Request { files: Vec::new(), explain: false, jobs: cores() };
-    while let Some(argument) = arguments.next() {
-        if !argument.as_encoded_bytes().starts_with(b"-") {
-            request.files.push(argument);
-            continue;
+fn to_judge(arguments: impl Iterator<Item = OsString>) -> Result<Command, String> {
+    let (mut explain, mut jobs) = (false, cores());
+    let names = names(arguments, |option, rest| {
+        match option {
+            "--explain" => explain = true,
+            "--jobs" => jobs = number_of_jobs(rest.next().as_deref())?,
+            _ => return Ok(false),
         }
-        unless_a_file(&argument)?;
-        match argument.to_str() {
-            Some("--help" | "-h") => return Ok(Command::Help),
-            Some("--explain") => request.explain = true,
-            Some("--jobs") => request.jobs = jobs(arguments.next().as_deref())?,
-            Some("--") => request.files.extend(&mut arguments),
-            Some(STANDARD) => request.files.push(argument),
-            _ => return Err(format!("no such option: {}", shown(&argument))),
-        }
-    }
-    match request.files.iter().filter(|file| *file == STANDARD).count() {
-        _ if request.files.is_empty() => Err("no file".to_string()),
-        0 | 1 => Ok(Command::Judge(request)),
+        Ok(true)
+    })?;
+    let Some(files) = names else { return Ok(Command::Help) };
+    match files.iter().filter(|file| *file == STANDARD).count() {
+        _ if files.is_empty() => Err("no file".to_string()),
+        0 | 1 => Ok(Command::Judge(Request { files, explain, jobs })),
         _ => Err("standard input can be read only once".to_string()),
     }
 }
 
-fn to_write(mut arguments: impl Iterator<Item = OsString>) -> Result<Command, String> {
-    let (mut names, mut force) = (Vec::new(), false);
+fn to_sheet(arguments: impl Iterator<Item = OsString>) -> Result<Command, String> {
+    let Some(names) = names(arguments, |_, _| Ok(false))? else { return Ok(Command::Help) };
+    let [file] = exactly(names, "sheet takes one name, FILE")?;
+    Ok(Command::Sheet(file))
+}
+
+fn to_write(arguments: impl Iterator<Item = OsString>) -> Result<Command, String> {
+    let mut force = false;
+    let names = names(arguments, |option, _| {
+        force |= option == "--force";
+        Ok(option == "--force")
+    })?;
+    let Some(names) = names else { return Ok(Command::Help) };
+    let [assignment, out] = exactly(names, "write takes two names, ASSIGNMENT and OUT")?;
+    Ok(Command::Write(Writing { assignment, out, force }))
+}
+
+/// The names among a command's arguments, or nothing where help is asked for. `option` is handed
+/// each option that not all commands have, with what follows it, and says whether it is one.
+fn names<I: Iterator<Item = OsString>>(
+    mut arguments: I,
+    mut option: impl FnMut(&str, &mut I) -> Result<bool, String>,
+) -> Result<Option<Vec<OsString>>, String> {
+    let mut names = Vec::new();
     while let Some(argument) = arguments.next() {
         if !argument.as_encoded_bytes().starts_with(b"-") {
             names.push(argument);
@@ -79,17 +98,19 @@ fn to_write(mut arguments: impl Iterator<Item = OsString>) -> Result<Command, St
         }
         unless_a_file(&argument)?;
         match argument.to_str() {
-            Some("--help" | "-h") => return Ok(Command::Help),
-            Some("--force") => force = true,
+            Some("--help" | "-h") => return Ok(None),
             Some("--") => names.extend(&mut arguments),
             Some(STANDARD) => names.push(argument),
+            Some(name) if option(name, &mut arguments)? => {}
             _ => return Err(format!("no such option: {}", shown(&argument))),
         }
     }
-    let [assignment, out] = <[OsString; 2]>::try_from(names).map_err(|names| {
-        format!("write takes two names, ASSIGNMENT and OUT; given: {}", names.len())
-    })?;
-    Ok(Command::Write(Writing { assignment, out, force }))
+    Ok(Some(names))
+}
+
+/// As many names as there are to be, or how many were given.
+fn exactly<const N: usize>(names: Vec<OsString>, due: &str) -> Result<[OsString; N], String> {
+    names.try_into().map_err(|names: Vec<_>| format!("{due}; given: {}", names.len()))
 }
 
 /// An option that is also the name of a file may come from a pattern like `*`: the file would go
@@ -101,7 +122,7 @@ fn unless_a_file(option: &OsStr) -> Result<(), String> {
     }
 }
 
-fn jobs(argument: Option<&OsStr>) -> Result<usize, String> {
+fn number_of_jobs(argument: Option<&OsStr>) -> Result<usize, String> {
     argument
         .and_then(|number| number.to_str()?.parse().ok())
         .filter(|number| (1..=256).contains(number))

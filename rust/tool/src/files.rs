@@ -1,8 +1,8 @@
-//! The bytes of a file.
+//! The bytes of a file, and those of standard output.
 
 use std::ffi::OsStr;
 use std::fs::File;
-use std::io::{self, Read};
+use std::io::{self, Read, Write};
 use std::os::fd::AsFd;
 
 /// The name that stands for standard input, or for standard output where something is written.
@@ -16,7 +16,8 @@ pub const LONGEST: usize = 4 * (4 + 19 + 1) + 8 * (3 + 21 + 19 + 256 + ((1 << 21
 
 /// Makes `bytes` those of the file, or its first `most` where it has more. Of a transcript it is
 /// proved that its first `LONGEST` + 1 bytes get the verdict of all (`LongTranscripts`,
-/// crates/transcript/specs/Theorems.antt).
+/// crates/transcript/specs/Theorems.antt) and have the sheet of all (`Sheets`,
+/// crates/sheet_text/specs/Theorems.antt).
 pub fn read(file: &OsStr, most: usize, bytes: &mut Vec<u8>) -> io::Result<()> {
     if file == STANDARD {
         fill(bytes, most, descriptor(io::stdin())?)
@@ -25,10 +26,15 @@ pub fn read(file: &OsStr, most: usize, bytes: &mut Vec<u8>) -> io::Result<()> {
     }
 }
 
-/// Standard input or output as a file: the standard library takes one that cannot be read or written
-/// for one that is at its end, or takes everything.
+/// Standard input or output as a file: the standard library takes one that cannot be read or
+/// written for one that is at its end, or takes everything.
 pub fn descriptor(stream: impl AsFd) -> io::Result<File> {
     Ok(File::from(stream.as_fd().try_clone_to_owned()?))
+}
+
+/// Writes the bytes to standard output.
+pub fn print(bytes: &[u8]) -> io::Result<()> {
+    descriptor(io::stdout())?.write_all(bytes)
 }
 
 fn fill(bytes: &mut Vec<u8>, most: usize, source: impl Read) -> io::Result<()> {
@@ -42,7 +48,7 @@ fn fill(bytes: &mut Vec<u8>, most: usize, source: impl Read) -> io::Result<()> {
 #[cfg(test)]
 mod tests {
     use super::*;
-    use razgwilh::{judge_transcript, transcript_length, Accepted, Cause};
+    use razgwilh::{judge_transcript, sheet, transcript_length, Accepted, Cause};
 
     #[test]
     fn no_transcript_is_longer() {
@@ -88,6 +94,7 @@ mod tests {
 
             let verdict = judge_transcript(&read);
             assert_eq!(verdict, judge_transcript(&bytes), "{length} bytes");
+            assert!(sheet(&read) == sheet(&bytes), "{length} bytes");
             let cause = verdict.map_err(|refusal| refusal.cause);
             match length {
                 LONGEST => assert_eq!(cause, Ok(Accepted { reads: 256 * 19 * 2 })),

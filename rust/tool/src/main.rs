@@ -1,5 +1,6 @@
-//! The command `razgwilh`: transcripts from files, judged by the proved library, and written by
-//! it from assignments. `HELP` says what it prints and what of it is proved.
+//! The command `razgwilh`: transcripts from files, judged by the proved library, their marking
+//! sheets, and transcripts written by it from assignments. `HELP` says what it prints and what of
+//! it is proved.
 
 mod arguments;
 mod assignment;
@@ -8,6 +9,7 @@ mod files;
 mod judge;
 mod lines;
 mod pool;
+mod sheet;
 mod write;
 
 use arguments::{Command, HELP};
@@ -46,6 +48,7 @@ fn main() -> ExitCode {
 fn run(command: Command) -> io::Result<ExitCode> {
     match command {
         Command::Judge(request) => judge::judge(&request).map(ExitCode::from),
+        Command::Sheet(file) => sheet::sheet(&file).map(ExitCode::from),
         Command::Write(request) => Ok(write::write(&request).into()),
         Command::Help => print(HELP),
         Command::Version => print(concat!("razgwilh ", env!("CARGO_PKG_VERSION"), "\n")),
@@ -53,8 +56,7 @@ fn run(command: Command) -> io::Result<ExitCode> {
 }
 
 fn print(text: &str) -> io::Result<ExitCode> {
-    files::descriptor(io::stdout())?.write_all(text.as_bytes())?;
-    Ok(ExitCode::SUCCESS)
+    files::print(text.as_bytes()).map(|()| ExitCode::SUCCESS)
 }
 
 /// Says on standard error what went wrong. Where that cannot be written either, the exit status

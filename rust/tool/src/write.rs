@@ -115,9 +115,7 @@ fn spoken_of(refusal: &Refusal) -> Option<Name> {
 
 fn put(request: &Writing, transcript: &[u8]) -> Result<(), String> {
     if request.out == STANDARD {
-        return files::descriptor(io::stdout())
-            .and_then(|mut out| out.write_all(transcript))
-            .map_err(|error| format!("standard output: {error}"));
+        return files::print(transcript).map_err(|error| format!("standard output: {error}"));
     }
     let named = |what: &str| format!("{}: {what}", shown(&request.out));
     if is_assignment(request) {
