@@ -50,8 +50,12 @@ pub fn checked<O: Operation>(operation: O) -> O::Answer {
 
 /// Prints a line for each side, in the unit of so many nanoseconds.
 pub fn compare<O: Operation>(operation: O, turns: usize, unit: &str, nanoseconds: f64) {
-    let works = sides().into_iter().map(|side| work(operation, side));
-    table(works, turns, unit, nanoseconds);
+    table(works(operation), turns, unit, nanoseconds);
+}
+
+/// The work of each side.
+pub fn works<'a, O: Operation + 'a>(operation: O) -> impl Iterator<Item = Work<'a>> {
+    sides().into_iter().map(move |side| work(operation, side))
 }
 
 /// The room is made once, so that each turn but the first finds its memory in place.

@@ -5,6 +5,7 @@ mod inputs;
 mod judge;
 mod layers;
 mod prover;
+mod sheet;
 mod transcript;
 
 use crate::beside::{work, Operation};
@@ -21,6 +22,7 @@ pub fn report() {
         judge::report(largest);
         apart::report(largest);
         transcript::report(largest);
+        sheet::report(largest);
     }
     report_growth(&growing);
 }

@@ -125,6 +125,19 @@ fn failing_round(
     rounds: &[Round],
     query: usize,
 ) -> Option<usize> {
+    ended_round(arithmetic, proof, rounds, query, |_, computed, found| computed == found)
+}
+
+/// Hands round, value computed and value found of the query to `goes_on`, round by round, until
+/// that is false; gives the round in which it was.
+#[inline(always)]
+pub fn ended_round(
+    arithmetic: impl Arithmetic,
+    proof: &Proof,
+    rounds: &[Round],
+    query: usize,
+    mut goes_on: impl FnMut(usize, u64, u64) -> bool,
+) -> Option<usize> {
     let step = proof.run.step;
     let mut visit = Visit::first(arithmetic, &proof.run, query);
     let mut layer = proof.run.word;
@@ -137,7 +150,7 @@ fn failing_round(
         } else {
             evaluate(arithmetic, proof.last, next.point)
         };
-        if computed != found {
+        if !goes_on(i, computed, found) {
             return Some(i);
         }
         visit = next;
@@ -146,7 +159,7 @@ fn failing_round(
 }
 
 /// What a round has of its layer for all queries, and where the next layer begins in the store.
-struct Round {
+pub struct Round {
     elements: [u64; 3],
     inverses: [u64; 3],
     span: [u64; 8],
@@ -154,7 +167,7 @@ struct Round {
     next: usize,
 }
 
-fn set_up(arithmetic: impl Arithmetic, run: &Run) -> Vec<Round> {
+pub fn set_up(arithmetic: impl Arithmetic, run: &Run) -> Vec<Round> {
     let step = run.step;
     let mut coset = LayerCoset::first(0, run.basis);
     let mut rounds = Vec::with_capacity(run.challenges.len());

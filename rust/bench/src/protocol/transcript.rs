@@ -36,7 +36,7 @@ pub fn report(inputs: &Inputs) {
 }
 
 /// Lends what is proved with each step.
-fn with_proofs(inputs: &Inputs, compare: impl Fn(Proof)) {
+pub fn with_proofs(inputs: &Inputs, compare: impl Fn(Proof)) {
     for step in 1..=3 {
         let run = inputs.run(step);
         let (store, last) = proved(run);
@@ -49,10 +49,14 @@ fn compare_judges(proof: Proof) {
     let accepted = proof.by_library(&mut ()).expect("what was proved is accepted");
     assert_eq!(judge_transcript(&bytes), Ok(accepted));
     println!("  step {}, queries {}:", proof.run.step, proof.queries.len());
-    let run = || black_box(judge_transcript(black_box(&bytes))).is_ok().into();
-    let over_bytes = Work { name: "the library over bytes", run: Box::new(run) };
     let over_lists = work(proof, ("the library over lists", Operation::by_library));
-    table([over_bytes, over_lists], TURNS, "µs", 1e3);
+    table([judging("the library over bytes", &bytes), over_lists], TURNS, "µs", 1e3);
+}
+
+/// The library's judge over these bytes.
+pub fn judging<'a>(name: &'a str, bytes: &'a [u8]) -> Work<'a> {
+    let run = || black_box(judge_transcript(black_box(bytes))).is_ok().into();
+    Work { name, run: Box::new(run) }
 }
 
 fn compare_writers(transcript: Transcript) {
@@ -75,10 +79,10 @@ fn compare_writers(transcript: Transcript) {
 
 /// What a transcript is written of.
 #[derive(Clone, Copy)]
-struct Transcript<'a>(Proof<'a>);
+pub struct Transcript<'a>(pub Proof<'a>);
 
 impl Transcript<'_> {
-    fn written(self) -> Vec<u8> {
+    pub fn written(self) -> Vec<u8> {
         let mut bytes = self.room();
         self.by_library(&mut bytes).expect("nothing to refuse");
         bytes
