@@ -79,7 +79,7 @@ rounds-requires : tie.Need-rounds-requires
 rounds-requires c κs = in-range c
 
 count-at-requires : tie.Need-count-at-requires
-count-at-requires c κs = omega (arith, near (c .before .before) .2)
+count-at-requires c κs = omega (arith, near (c .before .before))
 
 last-count-requires : tie.Need-last-count-requires
 last-count-requires c κs = in-range (c .before .before)
@@ -92,38 +92,38 @@ abbrev entry : tie.After-last-count → tie.After-shared-slice-known
 entry c = c .before .before .before .before
 
 add-entry-at : tie.Need-add-entry-at
-add-entry-at c = omega (arith, near (entry (c .before)) .0)
+add-entry-at c = omega (arith, near (entry (c .before)))
 
 entry-at-requires : tie.Need-entry-at-requires
-entry-at-requires c κs = omega (arith, near (entry (c .before)) .0)
+entry-at-requires c κs = omega (arith, near (entry (c .before)))
 
 add-up-to-20 : tie.Need-add-up-to-20
-add-up-to-20 c = omega (arith, near (entry (c .before .before .before)) .0)
+add-up-to-20 c = omega (arith, near (entry (c .before .before .before)))
 
 up-to-20-requires : tie.Need-up-to-20-requires
 up-to-20-requires c κs =
     let count = c .before .before .before in
-    (in-range (count .before .before .before) .k-most, omega (arith, near (entry count) .0))
+    (in-range (count .before .before .before) .k-most, omega (arith, near (entry count)))
 
 add-up-to-20-2 : tie.Need-add-up-to-20-2
-add-up-to-20-2 c = omega (arith, near (entry (c .before .before .before .before .before)) .1)
+add-up-to-20-2 c = omega (arith, near (entry (c .before .before .before .before .before)))
 
 up-to-20-requires-2 : tie.Need-up-to-20-requires-2
 up-to-20-requires-2 c κs =
     let count = c .before .before .before .before .before in
     let start = entry count .before in (
       omega (arith, rounds-are (count .before .before), rounds-few (bytes start) (carrying start)),
-      omega (arith, near (entry count) .1),
+      omega (arith, near (entry count)),
     )
 
 add-up-to-256 : tie.Need-add-up-to-256
-add-up-to-256 c = omega (arith, near (entry (lengths c)) .2)
+add-up-to-256 c = omega (arith, near (entry (lengths c)))
 
 up-to-256-requires : tie.Need-up-to-256-requires
 up-to-256-requires c κs =
     let start = entry (lengths c) .before in (
       omega (arith, queries-are (lengths c .before), queries-few (bytes start) (start .pre .1)),
-      omega (arith, near (entry (lengths c)) .2),
+      omega (arith, near (entry (lengths c))),
     )
 
 mul-up-to-20 : tie.Need-mul-up-to-20
