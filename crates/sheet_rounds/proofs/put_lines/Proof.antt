@@ -143,7 +143,11 @@ put-line-requires : tie.Need-put-line-requires Inv-loop2 μ-loop2 Inv-loop μ-lo
 put-line-requires c κs =
     let in-loop = c .before .before .before .before .before .before in
     let before = in-loop .before .loop2 .inv in
-    (narrow before (in-loop .loop2-test .taken), line-room before (in-loop .loop2-test .taken))
+    let within = in-loop .loop2-test .taken in
+    let numbers = narrow before within in (
+      (numbers .0, omega (arith, numbers .1, index-few (before .standing) within), numbers .2),
+      line-room before within,
+    )
 
 add-i : tie.Need-add-i Inv-loop2 μ-loop2 Inv-loop μ-loop
 add-i c =
