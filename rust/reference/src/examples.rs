@@ -1,4 +1,5 @@
-//! Transcripts that come as files, each with the lines that the program prints for it.
+//! Transcripts that come as files, each with the lines that the judging program prints for it, and
+//! with its sheet where it has one.
 
 use crate::cases::{
     of_case_f, of_case_h, of_case_k, of_case_l, of_case_m, queries_of_case_p,
@@ -11,6 +12,7 @@ use crate::parameters::Parameters;
 use crate::protocol::{cosets_from, Run};
 use crate::queries::apart;
 use crate::random::Random;
+use crate::sheet::sheet_of_program;
 use crate::transcript::{judge_of_program, lines, sections, transcript, written, Section};
 use std::path::Path;
 use std::{fs, io};
@@ -18,13 +20,18 @@ use std::{fs, io};
 /// A name, and a transcript or what is given for one.
 type Example = (&'static str, Vec<u8>);
 
-/// Writes two files for each example: its bytes and the lines that the program prints.
+/// Writes the files of each example: its bytes, the lines of its verdict and, unless that one has
+/// no lines, its sheet.
 pub fn write_to(folder: &Path) -> io::Result<()> {
     fs::create_dir_all(folder)?;
     for (name, bytes) in all() {
         let file = |ending: &str| folder.join(format!("{name}.{ending}"));
         fs::write(file("transcript"), &bytes)?;
         fs::write(file("lines"), lines(&judge_of_program(&bytes)))?;
+        let sheet = sheet_of_program(&bytes);
+        if !sheet.is_empty() {
+            fs::write(file("sheet"), sheet)?;
+        }
     }
     Ok(())
 }
@@ -150,5 +157,15 @@ mod tests {
                 assert_eq!(format!("{:02}", judge_of_program(&bytes).number), number);
             }
         }
+    }
+
+    /// Markers shall see that a sheet goes on behind a check that fails.
+    #[test]
+    fn a_sheet_has_lines_behind_one_that_fails() {
+        let goes_on = |(_, bytes): &Example| {
+            let sheet = String::from_utf8(sheet_of_program(bytes)).expect("a text");
+            sheet.lines().rev().skip(1).any(|line| line.ends_with("no"))
+        };
+        assert!(all().iter().any(goes_on));
     }
 }

@@ -17,4 +17,5 @@ mod queries;
 mod random;
 mod reed_solomon;
 mod refusal;
+mod sheet;
 mod transcript;

@@ -168,19 +168,46 @@ pub fn judge(run: &Run, queries: &[u64]) -> Answer {
 
 /// Checks all rounds of all queries, up to the first check that fails.
 fn verdict(run: &Run, queries: &[u64]) -> Answer {
-    let sent = Sent { run, cosets: cosets(run) };
+    let sent = Sent::of(run);
     let mut reads = 0;
     for (place, &query) in (0..).zip(queries) {
         let mut met = BTreeSet::new();
         for round in 0..run.parameters.rounds() {
             met.extend(cosets_met(run.parameters, query, round));
-            if sent.fold(query, round) != sent.due(query, round) {
+            if !sent.check(place, query, round).passes() {
                 return failed(place, round, reads + entries(run.parameters, &met));
             }
         }
         reads += entries(run.parameters, &met);
     }
     accepted(reads)
+}
+
+/// A round check. The query is its place in the list of queries, and the index is the query itself.
+#[derive(Clone, Copy, Debug, PartialEq)]
+pub struct Check {
+    pub query: u64,
+    pub index: u64,
+    pub round: u64,
+    /// The fold of the coset that the query uses in the round.
+    pub computed: u64,
+    /// What that fold must equal.
+    pub found: u64,
+}
+
+impl Check {
+    pub fn passes(&self) -> bool {
+        self.computed == self.found
+    }
+}
+
+/// All round checks of a run that may be judged, also those behind one that fails.
+pub fn checks(run: &Run, queries: &[u64]) -> Vec<Check> {
+    let sent = Sent::of(run);
+    let rounds = 0..run.parameters.rounds();
+    let of_query = |(place, &index)| rounds.clone().map(move |round| (place, index, round));
+    let all = (0..).zip(queries).flat_map(of_query);
+    all.map(|(place, index, round)| sent.check(place, index, round)).collect()
 }
 
 /// A coset of a layer below r, by the layer and the place among its cosets.
@@ -206,6 +233,15 @@ struct Sent<'a> {
 }
 
 impl Sent<'_> {
+    fn of(run: &Run) -> Sent<'_> {
+        Sent { run, cosets: cosets(run) }
+    }
+
+    fn check(&self, place: u64, index: u64, round: u64) -> Check {
+        let (computed, found) = (self.fold(index, round), self.due(index, round));
+        Check { query: place, index, round, computed, found }
+    }
+
     /// The fold of the coset that a query uses in a round.
     fn fold(&self, query: u64, round: u64) -> u64 {
         let Run { parameters, challenges, .. } = self.run;

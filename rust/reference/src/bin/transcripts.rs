@@ -1,5 +1,5 @@
-//! Writes transcripts, and the lines that the program prints for each, into the folder that is
-//! given.
+//! Writes transcripts, the lines of the verdict on each and the sheets that they have into the
+//! folder that is given.
 
 use reference::examples;
 use std::path::Path;
