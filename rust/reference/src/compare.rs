@@ -16,6 +16,7 @@ mod lent;
 mod library;
 mod lists;
 pub mod operation;
+mod program;
 mod refused;
 #[cfg(test)]
 mod wrong;

@@ -78,6 +78,16 @@ impl<N: Unit> Lent<N> {
         }
     }
 
+    /// Whether nothing before and after the list was written to.
+    pub fn around_is_left(&self) -> bool {
+        let Range { start, end } = self.list;
+        (0..start).chain(end..self.numbers.len()).all(|place| self.is_left(place))
+    }
+
+    fn is_left(&self, place: usize) -> bool {
+        self.numbers[place] == self.filled_with(place)
+    }
+
     fn filled_with(&self, place: usize) -> N {
         N::filled(self.fill, place)
     }
@@ -88,18 +98,17 @@ impl<N: Unit> Lent<N> {
 impl<N: Unit> Show for Lent<N> {
     fn show(&self) -> String {
         let Range { start, end } = self.list;
-        let is_left = |place: usize| self.numbers[place] == self.filled_with(place);
-        let show_number = |place: usize| match is_left(place) {
+        let show_number = |place: usize| match self.is_left(place) {
             true => "left".to_string(),
             false => self.numbers[place].show(),
         };
         let part = |part: Range<usize>| show_list(part.map(show_number));
-        let behind = end..self.numbers.len();
         let list = part(start..end);
-        if (0..start).chain(behind.clone()).all(is_left) {
+        if self.around_is_left() {
             return list;
         }
-        format!("{list}, before it {}, behind it {}", part(0..start), part(behind))
+        let behind = part(end..self.numbers.len());
+        format!("{list}, before it {}, behind it {behind}", part(0..start))
     }
 }
 

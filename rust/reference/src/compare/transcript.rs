@@ -1,15 +1,15 @@
 //! The comparisons of the judge over the bytes of a transcript and of the program, with the same
 //! byte strings.
 
-mod bytes;
-mod inputs;
-mod program;
+pub(super) mod bytes;
+pub(super) mod inputs;
 mod table_a;
-mod tally;
+pub(super) mod tally;
 
 use super::field::answered::{answered, compare_answers, Answered};
 use super::lent::other_answer_lengths;
-use super::{compare, compare_on_threads, library, Comparison, Show};
+use super::program::{printed, Printed};
+use super::{compare, compare_on_threads, library, Comparison};
 use super::{REFERENCE_AND_LIBRARY, REFERENCE_AND_PROGRAM};
 use crate::answer::{Answer, ANSWER_LENGTH};
 use crate::transcript::{judge, judge_of_program, lines};
@@ -22,11 +22,11 @@ type Judge = Box<dyn Fn(&[u8]) -> Answer + Sync>;
 
 /// The judges under test: those of the library, and the program.
 pub struct Judges {
-    judge: Judge,
+    pub(super) judge: Judge,
     /// Takes the list for the answer too.
     raw_judge: Box<dyn Fn(&[u8], &mut [u64]) + Sync>,
     /// Takes what the program reads and gives what it prints.
-    program: Box<dyn Fn(&[u8]) -> Vec<u8> + Sync>,
+    pub(super) program: Box<dyn Fn(&[u8]) -> Vec<u8> + Sync>,
 }
 
 impl Judges {
@@ -39,7 +39,7 @@ impl Judges {
                 let lent = [&[0xa5], bytes].concat();
                 library::raw_judge_transcript(&lent[1..], answer)
             }),
-            program: Box::new(program::judge),
+            program: Box::new(|bytes| printed("judge", bytes)),
         }
     }
 }
@@ -97,7 +97,7 @@ pub fn comparisons(judges: &Judges, amounts: &Amounts) -> Compared {
     }
     comparisons.extend(of_the_library(judges, &some));
     comparisons.extend(table_a::comparisons(judges));
-    Compared { comparisons, table: tally.text() }
+    Compared { comparisons, table: tally.text("transcripts") }
 }
 
 /// The names of the comparisons of the library and of the program. There are few, and they live
@@ -130,24 +130,6 @@ fn raw_calls(
     compare_answers(name, inputs, |bytes| judge(bytes), library)
 }
 
-/// What a program printed.
-#[derive(PartialEq)]
-struct Printed(Vec<u8>);
-
-/// How much of it is shown: far more than there should be.
-const SHOWN: usize = 200;
-
-impl Show for Printed {
-    fn show(&self) -> String {
-        let (shown, hidden) = self.0.split_at(self.0.len().min(SHOWN));
-        let shown = format!("\"{}\"", shown.escape_ascii());
-        match hidden.len() {
-            0 => shown,
-            more => format!("{shown} and {more} more bytes"),
-        }
-    }
-}
-
 /// What is asked of the library alone: some byte strings by safe calls, and every sixth of them
 /// with each other length of the list for the answer.
 fn of_the_library(judges: &Judges, some: &[Bytes]) -> [Comparison; 2] {
@@ -162,4 +144,4 @@ fn of_the_library(judges: &Judges, some: &[Bytes]) -> [Comparison; 2] {
 
 /// Each comparison is shown to fail for a library and for a program that is wrong.
 #[cfg(test)]
-mod tests;
+pub(super) mod tests;

@@ -143,7 +143,7 @@ fn with_settings(settings: &[[u64; 3]]) -> Vec<Parameters> {
 }
 
 /// The transcripts.
-fn of(judgings: impl IntoIterator<Item = Judging>) -> Vec<Bytes> {
+pub fn of(judgings: impl IntoIterator<Item = Judging>) -> Vec<Bytes> {
     judgings.into_iter().map(|Judging { run, queries }| transcript(&run, &queries)).collect()
 }
 

@@ -1,10 +1,11 @@
 //! The cases of table A that are judged, as transcripts.
 
-use super::{names, Bytes, Judges, Printed};
+use super::{names, Bytes, Judges};
 use crate::cases::{
     of_case_f, of_case_h, of_case_k, of_case_l, of_case_m, queries_of_case_p, stretched,
     too_many_queries_of_case_p, PARAMETERS_OF_CASE_P,
 };
+use crate::compare::program::Printed;
 use crate::compare::{compare, compare_on_threads, Comparison, Fixed};
 use crate::compare::{PAPER_AND_LIBRARY, PAPER_AND_PROGRAM};
 use crate::transcript::{lines, sections, transcript, written};

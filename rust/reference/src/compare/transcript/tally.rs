@@ -27,10 +27,11 @@ impl Tally {
         inputs
     }
 
-    pub fn text(&self) -> String {
+    /// What the byte strings were given for stands before them.
+    pub fn text(&self, what: &str) -> String {
         let [library, program] = self.due;
         let count = self.met.len();
-        let title = format!("transcripts: {count} byte strings, no two of them equal\n");
+        let title = format!("{what}: {count} byte strings, no two of them equal\n");
         let numbers = line("number", std::array::from_fn(|number| number));
         [title, numbers, line("library", library), line("program", program)].concat()
     }
@@ -61,6 +62,6 @@ mod tests {
             &format!("  program     0     1     2{}     1{}", zeros(11), zeros(3)),
             "",
         ];
-        assert_eq!(tally.text(), due.join("\n"));
+        assert_eq!(tally.text("transcripts"), due.join("\n"));
     }
 }

@@ -1,7 +1,7 @@
 //! Wrong libraries and wrong programs, and the comparisons that they differ in. No program is
 //! started here: a function stands for it.
 
-mod readers;
+pub(in crate::compare) mod readers;
 
 use super::inputs::Sort;
 use super::*;
@@ -26,7 +26,7 @@ const FEW: Amounts = Amounts {
 // The reference in the place of the library and of the program, with a mistake.
 
 /// A library and a program that judge so. The limit of the program is right.
-fn judging(judge: impl Fn(&[u8]) -> Answer + Clone + Sync + 'static) -> Judges {
+pub fn judging(judge: impl Fn(&[u8]) -> Answer + Clone + Sync + 'static) -> Judges {
     let [by_value, by_list, printing] = [judge.clone(), judge.clone(), judge];
     Judges {
         judge: Box::new(by_value),
@@ -38,7 +38,7 @@ fn judging(judge: impl Fn(&[u8]) -> Answer + Clone + Sync + 'static) -> Judges {
     }
 }
 
-fn right() -> Judges {
+pub fn right() -> Judges {
     judging(judge)
 }
 
@@ -69,23 +69,23 @@ fn printing(change: impl Fn(&str) -> String + Sync + 'static) -> Judges {
 
 // Sorts of byte strings, and what they are refused for.
 
-const HONEST: &str = "honest runs";
+pub const HONEST: &str = "honest runs";
 const EACH: &str = "each entry damaged, all cosets";
-const CUT: &str = "cut at every byte";
+pub const CUT: &str = "cut at every byte";
 const CUT_NEAR: &str = "cut near every section";
-const BEHIND: &str = "bytes behind the last section";
+pub const BEHIND: &str = "bytes behind the last section";
 const COUNTS: &str = "another count";
 const FLIPPED: &str = "every bit flipped";
 const FRONT: &str = "any bytes behind a right front";
 const PARAMETERS: &str = "a parameter out of range";
-const BASES: &str = "a dependent basis";
+pub const BASES: &str = "a dependent basis";
 const QUERIES: &str = "counts of queries";
-const OUTSIDE: &str = "queries out of range";
+pub const OUTSIDE: &str = "queries out of range";
 const POWERS: &str = "powers of two as queries";
 const SEVERAL: &str = "several causes";
 const SHARED_DAMAGED: &str = "queries in one coset of damaged runs";
 const FAULTS: &str = "queries in one coset and faults behind them";
-const LIMIT: &str = "lengths near the limit and far longer";
+pub const LIMIT: &str = "lengths near the limit and far longer";
 
 /// The numbers that are due among the byte strings of each sort.
 const DUE: [(&str, &[u64]); 34] = [
@@ -347,12 +347,4 @@ fn every_comparison_fails_for_some_wrong_judge() {
             .smallest(other_length, "0 bytes: nothing; answer of length 1,"),
     ];
     hold_table(&right(), &rows, |judges| comparisons(judges, &FEW).comparisons);
-}
-
-/// What is printed is shown.
-#[test]
-fn what_is_printed_is_shown() {
-    assert_eq!(Printed(b"no\tlines\n".to_vec()).show(), r#""no\tlines\n""#);
-    let long = Printed(vec![b'a'; 1_000]).show();
-    assert_eq!(long, format!("\"{}\" and 800 more bytes", "a".repeat(200)));
 }

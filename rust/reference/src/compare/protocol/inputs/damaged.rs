@@ -11,12 +11,12 @@ use crate::transcript::Judging;
 // What is sent is the word, then the store, then the last coefficients. A place counts through all
 // of them.
 
-fn places(run: &Run) -> usize {
+pub fn places(run: &Run) -> usize {
     run.word.len() + run.store.len() + run.last.len()
 }
 
 /// The run with the lowest bit, the highest bit or any bits at a place changed.
-fn damaged_at(random: &mut Random, mut run: Run, place: usize) -> Run {
+pub fn damaged_at(random: &mut Random, mut run: Run, place: usize) -> Run {
     let by = match random.below(3) {
         0 => 1,
         1 => 1 << 63,
@@ -100,7 +100,7 @@ pub fn some_of_large(
 
 /// One to three places, some of them met by a query. There are a few queries, or as many as there
 /// may be.
-fn with_some_damaged(random: &mut Random, mut run: Run) -> Judging {
+pub fn with_some_damaged(random: &mut Random, mut run: Run) -> Judging {
     let Run { parameters, .. } = run;
     let count = any_count(random);
     let mut queries = apart(random, parameters, count);
@@ -132,7 +132,7 @@ fn any_entry(random: &mut Random, run: &Run) -> (u64, usize) {
 }
 
 /// The place where a layer starts, or the last coefficients do.
-fn start(parameters: Parameters, layer: u64) -> usize {
+pub fn start(parameters: Parameters, layer: u64) -> usize {
     (0..layer).map(|i| parameters.layer_length(i)).sum()
 }
 

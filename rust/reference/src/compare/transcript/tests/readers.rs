@@ -26,7 +26,7 @@ fn split(bytes: &[u8], taken: impl Fn(u32) -> u32) -> (Vec<Section>, &[u8]) {
     (sections, rest)
 }
 
-fn sections_of(bytes: &[u8]) -> Vec<Section> {
+pub fn sections_of(bytes: &[u8]) -> Vec<Section> {
     split(bytes, |count| count).0
 }
 
