@@ -97,6 +97,54 @@ pub fn too_many_queries_of_case_p() -> Vec<u64> {
 
 // All of them.
 
+/// Runs that have lines, each with its queries and its sheet: cases G to I, case J at its
+/// exceptional challenge, and cases K and L.
+///
+/// The paper has the first line of case G. In case H the values at points 2 and 3 are 1 and 3, so
+/// that the fold at 4 is 1 + 6 × 2. In case L round 1 folds 3 and 4 at points 0 and 6: at challenge
+/// 3 that is 3 + 3 × 7 / 6, and the half of 7 is that of 1 plus 3.
+pub fn sheets() -> Vec<(Run, Vec<u64>, &'static str)> {
+    vec![
+        (
+            of_case_f(),
+            vec![0, 3],
+            "    0        0   0 000000000000000b 000000000000000b ok\n    \
+             1        3   0 000000000000000b 000000000000000b ok\n",
+        ),
+        (
+            of_case_h(),
+            vec![0, 3],
+            "    0        0   0 000000000000000b 000000000000000b ok\n    \
+             1        3   0 000000000000000d 000000000000000b no\n",
+        ),
+        (of_case_h(), vec![0], "    0        0   0 000000000000000b 000000000000000b ok\n"),
+        (
+            of_case_j(2),
+            vec![0, 3],
+            "    0        0   0 0000000000000000 0000000000000000 ok\n    \
+             1        3   0 0000000000000000 0000000000000000 ok\n",
+        ),
+        (
+            of_case_k(),
+            vec![5],
+            "    0        5   0 0000000000000016 0000000000000016 ok\n    \
+             0        5   1 0000000000000001 0000000000000001 ok\n",
+        ),
+        (
+            of_case_l(),
+            vec![0],
+            "    0        0   0 0000000000000002 0000000000000003 no\n    \
+             0        0   1 800000000000000d 0000000000000001 no\n",
+        ),
+        (
+            of_case_l(),
+            vec![7],
+            "    0        7   0 0000000000000010 0000000000000010 ok\n    \
+             0        7   1 0000000000000001 0000000000000001 ok\n",
+        ),
+    ]
+}
+
 /// Runs that are judged, each with its queries and the answer due, cases G to P in order.
 #[cfg(test)]
 pub fn judgings() -> Vec<(Run, Vec<u64>, Answer)> {

@@ -7,6 +7,7 @@ pub mod field;
 pub mod fold;
 pub mod protocol;
 pub mod reed_solomon;
+pub mod sheet;
 pub mod transcript;
 pub mod write;
 

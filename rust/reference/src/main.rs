@@ -1,4 +1,4 @@
-//! Compares the library, and the program `judge`, with an implementation written
+//! Compares the library, and the programs `judge` and `sheet`, with an implementation written
 //! from the paper alone.
 //!
 //! It prints a line for each comparison. It ends with 0 if all agree, and with
@@ -12,6 +12,8 @@ fn main() -> ExitCode {
     // Each part of the library has a file of its own under `compare`.
     let judges = compare::transcript::Judges::razgwilh();
     let transcripts = compare::transcript::comparisons(&judges, &compare::transcript::FULL);
+    let sheets = compare::sheet::Sheets::razgwilh();
+    let sheets = compare::sheet::comparisons(&sheets, &compare::sheet::FULL);
     let parts = [
         compare::field::comparisons(&compare::field::Field::razgwilh(), compare::field::FULL),
         compare::reed_solomon::comparisons(&Razgwilh, &compare::reed_solomon::FULL),
@@ -19,8 +21,9 @@ fn main() -> ExitCode {
         compare::protocol::comparisons(&Razgwilh, &compare::protocol::FULL),
         compare::write::comparisons(&Razgwilh, &compare::write::FULL),
         transcripts.comparisons,
+        sheets.comparisons,
     ];
-    let report = compare::report(&parts.concat(), &transcripts.table);
+    let report = compare::report(&parts.concat(), &(transcripts.table + &sheets.table));
     print!("{}", report.text);
     if report.agrees {
         ExitCode::SUCCESS

@@ -204,10 +204,15 @@ impl Check {
 /// All round checks of a run that may be judged, also those behind one that fails.
 pub fn checks(run: &Run, queries: &[u64]) -> Vec<Check> {
     let sent = Sent::of(run);
-    let rounds = 0..run.parameters.rounds();
-    let of_query = |(place, &index)| rounds.clone().map(move |round| (place, index, round));
-    let all = (0..).zip(queries).flat_map(of_query);
-    all.map(|(place, index, round)| sent.check(place, index, round)).collect()
+    let all = places_of_checks(run.parameters, queries).into_iter();
+    all.map(|[place, index, round]| sent.check(place, index, round)).collect()
+}
+
+/// The query, its index and the round of each: lowest query first, then lowest round.
+pub fn places_of_checks(parameters: Parameters, queries: &[u64]) -> Vec<[u64; 3]> {
+    let rounds = 0..parameters.rounds();
+    let of_query = |(place, &index)| rounds.clone().map(move |round| [place, index, round]);
+    (0..).zip(queries).flat_map(of_query).collect()
 }
 
 /// A coset of a layer below r, by the layer and the place among its cosets.

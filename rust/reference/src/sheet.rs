@@ -4,6 +4,9 @@
 use crate::protocol::{checks, Check};
 use crate::transcript::{read, Judging, LARGEST_INPUT};
 
+/// How many bytes a line has, its line feed among them.
+pub const LINE_LENGTH: usize = 56;
+
 /// The sheet of a transcript, which may have as many bytes as it likes. One that is refused for
 /// another cause than a round check has no lines.
 pub fn sheet(bytes: &[u8]) -> Vec<u8> {

@@ -7,7 +7,7 @@ use crate::answer::{accepted, done, went_well, Answer, DEGREE_TOO_HIGH};
 use razgwilh::{raw, Fold, Refusal, Run};
 
 pub use razgwilh::raw::{inverse as raw_inverse, judge_transcript as raw_judge_transcript};
-pub use razgwilh::{product, sum};
+pub use razgwilh::{product, sheet, sheet_into, sum};
 
 /// The refusal as an answer. A prover's degree is also the value of a raw answer.
 fn refusal(refusal: Refusal) -> Answer {

@@ -2,17 +2,13 @@
 
 use super::*;
 use crate::cases::{
-    judgings, of_case_f, of_case_h, of_case_j, of_case_k, of_case_l, queries_of_case_p, stretched,
-    PARAMETERS_OF_CASE_P,
+    judgings, of_case_f, queries_of_case_p, sheets, stretched, PARAMETERS_OF_CASE_P,
 };
 use crate::parameters::{all_up_to, Parameters};
 use crate::protocol::Run;
 use crate::queries::apart;
 use crate::random::Random;
 use crate::transcript::{judge, judge_of_program, transcript};
-
-/// How many bytes a line has, with its line feed.
-const LINE: usize = 56;
 
 fn sheet_of(run: &Run, queries: &[u64]) -> String {
     String::from_utf8(sheet_of_program(&transcript(run, queries))).expect("a text")
@@ -25,8 +21,8 @@ fn sheet_of(run: &Run, queries: &[u64]) -> String {
 fn the_first_line_of_case_g() {
     let due = b"    0        0   0 000000000000000b 000000000000000b ok\n";
     let sheet = sheet(&transcript(&of_case_f(), &[0, 3]));
-    assert_eq!(due.len(), LINE);
-    assert_eq!(&sheet[..LINE], due);
+    assert_eq!(due.len(), LINE_LENGTH);
+    assert_eq!(&sheet[..LINE_LENGTH], due);
 }
 
 /// By hand, with numbers of all widths.
@@ -46,47 +42,18 @@ fn a_line_has_its_width() {
         "  255  1048575  18 fedcba9876543210 ffffffffffffffff no\n    \
          9       10   0 0000000000000000 0000000000000000 ok\n"
     );
-    assert!(lines.chunks(LINE).all(|line| line.len() == LINE && line.ends_with(b"\n")));
+    assert!(lines
+        .chunks(LINE_LENGTH)
+        .all(|line| line.len() == LINE_LENGTH && line.ends_with(b"\n")));
 }
 
 // Table A.
 
-const G_QUERY_0: &str = "    0        0   0 000000000000000b 000000000000000b ok\n";
-
-/// In case H the values at points 2 and 3 are 1 and 3, so that the fold at 4 is 1 + 6 × 2.
 #[test]
-fn the_sheets_of_cases_g_to_j() {
-    let [g, h] = [of_case_f(), of_case_h()].map(|run| sheet_of(&run, &[0, 3]));
-    let with_query_1 = |line: &str| format!("{G_QUERY_0}{line}\n");
-    assert_eq!(g, with_query_1("    1        3   0 000000000000000b 000000000000000b ok"));
-    assert_eq!(h, with_query_1("    1        3   0 000000000000000d 000000000000000b no"));
-    assert_eq!(sheet_of(&of_case_h(), &[0]), G_QUERY_0);
-    assert_eq!(
-        sheet_of(&of_case_j(2), &[0, 3]),
-        "    0        0   0 0000000000000000 0000000000000000 ok\n    \
-         1        3   0 0000000000000000 0000000000000000 ok\n"
-    );
-}
-
-/// In case L round 1 folds 3 and 4 at points 0 and 6: at challenge 3 that is 3 + 3 × 7 / 6, and the
-/// half of 7 is that of 1 plus 3.
-#[test]
-fn the_sheets_of_cases_k_and_l() {
-    assert_eq!(
-        sheet_of(&of_case_k(), &[5]),
-        "    0        5   0 0000000000000016 0000000000000016 ok\n    \
-         0        5   1 0000000000000001 0000000000000001 ok\n"
-    );
-    assert_eq!(
-        sheet_of(&of_case_l(), &[0]),
-        "    0        0   0 0000000000000002 0000000000000003 no\n    \
-         0        0   1 800000000000000d 0000000000000001 no\n"
-    );
-    assert_eq!(
-        sheet_of(&of_case_l(), &[7]),
-        "    0        7   0 0000000000000010 0000000000000010 ok\n    \
-         0        7   1 0000000000000001 0000000000000001 ok\n"
-    );
+fn the_sheets_of_cases_g_to_l() {
+    for (run, queries, due) in sheets() {
+        assert_eq!(sheet_of(&run, &queries), due);
+    }
 }
 
 #[test]
@@ -149,8 +116,8 @@ fn what_is_too_long_for_the_program_has_no_lines() {
     let [fitting, longer] = [&queries[1..], &queries].map(|queries| transcript(&run, queries));
     assert_eq!([fitting.len(), longer.len()], [65_532, 65_540]);
     assert_eq!(sheet_of_program(&fitting), sheet(&fitting));
-    assert_eq!(sheet(&fitting).len(), 99 * 6 * LINE);
-    assert_eq!(sheet(&longer).len(), 100 * 6 * LINE);
+    assert_eq!(sheet(&fitting).len(), 99 * 6 * LINE_LENGTH);
+    assert_eq!(sheet(&longer).len(), 100 * 6 * LINE_LENGTH);
     assert!(sheet_of_program(&longer).is_empty());
     assert_eq!(judge_of_program(&longer).number, 14);
 }
