@@ -15,6 +15,7 @@ use crate::cases;
 use crate::compare::operation::Setting;
 use crate::sheet::{sheet, sheet_of_program, LINE_LENGTH};
 use crate::transcript::transcript;
+use inputs::Sort;
 
 type Sheet = Box<dyn Fn(&[u8]) -> Vec<u8> + Sync>;
 type SheetInto = Box<dyn Fn(&[u8], &mut [u8]) -> u64 + Sync>;
@@ -76,12 +77,17 @@ pub const FULL: Amounts = Amounts {
     longest: &[[11, 1, 1], [20, 1, 1]],
 };
 
-/// Runs all comparisons. No byte string is compared twice, but for those of table A, beside the
-/// verdict on it, and for what else is asked of the library about some of them.
+/// Runs all comparisons.
 pub fn comparisons(sheets: &Sheets, amounts: &Amounts) -> Compared {
+    of_sorts(sheets, inputs::sorts(amounts))
+}
+
+/// No byte string is compared twice, but for those of table A, beside the verdict on it, and for
+/// what else is asked of the library about some of them.
+fn of_sorts(sheets: &Sheets, sorts: impl Iterator<Item = Sort>) -> Compared {
     let mut tally = Tally::default();
     let (mut comparisons, mut all) = (Vec::new(), Vec::new());
-    for (name, inputs) in inputs::sorts(amounts) {
+    for (name, inputs) in sorts {
         let inputs = tally.only_new(inputs);
         comparisons.extend(both(sheets, name, &inputs));
         all.extend(inputs);

@@ -76,7 +76,7 @@ const BEFORE_WORK: &[u64] = &[4, 5, 6, 7, 8, 9, 10, 13, 17];
 
 /// How layers are folded: over the cosets of layers 0 to r, and which entries together.
 #[derive(Clone, Copy)]
-struct Folding {
+pub struct Folding {
     cosets: fn(&Run) -> Vec<Coset>,
     /// Those half the length away, as in multiplicative FRI, and not neighbours.
     halves: bool,
@@ -84,13 +84,13 @@ struct Folding {
 
 const RIGHT: Folding = Folding { cosets: protocol::cosets, halves: false };
 
-const HALVES: (&str, Folding) =
+pub const HALVES: (&str, Folding) =
     ("entries are paired with those half the length away", Folding { halves: true, ..RIGHT });
 
-const FIRST_BASIS: (&str, Folding) =
+pub const FIRST_BASIS: (&str, Folding) =
     ("round 1 folds over the basis of layer 0", Folding { cosets: with_first_basis, ..RIGHT });
 
-const PLAIN_POINTS: (&str, Folding) =
+pub const PLAIN_POINTS: (&str, Folding) =
     ("later layers have the points 0, 1, 2 and so on", Folding { cosets: with_plain, ..RIGHT });
 
 fn with_first_basis(run: &Run) -> Vec<Coset> {
@@ -111,7 +111,7 @@ fn with_plain(run: &Run) -> Vec<Coset> {
 
 impl Folding {
     /// Entry j of the fold of a layer in a round.
-    fn entry(self, run: &Run, round: usize, layer: &[u64], j: usize) -> u64 {
+    pub fn entry(self, run: &Run, round: usize, layer: &[u64], j: usize) -> u64 {
         let step = run.parameters.step;
         let Coset { offset, basis } = &(self.cosets)(run)[round];
         let index = |entry: usize| match self.halves {

@@ -14,14 +14,20 @@ use crate::transcript::Judging;
 use std::collections::BTreeSet;
 use std::iter;
 
-/// The byte strings of each sort, with its name.
-pub fn sorts(amounts: &Amounts) -> impl Iterator<Item = (&'static str, Vec<Bytes>)> + '_ {
+/// The name of a sort, and its byte strings.
+pub type Sort = (&'static str, Vec<Bytes>);
+
+pub fn sorts(amounts: &Amounts) -> impl Iterator<Item = Sort> + '_ {
     let judged = SORTS.iter().map(|sort| {
         let inputs = sort.byte_strings(&amounts.judged);
         let every = inputs.len().div_ceil(amounts.most).max(1);
         (sort.0, inputs.into_iter().step_by(every).collect())
     });
-    judged.chain(own(amounts).map(|(name, judgings)| (name, of(judgings))))
+    let own = OWN.iter().map(|(name, judgings)| {
+        let judgings = judgings(&mut Random::named(name), amounts);
+        (*name, of(judgings))
+    });
+    judged.chain(own)
 }
 
 /// The name of a sort that only sheets have, and where its judgings come from.
@@ -36,10 +42,6 @@ const OWN: [Own; 7] = [
     ("as many queries as there may be", as_many_queries),
     ("nearly too long for the program", |random, _| near_the_limit(random)),
 ];
-
-fn own(amounts: &Amounts) -> impl Iterator<Item = (&'static str, Vec<Judging>)> + '_ {
-    OWN.iter().map(|(name, judgings)| (*name, judgings(&mut Random::named(name), amounts)))
-}
 
 /// The most queries that there may be.
 const MOST: usize = *QUERY_COUNTS.end();
@@ -110,11 +112,11 @@ fn met_by_the_last_alone(random: &mut Random, amounts: &Amounts) -> Vec<Judging>
         let parameters = honest.parameters;
         let queries = with_the_last_away(random, parameters);
         let last = queries[queries.len() - 1];
-        for layer in 0..parameters.rounds() {
+        all.extend((0..parameters.rounds()).map(|layer| {
             let place = place_met(parameters, layer, last);
             let run = damaged::damaged_at(random, honest.clone(), place);
-            all.push(Judging { run, queries: queries.clone() });
-        }
+            Judging { run, queries: queries.clone() }
+        }));
     }
     all
 }

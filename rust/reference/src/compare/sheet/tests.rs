@@ -12,7 +12,6 @@ use crate::compare::transcript::tests::{
 };
 use crate::compare::wrong::{hold_table, row, Row};
 use crate::transcript::{judge, LARGEST_INPUT};
-use std::collections::BTreeSet;
 use std::sync::LazyLock;
 
 /// Few and small, since every wrong sheet is compared with them.
@@ -64,31 +63,22 @@ const ROUNDS: &str = "every number of rounds";
 const QUERIES: &str = "as many queries as there may be";
 const NEAR_LIMIT: &str = "nearly too long for the program";
 
-/// Byte strings of one sort, and the numbers that are due among them.
-struct Sort {
-    name: &'static str,
-    inputs: Vec<Bytes>,
-    numbers: BTreeSet<u64>,
-}
+static ALL: LazyLock<Vec<Sort>> = LazyLock::new(|| inputs::sorts(&FEW).collect());
 
-/// The sorts that wrong sheets are compared with: honest runs, some that are refused, and those that
-/// only sheets have.
+/// The sorts that wrong sheets are compared with: honest runs, some that are refused, and those
+/// that only sheets have.
 const WATCHED: [&str; 12] =
     [HONEST, CUT, BEHIND, BASES, OUTSIDE, PAIR, LAYER, MANY, LAST_QUERY, WIDTHS, ROUNDS, QUERIES];
 
-static INPUTS: LazyLock<Vec<Sort>> = LazyLock::new(|| {
-    let sorts = inputs::sorts(&FEW).filter(|sort| WATCHED.contains(&sort.0));
-    let with_numbers = |(name, inputs): (&'static str, Vec<Bytes>)| {
-        let numbers = inputs.iter().map(|bytes| judge(bytes).number).collect();
-        Sort { name, inputs, numbers }
-    };
-    sorts.map(with_numbers).collect()
-});
+fn watched() -> impl Iterator<Item = &'static Sort> {
+    ALL.iter().filter(|(name, _)| WATCHED.contains(name))
+}
 
-/// The names of the sorts in which some of the numbers are due.
+/// The names of those in which some of the numbers are due.
 fn with_numbers(numbers: impl Fn(u64) -> bool) -> Vec<String> {
-    let sorts = INPUTS.iter().filter(|sort| sort.numbers.iter().any(|&number| numbers(number)));
-    sorts.map(|sort| format!(", {}", sort.name)).collect()
+    let has_some = |inputs: &[Bytes]| inputs.iter().any(|bytes| numbers(judge(bytes).number));
+    let sorts = watched().filter(|(_, inputs)| has_some(inputs));
+    sorts.map(|(name, _)| format!(", {name}")).collect()
 }
 
 /// Those with lines.
@@ -111,8 +101,7 @@ fn wrong_sheets_differ_as_they_should() {
     let rows = [texts::rows(), checks::rows(), checks::of_refused()];
     let rows: Vec<Row<Sheets>> = rows.into_iter().flatten().collect();
     hold_table(&right(), &rows, |sheets| {
-        let of_sort = |sort: &Sort| of_program(sheets, names(sort.name)[1], &sort.inputs);
-        INPUTS.iter().map(of_sort).collect()
+        watched().map(|(name, inputs)| of_program(sheets, names(name)[1], inputs)).collect()
     });
 }
 
@@ -150,7 +139,7 @@ fn the_limit_is_that_of_the_program() {
     let rows = rows.map(Row::among_others);
     let amounts = Amounts { most: usize::MAX, ..FEW };
     let sorts = inputs::sorts(&amounts).filter(|sort| [LIMIT, NEAR_LIMIT].contains(&sort.0));
-    let sorts: Vec<(&str, Vec<Bytes>)> = sorts.collect();
+    let sorts: Vec<Sort> = sorts.collect();
     hold_table(&right(), &rows, |sheets| {
         sorts.iter().flat_map(|(name, inputs)| both(sheets, name, inputs)).collect()
     });
@@ -168,7 +157,8 @@ const BESIDE: [&str; 2] = ["sheet, beside the verdict", "sheet program, beside t
 /// Neither hides the other.
 #[test]
 fn every_comparison_fails_for_some_wrong_sheet() {
-    let all = comparisons(&right(), &FEW).comparisons;
+    let comparisons = |sheets: &Sheets| of_sorts(sheets, ALL.iter().cloned()).comparisons;
+    let all = comparisons(&right());
     let names = all.iter().map(|comparison| comparison.name);
     let (of_program, of_library): (Vec<&str>, Vec<&str>) =
         names.partition(|name| name.starts_with("sheet program"));
@@ -177,15 +167,27 @@ fn every_comparison_fails_for_some_wrong_sheet() {
         of_library.into_iter().filter(|name| !whole.contains(name)).collect();
     let a_line = |_: &[u8]| b"a line".to_vec();
     let one_more = |bytes: &[u8], list: &mut [u8]| 1 + lending::write(&sheet(bytes), list);
-    let rows = vec![
+    let rows = [
         row("a line is printed", with_program(a_line)).differs(&of_program),
         row("the sheet is a line", Sheets { sheet: Box::new(a_line), ..right() }).differs(&whole),
         row("one more is answered", Sheets { sheet_into: Box::new(one_more), ..right() })
             .differs(&into_lists),
     ];
-    let rows: Vec<Row<Sheets>> =
-        [rows, lists::rows(), other_verdicts()].into_iter().flatten().collect();
-    hold_table(&right(), &rows, |sheets| comparisons(sheets, &FEW).comparisons);
+    hold_table(&right(), &rows, comparisons);
+}
+
+// Lists and verdicts.
+
+/// With the right sheets in the right lists, wrong ones show where these are looked at alone.
+#[test]
+fn wrong_lists_and_wrong_verdicts_differ_as_they_should() {
+    let inputs: Vec<Bytes> = watched().flat_map(|(_, inputs)| inputs.clone()).collect();
+    let rows: Vec<Row<Sheets>> = lists::rows().into_iter().chain(other_verdicts()).collect();
+    hold_table(&right(), &rows, |sheets| {
+        let [longer, too_short, _] = of_the_library(sheets, inputs.clone());
+        let [of_library, of_program] = verdict::comparisons(sheets, &inputs);
+        vec![longer, too_short, of_library, of_program]
+    });
 }
 
 /// What is wrong, and the verdict.
@@ -218,7 +220,6 @@ const OTHER_VERDICTS: [Verdict; 6] = [
     }),
 ];
 
-/// With the right sheets these show beside the verdict alone.
 fn other_verdicts() -> Vec<Row<Sheets>> {
     let judging = |other: fn(Answer) -> Answer| Sheets {
         judges: of_judges::judging(move |bytes| other(judge(bytes))),

@@ -1,6 +1,7 @@
 //! Sheets with right lines of wrong checks.
 
 use super::*;
+use crate::compare::protocol::tests::{Folding, FIRST_BASIS, HALVES, PLAIN_POINTS};
 use crate::compare::transcript::tests::readers::sections_of;
 use crate::protocol::{checks, Check, Run};
 use crate::sheet::lines;
@@ -158,6 +159,21 @@ fn with_last_reversed(mut run: Run) -> Run {
     run
 }
 
+/// The paper's wrong turnings.
+const FOLDINGS: [(&str, Folding); 3] = [HALVES, FIRST_BASIS, PLAIN_POINTS];
+
+fn folding(folding: Folding) -> Sheets {
+    checking(move |run, all| {
+        let with_other = |check: &Check| {
+            let Check { index, round, .. } = *check;
+            let used = run.parameters.coset_used(index, round) as usize;
+            let computed = folding.entry(run, round as usize, run.layer(round), used);
+            Check { computed, ..*check }
+        };
+        all.iter().map(with_other).collect()
+    })
+}
+
 /// Values of the checks of other runs.
 fn with_values_of(runs: Runs) -> Sheets {
     of_judging(move |Judging { run, queries }| {
@@ -180,7 +196,8 @@ pub fn rows() -> Vec<Row<Sheets>> {
         wrong(what, each, differ)
     });
     let runs = OTHER_RUNS.map(|(what, runs, differ)| wrong(what, with_values_of(runs), differ));
-    others.into_iter().chain(columns).chain(runs).collect()
+    let folds = FOLDINGS.map(|(what, other)| wrong(what, folding(other), &[ROUNDS, LAYER, MANY]));
+    others.into_iter().chain(columns).chain(runs).chain(folds).collect()
 }
 
 // Lines where there should be none, or none where there should be.
