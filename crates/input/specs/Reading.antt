@@ -21,7 +21,7 @@ Over size (More count) = ⊥
 Over size (Done count) = count ≤ size
 Over size Failed = Unit {0}
 
--- what a program prints that has this text for an input: that of the bytes that were read, or nothing
+-- what a program prints: its text of the bytes that were read, or nothing where a read failed
 abbrev pub printedOf : (text : List ℕ → List ℕ) (reading : Reading) (input : List ℕ) → List ℕ
 printedOf text (More count) input = []
 printedOf text (Done count) input = text (take count input)

@@ -91,7 +91,7 @@ written more n = digits 10 (placesWithin more n) n
 digit-decimal : (d : ℕ) → d < 10 → digit d ≡ 48 + d
 digit-decimal d h = ap (λ (b : Bool). cond b (48 + d) (87 + d)) (lt-ltb d 10 h)
 
-each-append : (P : ℕ → Type 0) (s : List ℕ) (d : ℕ) → ((i : ℕ) → i < length s → P (getD s i 0)) → P d
+pub each-append : (P : ℕ → Type 0) (s : List ℕ) (d : ℕ) → ((i : ℕ) → i < length s → P (getD s i 0)) → P d
     → (i : ℕ) → i < length (s ++ (d ∷ [])) → P (getD (s ++ (d ∷ [])) i 0)
 each-append P [] d each last zero h = last
 each-append P [] d each last (suc i) h = absurd (omega arith)

@@ -10,7 +10,7 @@ ghost use Rattle.sheet_text.specs.Sheet.{sheetOf, largestSheet};
 ghost use Rattle.input.specs.Reading.{Over, printedOf};
 
 // What is printed, at the front of the second list, and its length. The first list has room for the limit and one byte
-// more, the second for the largest sheet.
+// more, the second for the largest sheet of any transcript.
 fn answer(input: &[u8], reading: Reading, out: &mut [u8]) -> usize
     requires size { ⌜ length (now input) ≡ inputLimit + 1 ⌝ }
     requires over { ⌜ Over (length (now input)) reading ⌝ }

@@ -7,7 +7,7 @@ use Prim.Native.Nat.{ℕ, _+_, _*_, _%_, _^_, _≤_, _<_}
 use native.Mathlib.Nat.{mul-le-mul}
 use native.Mathlib.Omega.{arith}
 use lib.Dec.{leb, eqb}
-use lib.ListN.{length, getD, take, drop}
+use lib.ListN.{length, getD, take, drop, List·getD-append}
 use lib.Seq.{take-at, take-all, drop-nil, length-take-le}
 use borrow.Author.Tests.{eqb-true, leb-true, leb-false}
 use Rattle.refusal.specs.declared.Cause.the-variants.{RoundCheckFails}
@@ -34,7 +34,7 @@ use Rattle.sheet_text.specs.Theorems.{Examples, hexadecimalOf, Hexadecim
 use Rattle.sheet_text.specs.Theorems.{Sheets}
 use Rattle.sheet_text.proofs.Sheets.{Fits, length-all-lines, sheet-shown, sheet-empty, passed-fits, round-failed}
 use Rattle.sheet_text.proofs.Sheets.{no-lines, sheet-refused}
-use Rattle.sheet_text.proofs.Values.{passed-elements, hexadecimal}
+use Rattle.sheet_text.proofs.Values.{passed-elements, IsDigit, digit-codes, hexadecimal}
 use Rattle.sheet_text.proofs.Marks.{AllOk, FirstNo}
 use Rattle.sheet_text.proofs.Marks as marks
 
@@ -46,8 +46,14 @@ examples = record { least = refl; largest = refl }
 
 pub hexadecimals : Hexadecimals
 unfolding valueField
-hexadecimals value h =
-    ap hexadecimalOf (take-at (digits 16 16 value) (bytes " ") 16 (length-digits 16 16 value)) ∙ hexadecimal 16 value h
+hexadecimals =
+    record {
+      value = λ n h.
+          ap hexadecimalOf (take-at (digits 16 16 n) (bytes " ") 16 (length-digits 16 16 n)) ∙ hexadecimal 16 n h;
+      ascii = λ n i h.
+          subst IsDigit (sym (List·getD-append (digits 16 16 n) (bytes " ") 0 i (omega (arith, length-digits 16 16 n))))
+          (digit-codes 16 n i (omega (arith, length-digits 16 16 n)));
+    }
 
 -- ---- the judge's answer and the checks
 

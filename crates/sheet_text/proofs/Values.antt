@@ -1,12 +1,13 @@
 -- The two values of a line: 64-bit numbers where the sheet is of bytes, and the digits that stand for them. Assumes
 -- nothing.
 use mathlib.Core.Path.{_≡_, refl, sym, ap, _∙_}
+use mathlib.Core.Logic.{_⊎_, inl, inr}
 use mathlib.Core.Bool.{Bool, true, false, cond}
 use mathlib.Core.List.{List, [], _∷_, _++_}
-use Prim.Native.Nat.{ℕ, zero, suc, _+_, _*_, _-_, _/_, _%_, _^_, _<_}
+use Prim.Native.Nat.{ℕ, zero, suc, _+_, _*_, _-_, _/_, _%_, _^_, _≤_, _<_}
 use native.Mathlib.Omega.{arith}
 use lib.Dec.{ltb}
-use lib.ListN.{getD, drop}
+use lib.ListN.{length, getD, drop}
 use borrow.Author.Tests.{ltb-true, ltb-false, lt-ltb, le-ltb}
 use Rattle.gf64.specs.Field.{IsElement}
 use Rattle.poly.specs.Carrier.{gf64}
@@ -35,6 +36,7 @@ use Rattle.transcript.specs.Theorems.{Carries}
 use Rattle.transcript.proofs.Sections.{run-fits}
 use Rattle.transcript.proofs.Carried.{fit, checks-are, passed-carries}
 use Rattle.line_text.specs.Digits.{digit, digits}
+use Rattle.line_text.proofs.Decimals.{each-append}
 use Rattle.sheet_text.specs.Theorems.{digitValue, hexadecimalAfter, hexadecimalOf}
 
 -- ---- elements
@@ -112,6 +114,21 @@ hexadecimal-append : (before : ℕ) (s t : List ℕ)
 unfolding hexadecimalAfter
 hexadecimal-append before [] t = refl
 hexadecimal-append before (d ∷ s) t = hexadecimal-append (16 * before + digitValue d) s t
+
+-- each is a digit's code
+abbrev pub IsDigit : (d : ℕ) → Type 0
+IsDigit d = ((48 ≤ d) × (d ≤ 57)) ⊎ ((97 ≤ d) × (d ≤ 102))
+
+code-by : (d : ℕ) (test : Bool) → ltb d 10 ≡ test → d < 16 → IsDigit (cond test (48 + d) (87 + d))
+code-by d true e h = let less : d < 10 = ltb-true d 10 e in inl (omega arith, omega arith)
+code-by d false e h = let least : 10 ≤ d = ltb-false d 10 e in inr (omega arith, omega arith)
+
+pub digit-codes : (width n i : ℕ) → i < length (digits 16 width n) → IsDigit (getD (digits 16 width n) i 0)
+unfolding digits
+digit-codes zero n i h = absurd (omega arith)
+digit-codes (suc width) n i h =
+    each-append IsDigit (digits 16 width (n / 16)) (digit (n % 16)) (digit-codes width (n / 16))
+    (code-by (n % 16) (ltb (n % 16) 10) refl (omega arith)) i h
 
 -- they stand for the number
 pub hexadecimal : (width n : ℕ) → n < 16 ^ width → hexadecimalOf (digits 16 width n) ≡ n

@@ -15,7 +15,7 @@ use Rattle.line_text.specs.Digits.{bytes, digits, decimal}
 
 -- ---- a line
 
--- a text with spaces on its left, so that it has `width` bytes
+-- a text with spaces on its left, so that it has `width` bytes, if it has not more
 abbrev pub leftPadded : (width : ℕ) (text : List ℕ) → List ℕ
 leftPadded width text = replicate (width - length text) 32 ++ text
 
@@ -64,12 +64,12 @@ sheetLines run (j ∷ queries) query =
 abbrev pub hasLines : (answer : Answer) → Bool
 hasLines answer = eqb (numberOfAnswer answer) 0 || eqb (numberOfAnswer answer) 11
 
--- the lines of the run that the bytes carry, or nothing, as a judge of bytes answers
-unfoldable pub sheetBy : (judge : List ℕ → Verdict) (bytes : List ℕ) → List ℕ
-sheetBy judge bytes = cond (hasLines (judge bytes .answer)) (sheetLines (runIn bytes) (queriesIn bytes) 0) []
+-- the lines of the run that an input of bytes carries, or nothing, as a judge of it answers
+unfoldable pub sheetBy : (judge : List ℕ → Verdict) (input : List ℕ) → List ℕ
+sheetBy judge input = cond (hasLines (judge input .answer)) (sheetLines (runIn input) (queriesIn input) 0) []
 
 -- the sheet of a transcript of any length
-abbrev pub transcriptSheet : (bytes : List ℕ) → List ℕ
+abbrev pub transcriptSheet : (input : List ℕ) → List ℕ
 transcriptSheet = sheetBy transcriptVerdict
 
 -- what the program `sheet` prints of its input: nothing over the limit

@@ -15,7 +15,7 @@ use Rattle.transcript.specs.Numerals.{AreBytes}
 use Rattle.transcript.specs.Sections.{transcriptRounds, runIn, queriesIn}
 use Rattle.transcript.specs.Judge.{transcriptVerdict, longestTranscript, inputLimit, inputVerdict}
 use Rattle.line_text.specs.Digits.{bytes}
-use Rattle.sheet_text.specs.Sheet.{valueField, lineText, lineLength, sheetLine, sheetBy}
+use Rattle.sheet_text.specs.Sheet.{valueField, lineText, lineLength, sheetBy}
 use Rattle.sheet_text.specs.Sheet.{transcriptSheet, sheetOf, largestSheet}
 
 -- a line of the least numbers, and one of the largest query, index, round and value that a sheet has
@@ -24,10 +24,11 @@ pub record Examples : Type 0 where
   pub largest : lineText 255 (2 ^ 20 - 1) 18 (2 ^ 64 - 1) 10
       ≡ bytes "  255  1048575  18 ffffffffffffffff 000000000000000a no\n"
 
--- the number that hexadecimal digits stand for, read on after those that stand for `before`
+-- the value of a hexadecimal digit by its code
 abbrev pub digitValue : (d : ℕ) → ℕ
 digitValue d = cond (ltb d 97) (d - 48) (d - 87)
 
+-- the number that hexadecimal digits stand for, read on after those that stand for `before`
 unfoldable pub hexadecimalAfter : (before : ℕ) (digits : List ℕ) → ℕ
 hexadecimalAfter before [] = before
 hexadecimalAfter before (d ∷ rest) = hexadecimalAfter (16 * before + digitValue d) rest
@@ -35,11 +36,14 @@ hexadecimalAfter before (d ∷ rest) = hexadecimalAfter (16 * before + digitValu
 abbrev pub hexadecimalOf : (digits : List ℕ) → ℕ
 hexadecimalOf = hexadecimalAfter 0
 
--- the digits of a 64-bit value stand for it
-abbrev pub Hexadecimals : Type 0
-Hexadecimals = (value : ℕ) → value < 2 ^ 64 → hexadecimalOf (take 16 (valueField value)) ≡ value
+-- the 16 digits of a 64-bit value stand for it, and each is `0` to `9` or `a` to `f`
+pub record Hexadecimals : Type 0 where
+  pub value : (n : ℕ) → n < 2 ^ 64 → hexadecimalOf (take 16 (valueField n)) ≡ n
+  pub ascii : (n i : ℕ) → i < 16
+      → ((48 ≤ getD (valueField n) i 0) × (getD (valueField n) i 0 ≤ 57))
+      ⊎ ((97 ≤ getD (valueField n) i 0) × (getD (valueField n) i 0 ≤ 102))
 
--- line n of a sheet, and the mark in it
+-- line n of a sheet, and the mark in it, behind 53 bytes
 abbrev pub lineAt : (sheet : List ℕ) (n : ℕ) → List ℕ
 lineAt sheet n = take lineLength (drop (lineLength * n) sheet)
 
@@ -58,12 +62,13 @@ pub record SheetsBeside (judge : List ℕ → Verdict) : Type 0 where
   -- each has 55 bytes and a line feed: this is the last byte of every 56, and no other
   pub line-feeds : (input : List ℕ) (n : ℕ) → n < length (sheetBy judge input)
       → (getD (sheetBy judge input) n 0 ≡ 10) ↔ (n % lineLength ≡ 55)
-  -- line t · r + i is that of query t and round i
+  -- line t · r + i is that of query t, at its index as given, and round i, with the value computed and the value found
   pub line : (input : List ℕ) (t i : ℕ) → sheetBy judge input ≢ []
       → t < length (queriesIn input) → i < transcriptRounds input
       → lineAt (sheetBy judge input) (t * transcriptRounds input + i)
-      ≡ sheetLine (runIn input) t (getD (queriesIn input) t 0) i
-  -- its values are 64-bit numbers where the sheet is of bytes
+      ≡ lineText t (getD (queriesIn input) t 0) i (valueComputed (runIn input) (getD (queriesIn input) t 0) i)
+      (valueFound (runIn input) (getD (queriesIn input) t 0) i)
+  -- the values are 64-bit numbers, of which a line has all digits, where the input is of bytes
   pub values : (input : List ℕ) (t i : ℕ) → AreBytes input → sheetBy judge input ≢ []
       → (valueComputed (runIn input) (getD (queriesIn input) t 0) i < 2 ^ 64)
       × (valueFound (runIn input) (getD (queriesIn input) t 0) i < 2 ^ 64)
@@ -77,6 +82,7 @@ pub record SheetsBeside (judge : List ℕ → Verdict) : Type 0 where
       ↔ ((t < length (queriesIn input)) × (i < transcriptRounds input)
       × (markAt (sheetBy judge input) (t * transcriptRounds input + i) ≡ bytes "no")
       × ((n : ℕ) → n < t * transcriptRounds input + i → markAt (sheetBy judge input) n ≡ bytes "ok"))
+  -- a list of this length has room for every sheet
   pub largest : (input : List ℕ) → length (sheetBy judge input) ≤ largestSheet
 
 pub record Sheets : Type 0 where

@@ -34,7 +34,7 @@ pub fn put_line(
     put_mark(computed, found, found_end, out)
 }
 
-// A decimal number with spaces on its left, and a space.
+// A decimal number with spaces on its left, and a space. The widest field has 8 bytes.
 fn put_decimal(n: u64, width: usize, at: usize, out: &mut [u8]) -> usize
     requires narrow { ⌜ (length (decimal n) ≤ width) × (width ≤ 8) ⌝ }
     requires room { ⌜ at + width + 1 ≤ length (now out) ⌝ }
