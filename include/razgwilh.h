@@ -6,7 +6,8 @@
  *   3  the numbers
  *   4  lists
  *   5  what a call needs beforehand: rounds and lengths
- *   6  the functions: arithmetic, encoding, folding, the protocol over lists and over bytes
+ *   6  the functions: arithmetic, encoding, folding, the protocol over lists and over bytes,
+ *      marking sheets
  *   7  the raw functions, with a warning
  *   8  the functions of part 6, made of those of part 7
  *

@@ -1,4 +1,4 @@
--- The two lines that the program prints of a verdict, as document 01 gives them, by their bytes.
+-- The two lines that the program `judge` prints of a verdict, as document 01 gives them, by their bytes.
 use mathlib.Core.List.{List, _++_}
 use Prim.Native.Nat.{ℕ}
 use Rattle.refusal.specs.declared.Position.{Position}

@@ -1,1 +1,1 @@
-// The lines that the program prints, by their bytes: definitions (specs/) and theorems about them (proofs/).
+// The lines that the program `judge` prints, by their bytes: definitions (specs/) and theorems about them (proofs/).

@@ -1,4 +1,4 @@
-// What the program prints of a verdict: a header and a line.
+// What the program `judge` prints of a verdict: a header and a line.
 use fri::Answer;
 use fri::Verdict;
 use placing::put;

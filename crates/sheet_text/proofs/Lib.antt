@@ -3,3 +3,4 @@ pub mod Sheets
 pub mod Marks
 pub mod Values
 pub mod Theorems
+pub mod Fronts

@@ -27,7 +27,7 @@ transcriptVerdict bytes =
 abbrev pub longestTranscript : ℕ
 longestTranscript = 4 * 24 + 8 * (3 + 21 + 19 + 256 + (2 ^ 21 - 2 ^ 2) + 1)
 
--- the most bytes that the program judges
+-- the most bytes that the programs `judge` and `sheet` take
 abbrev pub inputLimit : ℕ
 inputLimit = 2 ^ 16
 

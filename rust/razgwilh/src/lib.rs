@@ -288,8 +288,8 @@ pub const LARGEST_SHEET: usize = 256 * 19 * 56;
 /// The marking sheet of a transcript, of any length: a line of 55 bytes and a line feed for every
 /// query and every round, by query, then round, also those after the first check that fails. Its
 /// fields are query, index, round, value computed, value found, and `ok` where the two values are
-/// equal, else `no`. It is empty where [`judge_transcript`] refuses with another number than 11;
-/// else every line is `ok` exactly where that accepts.
+/// equal, else `no`. It is empty where [`judge_transcript`] refuses with another number than 11 (a
+/// round check fails); else every line is `ok` exactly where that accepts.
 #[cfg(feature = "alloc")]
 pub fn sheet(bytes: &[u8]) -> Vec<u8> {
     // One call: to ask for the length first would have all sections of the transcript read twice.

@@ -102,7 +102,7 @@ pub fn too_many_queries_of_case_p() -> Vec<u64> {
 ///
 /// The paper has the first line of case G. In case H the values at points 2 and 3 are 1 and 3, so
 /// that the fold at 4 is 1 + 6 × 2. In case L round 1 folds 3 and 4 at points 0 and 6: at challenge
-/// 3 that is 3 + 3 × 7 / 6, and the half of 7 is that of 1 plus 3.
+/// 3 that is 3 + 3 × 7 / 6, and 7 / 2 is 1 / 2 plus 3.
 pub fn sheets() -> Vec<(Run, Vec<u64>, &'static str)> {
     vec![
         (

@@ -17,7 +17,8 @@ use Rattle.byte_rounds.proofs.Carried.{challenges-length, queries-front, querie
 use Rattle.byte_rounds.proofs.Carried.{sent-run, sent-checks, sent-layers}
 use Rattle.sheet_text.specs.Sheet.{sheetLines, transcriptSheet}
 use Rattle.sheet_text.proofs.Sheets.{sheet-passed}
-use Rattle.marking.proofs.Fronts.{put-in-front, no-room}
+use Rattle.sheet_text.proofs.Fronts.{no-room}
+use Rattle.marking.proofs.Fronts.{put-in-front}
 use Rattle.marking.proofs.Lengths.{lines-few, length-is}
 use Rattle.marking.proofs.sheet_checked.Statement.{statement}
 use Rattle.marking.proofs.sheet_checked.Tie as tie
@@ -53,7 +54,7 @@ returns c =
     let start = read .before .before .before in
     let a = start .args in
     let same = length-is (a .bytes .now) (start .pre .1) (read .read .ensures) in
-    (same, no-room (transcriptSheet (a .bytes .now)) (a .out .now) (omega (arith, same, c .if1 .taken)))
+    (same, sym (no-room (transcriptSheet (a .bytes .now)) (a .out .now) (omega (arith, same, c .if1 .taken))))
 
 array-share-prefix-basis : tie.Need-array-share-prefix-basis
 array-share-prefix-basis c =

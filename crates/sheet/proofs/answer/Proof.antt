@@ -1,17 +1,16 @@
 -- `sheet::answer` meets its contract: the sheet is that of the bytes read, and the lent list has room for the largest.
 -- Assumes nothing.
 use mathlib.Core.Path.{_≡_, refl, sym, ap, ap₂, subst, _∙_}
-use mathlib.Core.Bool.{Bool, cond}
-use mathlib.Core.List.{List, _++_}
+use mathlib.Core.List.{List}
 use Prim.Native.Nat.{ℕ, _≤_}
 use native.Mathlib.Omega.{arith}
 use lib.ListN.{length, take, drop, length-take}
 use lib.Seq.{take-append-seam}
-use borrow.Author.Tests.{le-leb}
 use borrow.Author.Needs.{needs}
 use Rattle.sheet_text.specs.Sheet.{sheetOf, inFront}
 use Rattle.sheet_text.proofs.Theorems.{sheets}
 use Rattle.input.specs.Reading.{printedOf}
+use Rattle.sheet_text.proofs.Fronts.{in-front}
 use Rattle.input.proofs.Printed.{printed-nothing, printed-done, done-within}
 use Rattle.sheet.proofs.answer.Statement.{statement}
 use Rattle.sheet.proofs.answer.Tie as tie
@@ -21,9 +20,7 @@ use Rattle.sheet.proofs.answer.Tie as tie
 -- it is what the list then begins with
 front : (text held : List ℕ) → length text ≤ length held → take (length text) (inFront text held) ≡ text
 front text held room =
-    ap (λ (test : Bool). take (length text) (cond test (text ++ drop (length text) held) held))
-    (le-leb (length text) (length held) room)
-    ∙ take-append-seam text (drop (length text) held)
+    ap (take (length text)) (in-front text held room) ∙ take-append-seam text (drop (length text) held)
 
 -- a list of which n entries can be taken has them
 counted : (n : ℕ) (list : List ℕ) → n ≡ length (take n list) → n ≤ length list
