@@ -65,8 +65,8 @@ impl Operation for Sheet<'_> {
         check_bases(arithmetic, &proof.run);
         check_apart(proof.queries, proof.run.step)?;
         let rounds = set_up(arithmetic, &proof.run);
-        let sheets = out.chunks_exact_mut(LINE * rounds.len());
-        for (query, (index, lines)) in proof.queries.iter().zip(sheets).enumerate() {
+        let by_query = out.chunks_exact_mut(LINE * rounds.len());
+        for (query, (index, lines)) in proof.queries.iter().zip(by_query).enumerate() {
             ended_round(arithmetic, proof, &rounds, *index as usize, |round, computed, found| {
                 let line = &mut lines[LINE * round..][..LINE];
                 put_line(line, [query as u64, *index, round as u64], computed, found);
