@@ -5,7 +5,7 @@
  *   2  the answer
  *   3  the numbers
  *   4  lists
- *   5  what a call needs beforehand: rounds and lengths
+ *   5  what a call needs beforehand: rounds and lengths; how much memory it takes
  *   6  the functions: arithmetic, encoding, folding, the protocol over lists and over bytes,
  *      marking sheets
  *   7  the raw functions, with a warning
@@ -24,10 +24,10 @@
 #include <stddef.h>
 #include <stdint.h>
 
-#define RZ_VERSION "0.5.0"
+#define RZ_VERSION "0.5.1"
 #define RZ_VERSION_MAJOR 0
 #define RZ_VERSION_MINOR 5
-#define RZ_VERSION_PATCH 0
+#define RZ_VERSION_PATCH 1
 
 #ifdef __cplusplus
 extern "C" {
@@ -198,6 +198,36 @@ size_t rz_last_length(size_t k, size_t rate, size_t step);
  * challenges, the queries, the word (2^k), the store (rz_store_length) and d last coefficients.
  * 0 also for 2^60 queries or more, which no list has. */
 uint64_t rz_transcript_length(size_t k, size_t rate, size_t step, size_t queries);
+
+/* Beside the lists that it is lent a call takes stack, and no other memory. Nothing is allocated,
+ * nothing is kept from one call to the next, and of C the library calls memcpy and memset alone.
+ * At the largest sizes, which are k 12 for encoding and interpolation, k 20 with rate 1 and 256
+ * queries for the others, with the step that takes the most, the functions take:
+ *
+ *   function                          lent  list   stack
+ *   rz_sum                               0     0     256
+ *   rz_product                           0    16     512
+ *   rz_inverse_answer                    0    16     512
+ *   rz_encode_answer                65,632    64   1,792
+ *   rz_interpolate_answer           65,632    64   2,048
+ *   rz_fold_answer              12,583,224    64   3,584
+ *   rz_rounds                            0     0     256
+ *   rz_store_length                      0     0     256
+ *   rz_last_length                       0     0     256
+ *   rz_transcript_length                 0     0     256
+ *   rz_prove_answer             16,777,504   256   6,656
+ *   rz_layer_answer              8,388,576     0     512
+ *   rz_judge_answer             16,779,552   152   8,192
+ *   rz_write_transcript_answer  33,559,232    64   3,328
+ *   rz_judge_transcript_answer  16,779,680   256  12,800
+ *   rz_sheet_into               17,052,064   256  13,824
+ *
+ * lent: the bytes of all lists that the call is lent; at smaller sizes the lengths above give it.
+ * list: how many elements the longest local list has, of the function and of all that it calls; it
+ * is part of the stack. stack: the bytes of stack, the arguments and the function of this header
+ * included, measured where gcc compiles that function without optimisation, and rounded up to a
+ * multiple of 256. A loader that looks up memcpy or memset in the first call that needs it takes
+ * stack of its own, which is not counted. */
 
 /* 6. THE FUNCTIONS */
 
