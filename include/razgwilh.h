@@ -217,17 +217,18 @@ uint64_t rz_transcript_length(size_t k, size_t rate, size_t step, size_t queries
  *   rz_transcript_length                 0     0     256
  *   rz_prove_answer             16,777,504   256   6,656
  *   rz_layer_answer              8,388,576     0     512
- *   rz_judge_answer             16,779,552   152   8,192
+ *   rz_judge_answer             16,779,552   266   8,192
  *   rz_write_transcript_answer  33,559,232    64   3,328
- *   rz_judge_transcript_answer  16,779,680   256  12,800
- *   rz_sheet_into               17,052,064   256  13,824
+ *   rz_judge_transcript_answer  16,779,680   266  12,800
+ *   rz_sheet_into               17,052,064   266  13,824
  *
  * lent: the bytes of all lists that the call is lent; at smaller sizes the lengths above give it.
- * list: how many elements the longest local list has, of the function and of all that it calls; it
- * is part of the stack. stack: the bytes of stack, the arguments and the function of this header
- * included, measured where gcc compiles that function without optimisation, and rounded up to a
- * multiple of 256. A loader that looks up memcpy or memset in the first call that needs it takes
- * stack of its own, which is not counted. */
+ * list: how many elements the longest local list has, of the raw function and of all that it
+ * calls, a list of lists with all their elements; it is part of the stack.
+ * stack: the bytes of stack, the arguments and the function of this header included, measured
+ * where gcc compiles that function without optimisation, and rounded up to a multiple of 256;
+ * smaller sizes take as much. A loader that looks up memcpy or memset in the first call that needs
+ * it takes stack of its own, which is not counted. */
 
 /* 6. THE FUNCTIONS */
 

@@ -1,9 +1,9 @@
-/* Measures the memory of a call of each function of the library, at the largest sizes that it
+/* Measures the memory of a call of each function of the library, up to the largest sizes that it
  * takes: the lists lent, and the stack. A call is made on a stack of its own that was filled with
  * a pattern, and has taken all from the first byte on that no longer holds it. Runs are proved and
  * judged with a word of low degree and with one that has a damaged entry. Prints a row for each
- * function: its name, the bytes lent, the bytes of stack. Exits 1 where a call answers another
- * number than it should, and so did not go all its way. */
+ * function: its name, the bytes lent, the bytes of stack. Exits 1 where an answer has another
+ * number than it should, or a sheet another length, so that the call did not go all its way. */
 #define _XOPEN_SOURCE 700
 #include "razgwilh.h"
 
@@ -18,6 +18,7 @@
 #define RATE 1
 #define OFFSET 1
 #define QUERIES 256
+#define SHEET_LINE 56 /* bytes */
 
 /* What the calls are given, in memory that is not on the stack. */
 static size_t k, step, rounds, store_length, last_length, transcript_length;
@@ -135,6 +136,7 @@ static void judge_transcript(void) {
 static void mark(void) {
     value = rz_sheet_into(transcript, lent_bytes(transcript_length), sheet,
                           lent_bytes(sizeof sheet));
+    answer.number = value == rounds * QUERIES * SHEET_LINE ? RZ_ACCEPTED : RZ_NONE;
 }
 
 /* How many bytes a call takes of a stack that was filled with this byte. */
@@ -248,8 +250,9 @@ int main(void) {
     for (size_t j = 0; j < LENGTH(word); j++) {
         word[j] = 1;
     }
-    k = LARGEST_CODE;
-    measure(rows_of_codes, LENGTH(rows_of_codes), 0);
+    for (k = 0; k <= LARGEST_CODE; k++) {
+        measure(rows_of_codes, LENGTH(rows_of_codes), 0);
+    }
     k = LARGEST;
     for (step = 1; step <= 3; step++) {
         set_up();

@@ -11,9 +11,9 @@
 //! ([`prove`]), the [`layer`] of a store, the writer of transcripts ([`write_transcript`]), the
 //! judge, over lists ([`judge`]) and over the bytes of a transcript ([`judge_transcript`]), and the
 //! marking sheet of a transcript ([`sheet`], [`sheet_into`]). `include/razgwilh.h` describes each
-//! function in full, with the order of its refusals and the stack that it takes; [`raw`] has those
-//! that answer in a lent list by the C convention. Only [`sheet`] needs an allocator: it is left out
-//! without the feature `alloc`.
+//! function in full, with the order of its refusals and, called from C, the stack that it takes;
+//! [`raw`] has those that answer in a lent list by the C convention. Only [`sheet`] needs an
+//! allocator: it is left out without the feature `alloc`.
 //!
 //! Whatever a caller passes, a refusal is an `Err` with its [`Cause`], whose number
 //! `docs/NUMBERS.md` lists. Only number 0 reads as done or accepted: the five numbers of an
