@@ -227,8 +227,8 @@ uint64_t rz_transcript_length(size_t k, size_t rate, size_t step, size_t queries
  * calls, a list of lists with all their elements; it is part of the stack.
  * stack: the bytes of stack, the arguments and the function of this header included, measured
  * where gcc compiles that function without optimisation, and rounded up to a multiple of 256;
- * smaller sizes take as much. A loader that looks up memcpy or memset in the first call that needs
- * it takes stack of its own, which is not counted. */
+ * smaller sizes may take as much. A loader that looks up memcpy or memset in the first call that
+ * needs it takes stack of its own, which is not counted. */
 
 /* 6. THE FUNCTIONS */
 
