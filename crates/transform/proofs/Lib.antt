@@ -1,0 +1,9 @@
+pub mod Halves
+pub mod Weighted
+pub mod Regrouping
+pub mod Tables
+pub mod Scaling
+pub mod Converting
+pub mod Splitting
+pub mod Normalised
+pub mod Theorems

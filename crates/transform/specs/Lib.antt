@@ -1,0 +1,3 @@
+-- The additive transform: what it computes step by step, and what is proved of it.
+pub mod Transform
+pub mod Theorems

@@ -1,0 +1,1 @@
+// The additive transform: specs/ has its definitions, proofs/ its theorems.
