@@ -1,6 +1,6 @@
 // The field of 2^64 elements: a polynomial over GF(2) of degree below 64, bit i the coefficient of t^i,
 // modulo t^64 + t^4 + t^3 + t + 1.
-mod reduction;
+pub mod reduction;
 
 use refusal::Cause;
 ghost use mathlib.Core.Path.{_≡_};

@@ -22,7 +22,7 @@ fn times_reduction(a: u64) -> Wide
 }
 
 // w modulo t^64 + t^4 + t^3 + t + 1. What t^64 · high reduces to has four bits over 64, which are reduced with it.
-fn reduced(w: Wide) -> u64
+pub fn reduced(w: Wide) -> u64
     ensures { λ r. ⌜ r ≡ remainder (wideOf w) ⌝ }
 {
     let over = times_reduction(w.high).high;

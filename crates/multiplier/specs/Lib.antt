@@ -1,0 +1,2 @@
+-- What a table of multiples holds.
+pub mod Table
