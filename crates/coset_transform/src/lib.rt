@@ -2,192 +2,105 @@
 // the coset is split in halves until one point is left. Local lists: two of twenty.
 use field::Element;
 ghost use mathlib.Core.Path.{_≡_};
-ghost use mathlib.Core.Logic.{_≢_};
 ghost use mathlib.Core.List.{map};
-ghost use Prim.Native.Nat.{_+_, _/_, _%_, _^_, _≤_, _<_};
+ghost use Prim.Native.Nat.{_^_, _≤_};
 ghost use lib.ListN.{length};
 ghost use Rattle.gf64.specs.Field.{inverse};
 ghost use Rattle.poly.specs.Carrier.{gf64};
-ghost use Rattle.poly.specs.Polynomial.{All, DegreeBelow, padded};
+ghost use Rattle.poly.specs.Polynomial.{DegreeBelow, padded};
 ghost use Rattle.coset.specs.Span.{Independent};
 ghost use Rattle.coset.specs.Steps.{stepElements};
 ghost use Rattle.reed_solomon.specs.Codes.{encoded, interpolated};
-ghost use Rattle.transform.specs.Transform.{firstAdded, secondAdded};
-ghost use Rattle.transform.specs.Transform.{quarters, quartersBack, regrouped, regroupedBack, scaledRuns};
-ghost use Rattle.transform.specs.Transform.{converted, convertedBack, ratioOf, multiplierOf};
-ghost use Rattle.transform.specs.Transform.{splitInHalves, joinedFromHalves};
 
-// ---- the recursion over the coset: halves of the slice, the dimension falling
+// From coefficients to the values at the points, in point order. Coefficients from 2^used on are zero.
+pub fn evaluate_in_place(offset: Element, basis: &[u64], used: usize, slice: &mut [u64])
+    requires { ⌜ (length (now basis) ≤ 20) × Independent (now basis) × (used ≤ length (now basis))
+        × (length (now slice) ≡ 2 ^ length (now basis)) × DegreeBelow gf64 (2 ^ used) (now slice) ⌝ }
+    ensures { λ _. ⌜ now (slice .exit) ≡ encoded (offset .0) (now (basis .entry)) (now (slice .entry)) ⌝ }
+{
+    let k = basis.len();
+    let elements = step_elements(basis);
+    let inverses = inverses_of(basis, &elements[..k]);
+    evaluate_with(offset, basis, &elements[..k], &inverses[..k], used, slice);
+}
 
-// From the products of the z_j to values. Entries from 2^used on are zero: above that dimension nothing is multiplied.
-fn split(
+// From the values at the points to the coefficients.
+pub fn interpolate_in_place(offset: Element, basis: &[u64], slice: &mut [u64])
+    requires { ⌜ (length (now basis) ≤ 20) × Independent (now basis)
+        × (length (now slice) ≡ 2 ^ length (now basis)) ⌝ }
+    ensures { λ _. ⌜ now (slice .exit) ≡ interpolated (offset .0) (now (basis .entry)) (now (slice .entry)) ⌝ }
+{
+    let k = basis.len();
+    let elements = step_elements(basis);
+    let inverses = inverses_of(basis, &elements[..k]);
+    interpolate_with(offset, basis, &elements[..k], &inverses[..k], slice);
+}
+
+// The same with the elements of the maps and their inverses.
+fn evaluate_with(
+    offset: Element,
+    basis: &[u64],
+    elements: &[u64],
+    inverses: &[u64],
     used: usize,
-    n: usize,
+    slice: &mut [u64],
+)
+    requires { ⌜ (length (now basis) ≤ 20) × Independent (now basis) × (used ≤ length (now basis))
+        × (length (now slice) ≡ 2 ^ length (now basis)) × DegreeBelow gf64 (2 ^ used) (now slice)
+        × (now elements ≡ stepElements (length (now basis)) (now basis))
+        × (now inverses ≡ map inverse (now elements)) ⌝ }
+    ensures { λ _. ⌜ now (slice .exit) ≡ encoded (offset .0) (now (basis .entry)) (now (slice .entry)) ⌝ }
+{
+    let size = conversion::power_of_two(used);
+    conversion::convert(used, elements, inverses, &mut slice[..size]);
+    coset_halves::split(used, basis.len(), offset, basis, elements, inverses, slice);
+}
+
+fn interpolate_with(
     offset: Element,
     basis: &[u64],
     elements: &[u64],
     inverses: &[u64],
     slice: &mut [u64],
 )
-    requires { ⌜ (n ≤ length (now basis)) × (length (now elements) ≡ length (now basis))
-        × (length (now inverses) ≡ length (now basis)) × (length (now slice) ≡ 2 ^ n)
-        × DegreeBelow gf64 (2 ^ used) (now slice) ⌝ }
-    ensures { λ _.
-        let z = multiplierOf (now (elements .entry)) (now (inverses .entry)) in
-        ⌜ now (slice .exit) ≡ splitInHalves z (now (basis .entry)) n (offset .0) (now (slice .entry)) ⌝ }
+    requires { ⌜ (length (now basis) ≤ 20) × Independent (now basis)
+        × (length (now slice) ≡ 2 ^ length (now basis))
+        × (now elements ≡ stepElements (length (now basis)) (now basis))
+        × (now inverses ≡ map inverse (now elements)) ⌝ }
+    ensures { λ _. ⌜ now (slice .exit) ≡ interpolated (offset .0) (now (basis .entry)) (now (slice .entry)) ⌝ }
 {
-    if n == 0 {
-        return;
+    let k = basis.len();
+    coset_halves::join(k, offset, basis, elements, inverses, slice);
+    conversion::convert_back(k, elements, inverses, slice);
+}
+
+// The elements e_j of the maps X · (X - e) whose compositions are the subspace polynomials, and zeros.
+fn step_elements(basis: &[u64]) -> [u64; 20]
+    requires { ⌜ length (now basis) ≤ 20 ⌝ }
+    ensures { λ r. ⌜ r ≡ padded gf64 20 (stepElements (length (now (basis .entry))) (now (basis .entry))) ⌝ }
+{
+    let mut elements = [0u64; 20];
+    let mut t: usize = 0;
+    while t < basis.len() {
+        let b = basis[t];
+        elements[t] = next_coset::composed_maps(&elements[..t], Element(b)).0;
+        t += 1;
     }
-    let last = n - 1;
-    let half = slice.len() / 2;
-    step(used, last, offset, elements, inverses, slice);
-    let b = basis[last];
-    split(
-        used,
-        last,
-        offset,
-        basis,
-        elements,
-        inverses,
-        &mut slice[..half],
-    );
-    split(
-        used,
-        last,
-        offset.sum(Element(b)),
-        basis,
-        elements,
-        inverses,
-        &mut slice[half..],
-    );
+    elements
 }
 
-// Halves a, b become a + c b, a + c b + b, where c is z_n at the offset. Above the dimension in use b is zero.
-fn step(
-    used: usize,
-    n: usize,
-    offset: Element,
-    elements: &[u64],
-    inverses: &[u64],
-    slice: &mut [u64],
-)
-    requires { ⌜ (n < length (now elements)) × (n < length (now inverses)) × (length (now slice) ≡ 2 ^ n + 2 ^ n)
-        × DegreeBelow gf64 (2 ^ used) (now slice) ⌝ }
-    ensures { λ _.
-        let c = multiplierOf (now (elements .entry)) (now (inverses .entry)) n (offset .0) in
-        ⌜ now (slice .exit) ≡ firstAdded (2 ^ n) (secondAdded c (2 ^ n) (now (slice .entry))) ⌝ }
+// Their inverses, and zeros. None of them is zero, since the basis is independent (`Subspaces.elements`).
+fn inverses_of(basis: &[u64], elements: &[u64]) -> [u64; 20]
+    requires { ⌜ (length (now basis) ≤ 20) × Independent (now basis)
+        × (now elements ≡ stepElements (length (now basis)) (now basis)) ⌝ }
+    ensures { λ r. ⌜ r ≡ padded gf64 20 (map inverse (now (elements .entry))) ⌝ }
 {
-    if n >= used {
-        transform_steps::add_first(slice);
-        return;
+    let mut inverses = [0u64; 20];
+    let mut t: usize = 0;
+    while t < basis.len() {
+        let e = elements[t];
+        inverses[t] = Element(e).inverse_of_nonzero().0;
+        t += 1;
     }
-    let c = multiplier(elements, inverses, n, offset);
-    transform_steps::add_multiples(c, slice);
-    transform_steps::add_first(slice);
-}
-
-// From values to the products of the z_j.
-fn join(
-    n: usize,
-    offset: Element,
-    basis: &[u64],
-    elements: &[u64],
-    inverses: &[u64],
-    slice: &mut [u64],
-)
-    requires { ⌜ (n ≤ length (now basis)) × (length (now elements) ≡ length (now basis))
-        × (length (now inverses) ≡ length (now basis)) × (length (now slice) ≡ 2 ^ n) ⌝ }
-    ensures { λ _.
-        let z = multiplierOf (now (elements .entry)) (now (inverses .entry)) in
-        ⌜ now (slice .exit) ≡ joinedFromHalves z (now (basis .entry)) n (offset .0) (now (slice .entry)) ⌝ }
-{
-    if n == 0 {
-        return;
-    }
-    let last = n - 1;
-    let half = slice.len() / 2;
-    let b = basis[last];
-    join(last, offset, basis, elements, inverses, &mut slice[..half]);
-    join(
-        last,
-        offset.sum(Element(b)),
-        basis,
-        elements,
-        inverses,
-        &mut slice[half..],
-    );
-    step_back(last, offset, elements, inverses, slice);
-}
-
-fn step_back(n: usize, offset: Element, elements: &[u64], inverses: &[u64], slice: &mut [u64])
-    requires { ⌜ (n < length (now elements)) × (n < length (now inverses)) × (length (now slice) ≡ 2 ^ n + 2 ^ n) ⌝ }
-    ensures { λ _.
-        let c = multiplierOf (now (elements .entry)) (now (inverses .entry)) n (offset .0) in
-        ⌜ now (slice .exit) ≡ secondAdded c (2 ^ n) (firstAdded (2 ^ n) (now (slice .entry))) ⌝ }
-{
-    let c = multiplier(elements, inverses, n, offset);
-    transform_steps::add_first(slice);
-    transform_steps::add_multiples(c, slice);
-}
-
-// z_n at x.
-fn multiplier(elements: &[u64], inverses: &[u64], n: usize, x: Element) -> Element
-    requires { ⌜ (n < length (now elements)) × (n < length (now inverses)) ⌝ }
-    ensures { λ r. ⌜ r .0 ≡ multiplierOf (now (elements .entry)) (now (inverses .entry)) n (x .0) ⌝ }
-{
-    let inverse = inverses[n];
-    next_coset::composed_maps(&elements[..n], x).product(Element(inverse))
-}
-
-// ---- from the powers of X to the products of the z_j and back
-
-// In the slice of 2^upper runs of 2^lower entries and in all its halves of four runs or more.
-fn regroup(lower: usize, upper: usize, slice: &mut [u64])
-    requires { ⌜ length (now slice) ≡ 2 ^ (upper + lower) ⌝ }
-    ensures { λ _. ⌜ now (slice .exit) ≡ regrouped lower upper (now (slice .entry)) ⌝ }
-{
-    if upper < 2 {
-        return;
-    }
-    let half = slice.len() / 2;
-    quarters(slice);
-    regroup(lower, upper - 1, &mut slice[..half]);
-    regroup(lower, upper - 1, &mut slice[half..]);
-}
-
-fn regroup_back(lower: usize, upper: usize, slice: &mut [u64])
-    requires { ⌜ length (now slice) ≡ 2 ^ (upper + lower) ⌝ }
-    ensures { λ _. ⌜ now (slice .exit) ≡ regroupedBack lower upper (now (slice .entry)) ⌝ }
-{
-    if upper < 2 {
-        return;
-    }
-    let half = slice.len() / 2;
-    regroup_back(lower, upper - 1, &mut slice[..half]);
-    regroup_back(lower, upper - 1, &mut slice[half..]);
-    quarters_back(slice);
-}
-
-// Quarters a, b, c, d become a, b + c + d, c + d, d.
-fn quarters(slice: &mut [u64])
-    requires { ⌜ length (now slice) % 4 ≡ 0 ⌝ }
-    ensures { λ _. ⌜ now (slice .exit) ≡ quarters (length (now (slice .entry)) / 4) (now (slice .entry)) ⌝ }
-{
-    let quarter = slice.len() / 4;
-    let half = quarter + quarter;
-    let end = quarter + half;
-    transform_steps::add_second(&mut slice[half..]);
-    transform_steps::add_second(&mut slice[quarter..end]);
-}
-
-fn quarters_back(slice: &mut [u64])
-    requires { ⌜ length (now slice) % 4 ≡ 0 ⌝ }
-    ensures { λ _. ⌜ now (slice .exit) ≡ quartersBack (length (now (slice .entry)) / 4) (now (slice .entry)) ⌝ }
-{
-    let quarter = slice.len() / 4;
-    let half = quarter + quarter;
-    let end = quarter + half;
-    transform_steps::add_second(&mut slice[quarter..end]);
-    transform_steps::add_second(&mut slice[half..]);
+    inverses
 }

@@ -4,6 +4,7 @@ pub mod reduction;
 
 use refusal::Cause;
 ghost use mathlib.Core.Path.{_≡_};
+ghost use mathlib.Core.Logic.{_≢_};
 ghost use Prim.Native.Nat.{_^_};
 ghost use Rattle.gf64.specs.Polynomial.{remainder};
 ghost use Rattle.gf64.specs.Field.{sum, product, power, inverse};
@@ -68,6 +69,14 @@ impl Element {
         let ones_60 = ones_30.raised(30, ones_30);
         let ones_63 = ones_60.raised(3, ones_3);
         ones_63.squared(1)
+    }
+
+    // The inverse, for a caller that shows that there is one.
+    pub fn inverse_of_nonzero(self) -> Element
+        requires { ⌜ self .0 ≢ 0 ⌝ }
+        ensures { λ r. ⌜ r .0 ≡ inverse (self .0) ⌝ }
+    {
+        self.inverse_or_zero()
     }
 
     // self^(2^n) · other.

@@ -1,5 +1,5 @@
 -- The levels of the conversion one after the other, and back. Assumes nothing.
-use mathlib.Core.Path.{_≡_, refl, sym, ap, ap₂, _∙_}
+use mathlib.Core.Path.{_≡_, refl, sym, ap, _∙_}
 use mathlib.Core.List.{List, [], _∷_, _++_}
 use Prim.Native.Nat.{ℕ, zero, suc, _+_, _^_, _<_, _≤_}
 use native.Mathlib.Nat.{add-zero, add-suc, suc-add}
@@ -64,7 +64,8 @@ unfolding converted convertedBack
 converted-undone ratio ratio′ lower zero s inverse h = refl
 converted-undone ratio ratio′ lower (suc upper) s inverse h =
     ap (λ (l : List ℕ). converted ratio (suc lower) upper (regrouped lower (suc upper) l))
-    (scaled-undone lower (ratio lower) (ratio′ lower) (regroupedBack lower (suc upper) t) (inverse lower (omega arith))
+    (scaled-undone lower (ratio lower) (ratio′ lower) (regroupedBack lower (suc upper) t) (inverse lower
+    (omega arith))
     (regrouped-back-block lower (suc upper) t inner .1))
     ∙ ap (converted ratio (suc lower) upper) (regrouped-undone lower (suc upper) t inner)
     ∙ converted-undone ratio ratio′ (suc lower) upper s (λ j l. inverse j (omega arith)) outer

@@ -2,12 +2,12 @@
 use mathlib.Core.Path.{_≡_, refl, sym, ap, ap₂, _∙_}
 use mathlib.Core.List.{List, [], _∷_, _++_}
 use Prim.Native.Nat.{ℕ, zero, suc, _+_, _-_, _≤_, _<_}
-use native.Mathlib.Nat.{le-of-lt, le-refl, le-of-eq, le-trans}
+use native.Mathlib.Nat.{le-refl, le-of-eq, le-trans}
 use native.Mathlib.Omega.{arith}
 use lib.ListN.{length, getD, take, drop, set, length-append, length-drop, take-append-drop, List·getD-append}
 use lib.Seq.{length-take-le, getD-append-add, getD-take, getD-drop, take-at}
 use lib.Bits.{xor-comm}
-use Rattle.gf64.specs.Field.{IsElement, sum, product}
+use Rattle.gf64.specs.Field.{sum, product}
 use Rattle.poly.specs.Carrier.{gf64}
 use Rattle.poly.specs.Polynomial.{plus, scale}
 use Rattle.poly.proofs.Evaluation.{length-plus, length-scale}

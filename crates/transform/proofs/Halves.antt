@@ -1,7 +1,7 @@
 -- The steps on the halves of a list of elements keep its length, and each undoes itself. Assumes nothing.
-use mathlib.Core.Path.{_≡_, refl, sym, ap, ap₂, _∙_, subst}
+use mathlib.Core.Path.{_≡_, refl, sym, ap, ap₂, _∙_}
 use mathlib.Core.List.{List, [], _∷_, _++_}
-use Prim.Native.Nat.{ℕ, zero, suc, _+_, _^_, _≤_}
+use Prim.Native.Nat.{ℕ, _+_}
 use native.Mathlib.Omega.{arith}
 use native.Mathlib.Nat.{le-of-eq}
 use lib.ListN.{length, take, drop, length-append, length-drop, take-append-drop}
@@ -41,7 +41,8 @@ pub block-scale : (m c : ℕ) (a : List ℕ) → length a ≡ m → Block m (sca
 unfolding scale
 block-scale m c a h = (
   length-scale gf64 c a ∙ h,
-  all-map (λ x. record {}) IsElement (product c) (λ x u. product-lt c x) a (all-of (λ x. record {}) (λ x. record {}) a),
+  all-map (λ x. record {}) IsElement (product c) (λ x u. product-lt c x) a (all-of (λ x. record {}) (λ x. record {})
+      a),
 )
 
 -- ---- a step on halves, of the halves

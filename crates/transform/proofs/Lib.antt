@@ -9,3 +9,4 @@ pub mod Normalised
 pub mod Theorems
 pub mod Entries
 pub mod Recursion
+pub mod InPlace

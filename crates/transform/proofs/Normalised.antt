@@ -6,11 +6,11 @@ use mathlib.Core.List.{List, [], _∷_, _++_, map}
 use Prim.Native.Nat.{ℕ, zero, suc, _/_, _^_, _<_, _≤_}
 use native.Mathlib.Nat.{le-refl, le-of-lt, le-of-eq}
 use native.Mathlib.Omega.{arith}
-use lib.ListN.{length, getD, take, drop, length-map, drop-of-length-le}
+use lib.ListN.{length, getD, take, drop, drop-of-length-le}
 use lib.Seq.{take-suc, length-take-le}
 use lib.Bits.{bitXor}
 use Rattle.gf64.specs.Field.{IsElement, sum, product, inverse}
-use Rattle.gf64.proofs.Ring.{product-lt, product-comm, product-assoc, product-add-r, product-add-l, product-one-l}
+use Rattle.gf64.proofs.Ring.{product-lt, product-comm, product-add-r, product-add-l, product-one-l}
 use Rattle.gf64.proofs.Ring.{product-one-r, product-left-comm, product-swap}
 use Rattle.gf64.proofs.Inverse.{inverse-right}
 use Rattle.poly.specs.Polynomial.{All}
@@ -18,7 +18,7 @@ use Rattle.poly.proofs.Filling.{getD-map}
 use Rattle.coset.specs.Coset.{point}
 use Rattle.coset.specs.Span.{Independent}
 use Rattle.coset.specs.Steps.{oneStep, composedMaps, stepElements}
-use Rattle.coset.proofs.Steps.{through-additive, through-element, through-point, elements-of-prefix, length-elements}
+use Rattle.coset.proofs.Steps.{through-additive, through-point, elements-of-prefix, length-elements}
 use Rattle.coset.proofs.Steps.{element-at, elements-not-zero, mapped-elements}
 use Rattle.transform.specs.Transform.{ratioOf, multiplierOf}
 
@@ -100,7 +100,8 @@ module _ (basis : List ℕ) (elements : All IsElement basis) (independent : Inde
       ap (product (getD es j 0)) (getD-map inverse es j (omega (arith, counted)))
       ∙ inverse-right (getD es j 0)
       (all-at IsElement es j (steps-element (length basis) basis elements) (omega (arith, counted)))
-      (all-at (λ e. e ≢ 0) es j (elements-not-zero (length basis) basis elements independent) (omega (arith, counted)))
+      (all-at (λ e. e ≢ 0) es j (elements-not-zero (length basis) basis elements independent) (omega
+      (arith, counted)))
 
   divides-back : (j : ℕ) → j < k → product (getD ds j 0) (getD es j 0) ≡ 1
   divides-back j h = product-comm (getD ds j 0) (getD es j 0) ∙ divides j h
@@ -170,3 +171,11 @@ module _ (basis : List ℕ) (elements : All IsElement basis) (independent : Inde
       ∙ through-append (take j es) (getD es j 0 ∷ []) x)
       ∙ next-product (getD es (suc j) 0) (getD ds j 0) (getD ds (suc j) 0) (getD es j 0) (composedMaps (take j es) x)
       (divides (suc j) h) (divides-back j (omega arith))
+
+-- what is inverted is not zero
+pub element-not-zero : (basis elements : List ℕ) (t : ℕ) → All IsElement basis → Independent basis
+    → elements ≡ stepElements (length basis) basis → t < length basis → getD elements t 0 ≢ 0
+element-not-zero basis elements t eb d e h =
+    subst (λ (l : List ℕ). getD l t 0 ≢ 0) (sym e)
+    (all-at (λ x. x ≢ 0) (stepElements (length basis) basis) t (elements-not-zero (length basis) basis eb d)
+    (omega (arith, length-elements (length basis) basis (le-refl (length basis)))))

@@ -2,20 +2,20 @@
 use mathlib.Core.Path.{_≡_, refl, sym, ap, ap₂, _∙_, subst}
 use mathlib.Core.List.{List, [], _∷_, _++_}
 use mathlib.Core.Logic.{_⊎_, inl, inr, ⊎-elim}
-use Prim.Native.Nat.{ℕ, zero, suc, _+_, _-_, _*_, _/_, _%_, _^_, _≤_, _<_}
+use Prim.Native.Nat.{ℕ, zero, suc, _+_, _-_, _/_, _%_, _^_, _≤_, _<_}
 use native.Mathlib.Nat.{le-of-eq, le-of-lt, le-trans}
 use native.Mathlib.Omega.{arith}
 use lib.Pow.{pow-mono}
 use lib.ListN.{length, getD, take, drop, length-append, length-drop, drop-of-length-le, take-append-drop}
-use lib.Seq.{take-at, drop-at, length-take-le, take-take, drop-append-le}
+use lib.Seq.{take-at, drop-at, length-take-le}
 use lib.Bits.{xor-zero-r}
 use borrow.Rule.Slice.PartMut.{midOf, putMid, same-len-mid}
 use Rattle.gf64.specs.Field.{sum, product}
 use Rattle.gf64.proofs.Ring.{product-zero-r}
 use Rattle.poly.specs.Carrier.{gf64}
-use Rattle.poly.specs.Polynomial.{All, Zeros, DegreeBelow, plus, scale}
+use Rattle.poly.specs.Polynomial.{Zeros, DegreeBelow, plus, scale}
 use Rattle.poly.proofs.Parts.{mid-suffix, put-suffix}
-use Rattle.poly.proofs.Entries.{all-take, all-drop, all-append}
+use Rattle.poly.proofs.Entries.{all-take, all-drop}
 use Rattle.transform.specs.Transform.{secondAdded, firstAdded, quarters, quartersBack, onPart}
 use Rattle.transform.specs.Transform.{regrouped, regroupedBack, splitInHalves, joinedFromHalves}
 
@@ -229,7 +229,8 @@ scale-zeros : (c : ℕ) (z : List ℕ) → Zeros gf64 z → scale gf64 c z ≡ z
 unfolding scale
 scale-zeros c [] h = refl
 scale-zeros c (x ∷ z) h =
-    ap₂ (λ (b : ℕ) (l : List ℕ). b ∷ l) (ap (product c) (h .0) ∙ product-zero-r c ∙ sym (h .0)) (scale-zeros c z (h .1))
+    ap₂ (λ (b : ℕ) (l : List ℕ). b ∷ l) (ap (product c) (h .0) ∙ product-zero-r c
+    ∙ sym (h .0)) (scale-zeros c z (h .1))
 
 -- nothing from 2^used on, and 2^n or more
 below-half : (used n : ℕ) (s : List ℕ) → used ≤ n → DegreeBelow gf64 (2 ^ used) s → Zeros gf64 (drop (2 ^ n) s)

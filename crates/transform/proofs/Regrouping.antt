@@ -1,13 +1,13 @@
 -- Regrouping: quarters by quarters the weights z^(2^n), .., z^2, z become those of z^2 + z and z; it keeps the length
 -- and is undone by its way back. Assumes nothing.
-use mathlib.Core.Path.{_≡_, refl, sym, ap, ap₂, _∙_, subst}
+use mathlib.Core.Path.{_≡_, refl, sym, ap, ap₂, _∙_}
 use mathlib.Core.List.{List, [], _∷_, _++_, append-assoc, append-nil}
-use Prim.Native.Nat.{ℕ, zero, suc, _+_, _*_, _^_}
+use Prim.Native.Nat.{ℕ, zero, suc, _+_, _^_}
 use native.Mathlib.Nat.{pow-suc, suc-add, add-suc, le-of-eq}
 use native.Mathlib.Omega.{arith}
 use lib.ListN.{length, take, drop, length-append, take-append-drop}
 use lib.Seq.{take-at, drop-at}
-use lib.Bits.{bitXor, xor-comm, xor-self, xor-zero-r}
+use lib.Bits.{bitXor, xor-comm}
 use Rattle.gf64.specs.Field.{IsElement, sum, product, power}
 use Rattle.gf64.proofs.Xor.{xor-assoc, xor-left-comm, xor-cancel}
 use Rattle.gf64.proofs.Ring.{product-lt, product-assoc, product-add-r, product-add-l, product-one, product-one-l}
@@ -108,7 +108,8 @@ quarter-sums y a b c d =
     ∙ ap₂ bitXor
     (product-add-r (product y y) c′ (product y d)
     ∙ ap (λ (p : ℕ). sum p (product (product y y) (product y d)))
-    (product-add-r (product y y) c (product 1 d) ∙ ap (bitXor (product (product y y) c)) (one-absorbed (product y y) d)))
+    (product-add-r (product y y) c (product 1 d)
+    ∙ ap (bitXor (product (product y y) c)) (one-absorbed (product y y) d)))
     (product-add-r y c′ (product y d) ∙ ap (bitXor (product y c′)) (sym (product-assoc y y d))))
     ∙ cancelled a (product y b) (product (product y y) c) (product (product y y) d) (product y c′)
     (product (product y y) (product y d))
@@ -349,10 +350,12 @@ regrouped-weighted z ws (suc upper) s hz h =
     (regrouped-weighted z ws upper (take m t) hz (block-take m m t stepped))
     (regrouped-weighted z ws upper (drop m t) hz (block-drop m m t stepped))
     ∙ sym (weighted-halves (sum (product y y) y) (y ∷ below) (take m t) (drop m t)
-    (block-take m m t stepped .0 ∙ ap (λ (n : ℕ). 2 ^ n) (suc-add upper (length ws) ∙ ap suc (sym (length-with z upper ws)))))
+    (block-take m m t stepped .0 ∙ ap (λ (n : ℕ). 2 ^ n) (suc-add upper (length ws)
+    ∙ ap suc (sym (length-with z upper ws)))))
     ∙ ap (weighted (sum (product y y) y ∷ y ∷ below)) (take-append-drop m t)
     ∙ ap (λ (n : ℕ). weighted (sum (product y y) y ∷ y ∷ below) (quarters (2 ^ n) s)) (sym (length-with z upper ws))
-    ∙ quarters-weighted y below s (block-is (m + m) (q y below + q y below + (q y below + q y below)) s quartered halves)
+    ∙ quarters-weighted y below s (block-is (m + m) (q y below + q y below +
+    (q y below + q y below)) s quartered halves)
     ∙ ap (λ (w : ℕ). weighted (w ∷ y ∷ below) s) (sym (next-square z upper))
   where
     m : ℕ

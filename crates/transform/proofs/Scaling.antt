@@ -1,23 +1,28 @@
 -- Runs times powers of r: the weights of r z become those of z; the powers of its inverse undo it. Assumes nothing.
-use mathlib.Core.Path.{_≡_, refl, sym, ap, ap₂, _∙_}
-use mathlib.Core.List.{List, [], _∷_, _++_, map}
-use Prim.Native.Nat.{ℕ, zero, suc, _+_, _*_, _/_, _^_, _<_}
-use native.Mathlib.Nat.{zero-add, suc-add, div-eq-of-lt, mul-add-div-right}
+use mathlib.Core.Path.{_≡_, refl, sym, ap, ap₂, _∙_, subst}
+use mathlib.Core.List.{List, _∷_, _++_, map, append-assoc}
+use Prim.Native.Nat.{ℕ, zero, suc, _+_, _*_, _/_, _%_, _^_, _<_, _≤_}
+use native.Mathlib.Nat.{zero-add, add-zero, div-eq-of-lt, mul-add-div-right, add-div-right, add-mod-right}
+use native.Mathlib.Nat.{suc-mul, mul-le-mul-right, div-lt-iff-lt-mul}
+use native.Mathlib.Numerals.{add-one}
 use native.Mathlib.Omega.{arith}
-use lib.Pow.{pow-pos, pow-add}
-use lib.ListN.{length, getD, take, drop, length-append, take-append-drop, List·getD-append}
-use lib.Seq.{ext-getD, getD-append-add}
+use lib.Pow.{pow-pos, pow-add, split, high}
+use lib.ListN.{length, getD, take, drop, length-append, length-drop, length-map, take-append-drop, List·getD-append}
+use lib.Seq.{ext-getD, getD-append-add, getD-take, getD-drop, length-take-le, take-at, drop-at, take-add, drop-drop}
+use borrow.Rule.Slice.PartMut.{midOf, putMid}
 use Rattle.gf64.specs.Field.{IsElement, sum, product, power}
 use Rattle.gf64.proofs.Ring.{product-lt, product-comm, product-assoc, product-one-l}
 use Rattle.gf64.proofs.Power.{power-zero, power-suc, power-add}
 use Rattle.poly.specs.Carrier.{gf64}
 use Rattle.poly.specs.Polynomial.{All, scale}
 use Rattle.poly.proofs.Entries.{all-getD}
+use Rattle.poly.proofs.Filling.{filled, filled-all, getD-map}
 use Rattle.coset.specs.Coset.{tabulated}
 use Rattle.coset.proofs.Points.{length-tabulated, getD-tabulated, all-tabulated, tabulated-agree, map-tabulated}
+use Rattle.coset.proofs.Points.{tabulated-part}
 use Rattle.transform.specs.Transform.{weighted, squares, scaledRuns}
 use Rattle.transform.proofs.Halves.{Block, block-take, block-drop}
-use Rattle.transform.proofs.Weighted.{weighted-halves, weighted-scale, length-squares}
+use Rattle.transform.proofs.Weighted.{weighted-halves, weighted-scale}
 use Rattle.transform.proofs.Regrouping.{block-is, half-runs, power-product, length-with}
 use Rattle.transform.proofs.Tables.{tabulated-halves}
 
@@ -163,3 +168,118 @@ scaled-weighted r z ws (suc upper) s h =
 
     hb : Block m b
     hb = block-drop m m s halves
+
+-- ---- run by run, as a loop goes
+
+-- a part of a list that is being filled, and the list with the target's part in its place
+module _ (target held : List ℕ) (p n : ℕ) (same : length target ≡ length held) (inside : p + n ≤ length held) where
+  front : length (take p target) ≡ p
+  front = length-take-le p target (omega arith)
+
+  pub part-held : midOf p n (filled target held p) ≡ take n (drop p held)
+  unfolding filled
+  part-held = ap (take n) (drop-at (take p target) (drop p held) p front)
+
+  pub part-filled : putMid p n (filled target held p) (take n (drop p target)) ≡ filled target held (p + n)
+  unfolding filled
+  part-filled =
+      ap₂ (λ (x y : List ℕ). x ++ (take n (drop p target) ++ drop n y)) (take-at (take p target)
+      (drop p held) p front)
+      (drop-at (take p target) (drop p held) p front)
+      ∙ sym (append-assoc (take p target) (take n (drop p target)) (drop n (drop p held)))
+      ∙ ap₂ (λ (x y : List ℕ). x ++ y) (sym (take-add p n target)) (drop-drop n p held)
+
+-- at is a multiple of the run
+runs-whole : (lower at : ℕ) → at % 2 ^ lower ≡ 0 → at / 2 ^ lower * 2 ^ lower ≡ at
+runs-whole lower at h =
+    sym (add-zero (at / 2 ^ lower * 2 ^ lower)) ∙ ap (λ (n : ℕ). at / 2 ^ lower * 2 ^ lower + n) (sym h)
+    ∙ split at lower
+
+-- run number at / 2^lower
+run-scaled : (lower r : ℕ) (s : List ℕ) (at : ℕ) → at % 2 ^ lower ≡ 0 → at + 2 ^ lower ≤ length s
+    → scale gf64 (power r (at / 2 ^ lower)) (take (2 ^ lower) (drop at s))
+    ≡ take (2 ^ lower) (drop at (scaledRuns lower r s))
+unfolding scaledRuns scale
+run-scaled lower r s at whole inside =
+    ext-getD 0 (map (product (power r (at / 2 ^ lower))) part) (take (2 ^ lower) (drop at (tabulated f 0 (length s))))
+    (length-map part (product (power r (at / 2 ^ lower))) ∙ counted
+    ∙ sym (ap length table ∙ length-tabulated f at (2 ^ lower)))
+    (λ i l. entry i (omega (arith, length-map part (product (power r (at / 2 ^ lower))), counted)))
+  where
+    part : List ℕ
+    part = take (2 ^ lower) (drop at s)
+
+    f : ℕ → ℕ
+    f i = product (power r (i / 2 ^ lower)) (getD s i 0)
+
+    counted : length part ≡ 2 ^ lower
+    counted = length-take-le (2 ^ lower) (drop at s) (omega (arith, length-drop at s))
+
+    table : take (2 ^ lower) (drop at (tabulated f 0 (length s))) ≡ tabulated f at (2 ^ lower)
+    table = tabulated-part f at (2 ^ lower) (length s) inside
+
+    same-run : (i : ℕ) → i < 2 ^ lower → at / 2 ^ lower ≡ (at + i) / 2 ^ lower
+    same-run i l =
+        sym (ap (λ (m : ℕ). (m + i) / 2 ^ lower) (sym (runs-whole lower at whole)) ∙ high (at / 2 ^ lower) lower l)
+
+    entry : (i : ℕ) → i < 2 ^ lower
+        → getD (map (product (power r (at / 2 ^ lower))) part) i 0
+        ≡ getD (take (2 ^ lower) (drop at (tabulated f 0 (length s)))) i 0
+    entry i l =
+        getD-map (product (power r (at / 2 ^ lower))) part i (omega (arith, counted))
+        ∙ ap₂ (λ (n v : ℕ). product (power r n) v) (same-run i l)
+        (getD-take (2 ^ lower) (drop at s) i 0 l ∙ getD-drop at s i 0)
+        ∙ sym (ap (λ (t : List ℕ). getD t i 0) table ∙ getD-tabulated f at (2 ^ lower) i l)
+
+pub runs-next : (lower r : ℕ) (s now changed : List ℕ) (at end n : ℕ) → end ≡ at + 2 ^ lower → n ≡ 2 ^ lower
+    → at % 2 ^ lower ≡ 0 → end ≤ length s → now ≡ filled (scaledRuns lower r s) s at
+    → changed ≡ scale gf64 (power r (at / 2 ^ lower)) (midOf at n now)
+    → putMid at n now changed ≡ filled (scaledRuns lower r s) s end
+runs-next lower r s now changed at end n e m whole inside inv c =
+    ap₂ (λ (l : ℕ) (h : List ℕ). putMid at l h changed) m inv
+    ∙ ap (putMid at (2 ^ lower) (filled target s at))
+    (c
+    ∙ ap₂ (λ (l : ℕ) (h : List ℕ). scale gf64 (power r (at / 2 ^ lower)) (midOf at l h)) m inv
+    ∙ ap (scale gf64 (power r (at / 2 ^ lower))) (part-held target s at (2 ^ lower) counted fits)
+    ∙ run-scaled lower r s at whole fits)
+    ∙ part-filled target s at (2 ^ lower) counted fits ∙ ap (filled target s) (sym e)
+  where
+    target : List ℕ
+    target = scaledRuns lower r s
+
+    counted : length target ≡ length s
+    counted = scaled-block lower r (length s) s refl .0
+
+    fits : at + 2 ^ lower ≤ length s
+    fits = omega arith
+
+pub runs-end : (lower r : ℕ) (s now : List ℕ) (at : ℕ) → length s ≤ at → now ≡ filled (scaledRuns lower r s) s at
+    → now ≡ scaledRuns lower r s
+runs-end lower r s now at h inv =
+    inv ∙ filled-all (scaledRuns lower r s) s at h (scaled-block lower r (length s) s refl .0)
+
+-- the next power of r, at the next run
+pub power-next : (lower r p at end : ℕ) → end ≡ at + 2 ^ lower → p ≡ power r (at / 2 ^ lower)
+    → product p r ≡ power r (end / 2 ^ lower)
+power-next lower r p at end e h =
+    ap (λ (x : ℕ). product x r) h ∙ product-comm (power r (at / 2 ^ lower)) r ∙ sym (power-suc r (at / 2 ^ lower))
+    ∙ ap (power r) (sym (ap (λ (n : ℕ). n / 2 ^ lower) e ∙ add-div-right at (pow-pos lower)
+    ∙ add-one (at / 2 ^ lower)))
+
+pub whole-next : (lower at end : ℕ) → end ≡ at + 2 ^ lower → at % 2 ^ lower ≡ 0 → end % 2 ^ lower ≡ 0
+whole-next lower at end e h = ap (λ (n : ℕ). n % 2 ^ lower) e ∙ add-mod-right at (2 ^ lower) ∙ h
+
+-- a run that starts inside ends inside
+pub run-inside : (lower upper at : ℕ) → at % 2 ^ lower ≡ 0 → at < 2 ^ (upper + lower)
+    → at + 2 ^ lower ≤ 2 ^ (upper + lower)
+run-inside lower upper at whole h =
+    subst (λ (n : ℕ). at + 2 ^ lower ≤ n) (sym (pow-add 2 upper lower))
+    (subst (λ (n : ℕ). n + 2 ^ lower ≤ 2 ^ upper * 2 ^ lower) (runs-whole lower at whole)
+    (subst (λ (n : ℕ). n ≤ 2 ^ upper * 2 ^ lower) (suc-mul (at / 2 ^ lower) (2 ^ lower))
+    (mul-le-mul-right (2 ^ lower) (div-lt-iff-lt-mul (pow-pos lower) .1
+    (subst (λ (n : ℕ). at < n) (pow-add 2 upper lower) h)))))
+
+pub run-fits : (lower upper at run l : ℕ) → at % 2 ^ lower ≡ 0 → at < l → l ≡ 2 ^ (upper + lower) → run ≡ 2 ^ lower
+    → at + run ≤ l
+run-fits lower upper at run l whole h e r =
+    omega (arith, run-inside lower upper at whole (subst (λ (n : ℕ). at < n) e h))

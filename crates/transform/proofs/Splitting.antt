@@ -6,13 +6,13 @@ use native.Mathlib.Nat.{zero-mul, one-mul, zero-add, le-of-lt}
 use native.Mathlib.Omega.{arith}
 use lib.ListN.{length, getD, take, drop, take-append-drop}
 use lib.Seq.{take-at, drop-at, take-take, take-suc, length-take-le}
-use lib.Bits.{bitXor, xor-comm, xor-lt}
-use Rattle.gf64.specs.Field.{IsElement, sum, product}
+use lib.Bits.{xor-comm}
+use Rattle.gf64.specs.Field.{sum, product}
 use Rattle.gf64.proofs.Xor.{xor-assoc}
 use Rattle.gf64.proofs.Ring.{product-add-l, product-one-l}
 use Rattle.poly.specs.Carrier.{gf64}
-use Rattle.poly.specs.Polynomial.{All, plus, scale}
-use Rattle.poly.proofs.Entries.{all-getD, map-agree}
+use Rattle.poly.specs.Polynomial.{plus, scale}
+use Rattle.poly.proofs.Entries.{map-agree}
 use Rattle.coset.specs.Coset.{point, points, tabulated}
 use Rattle.coset.proofs.Points.{point-parted, all-tabulated, tabulated-agree}
 use Rattle.transform.specs.Transform.{weighted, secondAdded, firstAdded, splitInHalves, joinedFromHalves}
@@ -29,7 +29,8 @@ module _ (z : ℕ → ℕ → ℕ) (basis : List ℕ) where
   halves : (n : ℕ) (s : List ℕ) → Block (2 ^ suc n) s → Block (2 ^ n + 2 ^ n) s
   halves n s h = block-is (2 ^ suc n) (2 ^ n + 2 ^ n) s (doubled n) h
 
-  pub joined-block : (n offset : ℕ) (s : List ℕ) → Block (2 ^ n) s → Block (2 ^ n) (joinedFromHalves z basis n offset s)
+  pub joined-block : (n offset : ℕ) (s : List ℕ) → Block (2 ^ n) s → Block (2 ^ n)
+      (joinedFromHalves z basis n offset s)
   unfolding joinedFromHalves
   joined-block zero offset s h = h
   joined-block (suc n) offset s h =
@@ -182,7 +183,8 @@ module _ (z : ℕ → ℕ → ℕ) (basis : List ℕ)
   split-values zero offset (c ∷ []) l h = refl
   split-values zero offset (c ∷ d ∷ s) l h = absurd (omega (arith, h .0))
   split-values (suc n) offset s l h =
-      ap (λ (u : List ℕ). splitInHalves z basis n offset (take m u) ++ splitInHalves z basis n offset′ (drop m u)) stepped
+      ap (λ (u : List ℕ). splitInHalves z basis n offset (take m u) ++ splitInHalves z basis n offset′
+      (drop m u)) stepped
       ∙ ap₂ (λ (x y : List ℕ). splitInHalves z basis n offset x ++ splitInHalves z basis n offset′ y)
       (take-at first second m (firsts .0)) (drop-at first second m (firsts .0))
       ∙ ap₂ (λ (x y : List ℕ). x ++ y)

@@ -1,10 +1,9 @@
 -- Tables in parts, and moved to start at zero. Assumes nothing.
-use mathlib.Core.Path.{_≡_, refl, sym, ap, _∙_}
-use mathlib.Core.List.{List, [], _∷_, _++_}
-use Prim.Native.Nat.{ℕ, zero, suc, _+_, _<_}
+use mathlib.Core.Path.{_≡_, sym, ap, _∙_}
+use mathlib.Core.List.{List, _∷_, _++_}
+use Prim.Native.Nat.{ℕ, zero, suc, _+_}
 use native.Mathlib.Nat.{zero-add, add-zero, suc-add, add-suc}
 use native.Mathlib.Omega.{arith}
-use lib.ListN.{length, getD}
 use lib.Seq.{ext-getD}
 use Rattle.coset.specs.Coset.{tabulated}
 use Rattle.coset.proofs.Points.{length-tabulated, getD-tabulated}

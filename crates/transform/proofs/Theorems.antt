@@ -1,18 +1,18 @@
 -- The statements of specs/Theorems.antt, proved. Assumes nothing.
 use mathlib.Core.Path.{_≡_, refl, sym, ap, ap₂, _∙_, subst}
 use mathlib.Core.List.{List, [], _∷_, _++_, map, append-nil}
-use Prim.Native.Nat.{ℕ, zero, suc, _+_, _-_, _^_, _<_, _≤_}
+use Prim.Native.Nat.{ℕ, zero, suc, _+_, _-_, _^_, _≤_}
 use native.Mathlib.Nat.{add-zero, zero-add, suc-add, le-refl, le-of-eq, le-trans}
 use native.Mathlib.Omega.{arith}
 use lib.Pow.{pow-mono}
-use lib.ListN.{length, getD, take, replicate}
+use lib.ListN.{length, replicate}
 use lib.Seq.{take-length}
 use lib.Bits.{bitXor, xor-self, xor-zero-r}
 use Rattle.gf64.specs.Field.{IsElement, sum, product, inverse}
 use Rattle.poly.specs.Carrier.{gf64}
 use Rattle.poly.specs.Polynomial.{All, Zeros, evaluate, plus, padded}
 use Rattle.poly.proofs.AtField.{gf64-laws}
-use Rattle.poly.proofs.Entries.{all-take, all-drop, all-replicate, map-agree}
+use Rattle.poly.proofs.Entries.{all-replicate, map-agree}
 use Rattle.poly.proofs.Evaluation.{length-padded, padded-full, padded-elements, evaluate-padded}
 use Rattle.poly.proofs.Interpolation.{values-elements}
 use Rattle.coset.specs.Coset.{points}
@@ -26,7 +26,7 @@ use Rattle.transform.specs.Transform.{weighted, squares, converted, conv
 use Rattle.transform.specs.Transform.{splitInHalves, joinedFromHalves, transformed, transformedBack}
 use Rattle.transform.specs.Theorems.{Transforms}
 use Rattle.transform.proofs.Halves.{Block}
-use Rattle.transform.proofs.Weighted.{weighted-plus, weighted-short, weighted-nil, weighted-value}
+use Rattle.transform.proofs.Weighted.{weighted-plus, weighted-short, weighted-value}
 use Rattle.transform.proofs.Regrouping.{block-is}
 use Rattle.transform.proofs.Converting.{downTo, length-downTo, converted-block, converted-back-block}
 use Rattle.transform.proofs.Converting.{converted-undone, converted-weighted}
@@ -78,7 +78,8 @@ weighted-further z m (suc n) s h =
 
 -- ---- over an independent basis
 
-module _ (offset : ℕ) (basis : List ℕ) (eo : IsElement offset) (eb : All IsElement basis) (d : Independent basis) where
+module _ (offset : ℕ) (basis : List ℕ) (eo : IsElement offset) (eb : All IsElement basis)
+    (d : Independent basis) where
   abbrev k : ℕ
   k = length basis
 
@@ -99,7 +100,8 @@ module _ (offset : ℕ) (basis : List ℕ) (eo : IsElement offset) (eb : All IsE
       ∙ ap (λ (n : ℕ). weighted (downTo z n) t) whole ∙ weighted-further z m (k - m) t (le-of-eq (sized .0))
       ∙ ap (λ (n : ℕ). weighted (downTo z n) t) (sym (zero-add m))
       ∙ converted-weighted (ratioOf es ds) z (level basis eb d x) k (λ j h. multiplier-element basis eb d j x)
-      (λ j h. level-scaled basis eb d x j ex h) (λ j h. steps j) 0 m (padded gf64 (2 ^ m) c) (omega (arith, hm)) filled
+      (λ j h. level-scaled basis eb d x j ex h) (λ j h. steps j) 0 m (padded gf64 (2 ^ m) c) (omega
+      (arith, hm)) filled
       ∙ ap (λ (ws : List ℕ). weighted ws (padded gf64 (2 ^ m) c)) start
       ∙ weighted-value m (padded gf64 (2 ^ m) c) x ex (filled .1) (le-of-eq counted)
       ∙ evaluate-padded gf64 IsElement gf64-laws (2 ^ m) c x

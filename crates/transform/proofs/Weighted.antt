@@ -1,15 +1,14 @@
 -- Weighted sums: linear in the list, halved with it; those with the powers of x are the values at x. Assumes nothing.
 use mathlib.Core.Path.{_≡_, refl, sym, ap, ap₂, _∙_}
-use mathlib.Core.List.{List, [], _∷_, _++_, map, append-nil}
-use Prim.Native.Nat.{ℕ, zero, suc, _+_, _*_, _^_, _≤_}
-use native.Mathlib.Nat.{pow-suc, le-refl}
+use mathlib.Core.List.{List, [], _∷_, _++_}
+use Prim.Native.Nat.{ℕ, zero, suc, _+_, _^_, _≤_}
 use native.Mathlib.Omega.{arith}
-use lib.ListN.{length, getD, take, drop, length-drop, length-append, take-append-drop, drop-of-length-le}
-use lib.Seq.{take-at, drop-at, take-all, take-nil, drop-nil, length-take-le}
-use lib.Bits.{bitXor, xor-comm, xor-zero-r, xor-lt}
+use lib.ListN.{length, getD, take, drop, length-drop, drop-of-length-le}
+use lib.Seq.{take-at, drop-at, take-all, take-nil, drop-nil}
+use lib.Bits.{bitXor, xor-zero-r, xor-lt}
 use Rattle.gf64.specs.Field.{IsElement, sum, product, power}
 use Rattle.gf64.proofs.Xor.{xor-assoc, xor-swap}
-use Rattle.gf64.proofs.Ring.{product-lt, product-comm, product-assoc, product-add-r, product-zero-r, product-one-l}
+use Rattle.gf64.proofs.Ring.{product-lt, product-assoc, product-add-r, product-zero-r, product-one-l}
 use Rattle.gf64.proofs.Ring.{product-left-comm}
 use Rattle.gf64.proofs.Power.{power-zero, power-suc}
 use Rattle.poly.specs.Carrier.{gf64}
@@ -63,7 +62,8 @@ weighted-plus (y ∷ ws) a b =
     ap₂ (λ (p q : ℕ). sum p (product y q))
     (ap (weighted ws) (take-plus m a b) ∙ weighted-plus ws (take m a) (take m b))
     (ap (weighted ws) (drop-plus m a b) ∙ weighted-plus ws (drop m a) (drop m b))
-    ∙ terms-apart y (weighted ws (take m a)) (weighted ws (take m b)) (weighted ws (drop m a)) (weighted ws (drop m b))
+    ∙ terms-apart y (weighted ws (take m a)) (weighted ws (take m b)) (weighted ws (drop m a)) (weighted ws
+    (drop m b))
   where
     m : ℕ
     m = 2 ^ length ws

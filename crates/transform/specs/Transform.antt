@@ -93,7 +93,8 @@ ratioOf elements inverses (suc j) =
 unfoldable pub multiplierOf : (elements inverses : List ℕ) (n x : ℕ) → ℕ
 multiplierOf elements inverses n x = product (composedMaps (take n elements) x) (getD inverses n 0)
 
--- halves a, b become a + c b, a + c b + b, where c = z_n(offset) and z_n(offset + b_n) = c + 1; then each half by itself
+-- halves a, b become a + c b, a + c b + b, where c = z_n(offset) and z_n(offset + b_n) = c + 1; then each half by
+-- itself
 unfoldable pub splitInHalves : (z : ℕ → ℕ → ℕ) (basis : List ℕ) (n offset : ℕ) (s : List ℕ) → List ℕ
 splitInHalves z basis zero offset s = s
 splitInHalves z basis (suc n) offset s =
@@ -112,7 +113,8 @@ joinedFromHalves z basis (suc n) offset s =
 
 -- ---- the transform and its inverse, over a basis
 
--- 2^m coefficients or fewer to the values at the 2^k points: over the first 2^m entries the conversion, with zeros behind
+-- 2^m coefficients or fewer to the values at the 2^k points: over the first 2^m entries the conversion, with zeros
+-- behind
 -- them the halves
 unfoldable pub transformed : (offset m : ℕ) (basis coefficients : List ℕ) → List ℕ
 transformed offset m basis coefficients =

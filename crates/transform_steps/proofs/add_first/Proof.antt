@@ -1,11 +1,11 @@
-use mathlib.Core.Path.{_≡_, refl, sym, ap, ap₂, _∙_}
-use Prim.Native.Nat.{ℕ, _+_, _-_, _/_, _^_, _≤_, _<_}
-use lib.ListN.{length, getD, set, length-set}
-use Rattle.gf64.specs.Field.{sum, product}
-use Rattle.poly.specs.Carrier.{gf64}
-use Rattle.poly.specs.Polynomial.{scale}
-use Rattle.poly.proofs.Filling.{filled, filled-start, filled-next, filled-rest, filled-all}
-use Rattle.transform.specs.Transform.{secondAdded, firstAdded}
+-- `transform_steps::add_first` meets its contract: the second half is filled with sums. The loop's invariant: the
+-- first half and i sums stand in the list. Assumes nothing.
+use mathlib.Core.Path.{_≡_, refl, _∙_}
+use Prim.Native.Nat.{_+_, _-_, _/_, _≤_}
+use lib.ListN.{length, getD, length-set}
+use Rattle.gf64.specs.Field.{sum}
+use Rattle.poly.proofs.Filling.{filled}
+use Rattle.transform.specs.Transform.{firstAdded}
 use Rattle.transform.proofs.Entries.{first-start, first-next, first-end}
 use borrow.Author.Needs.{needs}
 use native.Mathlib.Omega.{arith}

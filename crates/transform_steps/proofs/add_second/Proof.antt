@@ -1,12 +1,12 @@
-use mathlib.Core.Path.{_≡_, refl, sym, ap, ap₂, _∙_}
-use Prim.Native.Nat.{ℕ, _+_, _-_, _/_, _^_, _≤_, _<_}
-use lib.ListN.{length, getD, set, length-set}
-use Rattle.gf64.specs.Field.{sum, product}
+-- `transform_steps::add_second` meets its contract: the first half is filled with sums. The loop's invariant: i sums
+-- stand in the list, the rest is as it was. Assumes nothing.
+use mathlib.Core.Path.{_≡_, refl, sym, ap, _∙_}
+use Prim.Native.Nat.{_+_, _-_, _/_, _≤_}
+use lib.ListN.{length, getD, length-set}
+use Rattle.gf64.specs.Field.{sum}
 use Rattle.gf64.proofs.Ring.{product-one-l}
-use Rattle.poly.specs.Carrier.{gf64}
-use Rattle.poly.specs.Polynomial.{scale}
-use Rattle.poly.proofs.Filling.{filled, filled-start, filled-next, filled-rest, filled-all}
-use Rattle.transform.specs.Transform.{secondAdded, firstAdded}
+use Rattle.poly.proofs.Filling.{filled, filled-start}
+use Rattle.transform.specs.Transform.{secondAdded}
 use Rattle.transform.proofs.Entries.{second-next, second-end}
 use borrow.Author.Needs.{needs}
 use native.Mathlib.Omega.{arith}
@@ -23,8 +23,13 @@ abbrev μ-loop : tie.MeasureT-loop
 
 loop-holds : tie.Need-loop-holds Inv-loop μ-loop
 loop-holds c =
-    let a = c .args in
-    (omega (arith, c .pre), omega arith, filled-start (secondAdded 1 (length (a .slice .now) / 2) (a .slice .now)) (a .slice .now), refl)
+    let a = c .args in (
+      omega (arith, c .pre),
+      omega arith,
+      filled-start (secondAdded 1 (length (a .slice .now) / 2)
+          (a .slice .now)) (a .slice .now),
+      refl,
+    )
 
 mul-slice : tie.Need-mul-slice Inv-loop μ-loop
 mul-slice c = search needs
@@ -63,7 +68,11 @@ loop-again c =
       omega arith,
       second-next half (a .slice .now) (l .inv .0) 1 (l .slice) (l .i) v (omega arith) (l .inv .2)
           (ap (sum (getD (l .slice) (l .i) 0))
-          (sym (product-one-l (getD (l .slice) (half + l .i) 0) (omega (arith, c .slice-known2 .given (half + l .i)))))),
+          (sym (product-one-l (getD (l .slice) (half + l .i) 0) (omega (
+            arith,
+            c .slice-known2 .given
+                (half + l .i),
+          ))))),
       length-set (l .slice) (l .i) v ∙ l .inv .3,
     )
 
