@@ -85,7 +85,7 @@ fn regroup_back(lower: usize, upper: usize, slice: &mut [u64])
     requires { ⌜ length (now slice) ≡ 2 ^ (upper + lower) ⌝ }
     ensures { λ _. ⌜ now (slice .exit) ≡ regroupedBack lower upper (now (slice .entry)) ⌝ }
 {
-    if upper < 2 {
+    if upper <= 1 {
         return;
     }
     let half = slice.len() / 2;
