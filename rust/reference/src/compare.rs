@@ -12,7 +12,7 @@ pub mod transcript;
 pub mod write;
 
 mod call;
-mod cosets;
+pub(crate) mod cosets;
 mod lent;
 mod library;
 mod lists;

@@ -1,6 +1,7 @@
 //! Polynomials over the field: values, and Lagrange's interpolant over any points that differ.
 //! A polynomial is the list of its coefficients, constant first.
 
+use crate::factor::Factor;
 use crate::field;
 
 /// The value of a polynomial at a point. Neighbours are joined by the point, then neighbours
@@ -16,6 +17,13 @@ pub fn value(polynomial: &[u64], point: u64) -> u64 {
         power = factor.times(power);
     }
     terms.first().copied().unwrap_or(0)
+}
+
+/// The same by Horner's rule: from the top coefficient down, times the point and plus the next.
+pub fn horner(polynomial: &[u64], point: u64) -> u64 {
+    let factor = Factor::of(point);
+    let down = polynomial.iter().rev();
+    down.fold(0, |value, &coefficient| field::sum(factor.times(value), coefficient))
 }
 
 /// The first term plus the factor times the second, if there is one.
@@ -67,41 +75,6 @@ fn divided(polynomial: &[u64], point: u64) -> Vec<u64> {
     quotient
 }
 
-// A product that is fast enough for 4,096 points and more.
-
-/// A factor of many products: its multiples by every number of four bits, at each of the
-/// sixteen places that four bits of the other factor can have.
-struct Factor {
-    multiples: [[u64; 16]; 16],
-}
-
-impl Factor {
-    fn of(element: u64) -> Factor {
-        let mut multiples = [[0; 16]; 16];
-        // The element times t to the power of the bit at hand.
-        let mut shifted = element;
-        for by_four_bits in &mut multiples {
-            for bit in 0..4 {
-                let highest = 1 << bit;
-                for lower in 0..highest {
-                    by_four_bits[highest + lower] = field::sum(by_four_bits[lower], shifted);
-                }
-                shifted = field::doubling(shifted);
-            }
-        }
-        Factor { multiples }
-    }
-
-    fn times(&self, other: u64) -> u64 {
-        let mut product = 0;
-        for (place, by_four_bits) in self.multiples.iter().enumerate() {
-            let four_bits = (other >> (4 * place)) & 15;
-            product = field::sum(product, by_four_bits[four_bits as usize]);
-        }
-        product
-    }
-}
-
 #[cfg(test)]
 mod tests {
     use super::*;
@@ -121,7 +94,8 @@ mod tests {
         for length in 0..20 {
             let polynomial = random.list(length);
             for point in [0, 1, 2, random.number()] {
-                assert_eq!(value(&polynomial, point), sum_of_terms(&polynomial, point));
+                let due = sum_of_terms(&polynomial, point);
+                assert_eq!([value(&polynomial, point), horner(&polynomial, point)], [due; 2]);
             }
         }
     }

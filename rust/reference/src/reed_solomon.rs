@@ -1,16 +1,22 @@
-//! Encoding and interpolation over a coset, from the definitions alone.
+//! Encoding and interpolation over a coset.
 //!
-//! Encoding adds up the terms of a polynomial at each point. Interpolation is Lagrange's over
-//! any points that differ. Nothing here uses that the points of a coset have a structure: the
-//! less a method resembles the library's the more an agreement says.
+//! The plain methods are the definitions alone. Encoding adds up the terms of a polynomial at
+//! each point. Interpolation is Lagrange's over any points that differ. Nothing there uses that
+//! the points of a coset have a structure: the less a method resembles the library's the more an
+//! agreement says. Their work grows with the square of the number of points, so that large cosets
+//! are left to a transform, which the tests compare with them.
 
 use crate::answer::{refused, Answer, K_OUT_OF_RANGE};
 use crate::coset::points;
 use crate::polynomial::{interpolant, value};
 use crate::refusal::{independent, required, right_length, LIST_OF_THE_GIVEN, LIST_OF_THE_OUTPUT};
+use crate::transform;
 
 /// The largest dimension that is encoded and interpolated over.
-pub const LARGEST_K: usize = 12;
+pub const LARGEST_K: usize = 20;
+
+/// The largest dimension that the plain methods are taken for.
+const LARGEST_PLAIN_K: usize = 12;
 
 /// The values of the polynomial at all points, or the refusal. The length is that of the list
 /// lent for the values.
@@ -20,9 +26,23 @@ pub fn encode(
     coefficients: &[u64],
     length: usize,
 ) -> Result<Vec<u64>, Answer> {
+    if basis.len() > LARGEST_PLAIN_K {
+        return encode_by_transform(offset, basis, coefficients, length);
+    }
     may_encode(basis, coefficients.len(), length)?;
     let points = points(offset, basis);
     Ok(points.iter().map(|&x| value(coefficients, x)).collect())
+}
+
+/// The same, whatever the dimension is.
+pub fn encode_by_transform(
+    offset: u64,
+    basis: &[u64],
+    coefficients: &[u64],
+    length: usize,
+) -> Result<Vec<u64>, Answer> {
+    may_encode(basis, coefficients.len(), length)?;
+    Ok(transform::values(offset, basis, coefficients))
 }
 
 /// The coefficients of the word's interpolant, or the refusal. The length is that of the list
@@ -33,8 +53,22 @@ pub fn interpolate(
     word: &[u64],
     length: usize,
 ) -> Result<Vec<u64>, Answer> {
+    if basis.len() > LARGEST_PLAIN_K {
+        return interpolate_by_transform(offset, basis, word, length);
+    }
     may_interpolate(basis, word.len(), length)?;
     Ok(interpolant(&points(offset, basis), word))
+}
+
+/// The same, whatever the dimension is.
+pub fn interpolate_by_transform(
+    offset: u64,
+    basis: &[u64],
+    word: &[u64],
+    length: usize,
+) -> Result<Vec<u64>, Answer> {
+    may_interpolate(basis, word.len(), length)?;
+    Ok(transform::coefficients(offset, basis, word))
 }
 
 // Refusals. Each function stops at the first cause, in the paper's order.
@@ -64,10 +98,35 @@ mod tests {
 
     #[test]
     fn cases_e_and_m() {
-        assert_eq!(encode(0, &[1, 2], &[7, 3], 4), Ok(vec![7, 4, 1, 2]));
-        assert_eq!(interpolate(0, &[1, 2], &[7, 4, 1, 2], 4), Ok(vec![7, 3, 0, 0]));
-        let refusal = Err(refused_at(8, 2));
-        assert_eq!(encode(0, &[1, 2, 3], &[7, 3], 8), refusal);
-        assert_eq!(interpolate(0, &[1, 2, 3], &[0; 8], 8), refusal);
+        for encode in [encode, encode_by_transform] {
+            assert_eq!(encode(0, &[1, 2], &[7, 3], 4), Ok(vec![7, 4, 1, 2]));
+            assert_eq!(encode(0, &[1, 2, 3], &[7, 3], 8), Err(refused_at(8, 2)));
+        }
+        for interpolate in [interpolate, interpolate_by_transform] {
+            assert_eq!(interpolate(0, &[1, 2], &[7, 4, 1, 2], 4), Ok(vec![7, 3, 0, 0]));
+            assert_eq!(interpolate(0, &[1, 2, 3], &[0; 8], 8), Err(refused_at(8, 2)));
+        }
+    }
+
+    /// The causes come in the order 4, 13 and 8, at the ends of the range.
+    #[test]
+    fn refusals_of_large_cosets() {
+        let basis = |k| (0..k).map(|place| 1 << place).collect::<Vec<u64>>();
+        let (largest, above, all) = (basis(20), basis(21), 1 << 20);
+        let dependent = [&largest[..19], &[3]].concat();
+        for (basis, given, output, refusal) in [
+            (&largest, all, all, None),
+            (&above, 2 * all, 2 * all, Some(refused(4))),
+            (&above, 0, 1, Some(refused(4))),
+            (&largest, all + 1, 0, Some(refused_at(13, 3))),
+            (&largest, all, all - 1, Some(refused_at(13, 6))),
+            (&dependent, all, all + 1, Some(refused_at(13, 6))),
+            (&dependent, all, all, Some(refused_at(8, 19))),
+        ] {
+            assert_eq!(may_encode(basis, given, output).err(), refusal);
+            assert_eq!(may_interpolate(basis, given, output).err(), refusal);
+        }
+        assert_eq!(may_encode(&largest, 0, all), Ok(()));
+        assert_eq!(may_interpolate(&largest, all - 1, all), Err(refused_at(13, 3)));
     }
 }

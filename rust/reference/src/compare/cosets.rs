@@ -90,8 +90,9 @@ fn insert_sum(basis: &mut Vec<u64>, place: usize, picked: u64) {
     basis.insert(place, sum);
 }
 
-/// A basis that is dependent at one place alone.
-fn dependent(random: &mut Random, k: usize, place: usize, picked: u64) -> Vec<u64> {
+/// A basis that is dependent at one place alone: the element there is the sum of the earlier ones
+/// whose bit is set.
+pub fn dependent(random: &mut Random, k: usize, place: usize, picked: u64) -> Vec<u64> {
     let mut basis = any_basis(random, k - 1);
     insert_sum(&mut basis, place, picked);
     basis

@@ -114,7 +114,7 @@ impl Operation {
         &self,
         random: &mut Random,
         settings: impl Iterator<Item = Setting>,
-        turns: &Turns,
+        turns: &[usize],
     ) -> Vec<Call> {
         let mut calls = Vec::new();
         for setting in settings {

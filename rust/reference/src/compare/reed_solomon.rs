@@ -1,15 +1,25 @@
 //! The comparisons of encoding and interpolation.
 
+mod damaged;
+mod large;
+mod special;
+
 use super::call::*;
 use super::cosets::{self, basis, offset};
 use super::lent::FILLS;
-use super::operation::{after_safe, case, raw_calls, Library, Op, Operation, Outputs, Turns};
-use super::{compare, library, refused, Comparison, PAPER_AND_LIBRARY};
+use super::operation::{after_raw, after_safe, case, raw_calls, Library, Op, Operation, Outputs};
+use super::{compare, library, refused, Comparison, PAPER_AND_LIBRARY, REFERENCE_AND_LIBRARY};
 use crate::answer::{done, raw, refused_at, Answer};
 use crate::coset::points;
 use crate::random::Random;
 use crate::reed_solomon::{self, may_encode, may_interpolate, LARGEST_K};
 use std::ops::RangeInclusive;
+
+/// The largest dimension of which many calls are made.
+const LARGEST_OF_MANY: usize = 14;
+
+/// How many calls of each dimension.
+type Turns = [usize; LARGEST_OF_MANY + 1];
 
 /// What both operations have.
 const CODE: Operation = Operation {
@@ -28,7 +38,7 @@ const CODE: Operation = Operation {
     raw: library::raw_interpolate,
     right: |random, [k, ..], turn| over_coset(&INTERPOLATE, random, k, turn),
     special: |_, _| Vec::new(),
-    k_out_of_range: "k over 12",
+    k_out_of_range: "k over 20",
     least_k: "",
     several_lists: "lists 3 and 6 of wrong lengths",
 };
@@ -46,10 +56,13 @@ pub static ENCODE: Operation = Operation {
     ..CODE
 };
 
+/// Of a dimension out of range, where no length is right, the lists are short: long ones, of which
+/// a few show as much, are made apart.
 fn due_length(call: &Call, list: List) -> usize {
-    match list {
-        Basis => call.k() as usize,
-        _ => 1 << call.k().min(refused::LARGEST_OF_LISTS),
+    match (list, call.k()) {
+        (Basis, k) => k as usize,
+        (_, k) if CODE.dimensions.contains(&k) => 1 << k,
+        (_, k) => 1 << (k % 16),
     }
 }
 
@@ -66,21 +79,45 @@ fn write_due(code: Code, call: &Call, outputs: &mut Outputs) -> Answer {
     }
 }
 
+/// The reference by its transforms alone, where its plain methods would take long.
+struct Transforms;
+
+impl Library for Transforms {
+    fn safe(&self, call: &Call, outputs: &mut Outputs) -> Answer {
+        let code = match call.operation == &ENCODE {
+            true => reed_solomon::encode_by_transform,
+            false => reed_solomon::interpolate_by_transform,
+        };
+        write_due(code, call, outputs)
+    }
+}
+
+/// Compares calls by the C convention with the transforms of the reference.
+fn with_transforms(library: &dyn Library, name: &'static str, calls: Vec<Call>) -> Comparison {
+    let due = |call: &Call| after_raw(&Transforms, call);
+    compare(name, calls, REFERENCE_AND_LIBRARY, due, |call| after_raw(library, call))
+}
+
 /// A right call. The basis, the offset and list 3 are each of one of a few sorts, in turn. There
 /// are 3, 4 and 5 sorts, and as these numbers have no common divisor all combinations come up
 /// within 60 turns.
 fn over_coset(operation: Op, random: &mut Random, k: u64, turn: usize) -> Call {
     let basis = basis(random, k as usize, turn);
+    over_basis(operation, random, basis, turn)
+}
+
+fn over_basis(operation: Op, random: &mut Random, basis: Vec<u64>, turn: usize) -> Call {
     let offset = offset(random, &basis, turn);
+    let points = 1 << basis.len();
     let given = match operation == &ENCODE {
-        true => coefficients(random, 1 << k, turn),
+        true => coefficients(random, points, turn),
         false => word(random, offset, &basis, turn),
     };
     Call::of(operation)
         .with(Offset, offset)
         .with_list(Basis, basis)
         .with_list(Given, given)
-        .with_length(Output, 1 << k)
+        .with_length(Output, points)
         .with_fill(FILLS[random.below(2)])
 }
 
@@ -124,15 +161,20 @@ pub struct Amounts {
     /// Round trips, in both directions.
     pub round_trips: Turns,
     pub refused: refused::Amounts,
+    special: special::Amounts,
+    /// Large dimensions, and how many calls of each.
+    large: &'static [(u64, usize)],
+    damaged: damaged::Amounts,
 }
 
-/// The amounts that the program takes. Work grows with the square of the number of points.
+/// The amounts that the program takes. Up to k 12 the work grows with the square of the number of
+/// points.
 pub const FULL: Amounts = Amounts {
-    encodings: [60, 600, 600, 600, 600, 240, 120, 60, 60, 20, 10, 5, 5],
-    interpolations: [60, 600, 600, 600, 600, 240, 120, 60, 60, 10, 4, 2, 2],
-    round_trips: [60, 120, 120, 120, 120, 60, 60, 20, 20, 5, 2, 1, 1],
+    encodings: [60, 600, 600, 600, 600, 240, 120, 60, 60, 20, 10, 5, 5, 30, 15],
+    interpolations: [60, 600, 600, 600, 600, 240, 120, 60, 60, 10, 4, 2, 2, 30, 15],
+    round_trips: [60, 120, 120, 120, 120, 60, 60, 20, 20, 5, 2, 1, 1, 10, 5],
     refused: refused::Amounts {
-        out_of_range: &[13, 14, 20, 32, 44, 64, 76, 268],
+        out_of_range: &[21, 22, 23, 24, 32, 44, 64, 76, 268],
         dimensions: &[0, 1, 2, 3, 4, 5, 6, 7, 8, 9, 10, 11, 12],
         too_small: 0,
         several_lists: 200,
@@ -141,6 +183,12 @@ pub const FULL: Amounts = Amounts {
         most_causes: usize::MAX,
         every_sort: (&[0, 1, 2, 3, 4], 60),
     },
+    special: special::Amounts {
+        bases: [0, 14, 28, 35, 35, 35, 35, 28, 28, 28, 14, 14, 14, 14, 7],
+        counts: &[(9, 4), (13, 2)],
+    },
+    large: &[(15, 3), (16, 3), (17, 2), (18, 2), (19, 1), (20, 1)],
+    damaged: damaged::Amounts { dimensions: 13..=20, lists_above: &[0, 1, 12, 13, 20, 21] },
 };
 
 /// Runs all comparisons of this file.
@@ -148,13 +196,16 @@ pub fn comparisons(library: &dyn Library, amounts: &Amounts) -> Vec<Comparison> 
     let mut all = Vec::new();
     let operations = [(&ENCODE, &amounts.encodings), (&INTERPOLATE, &amounts.interpolations)];
     for (operation, turns) in operations {
-        for (what, dimensions) in [("k 0 to 6", 0..=6), ("k 7 to 12", 7..=12)] {
+        for (what, dimensions) in [("k 0 to 6", 0..=6), ("k 7 to 14", 7..=14)] {
             let name = operation.title(what);
             all.push(raw_calls(library, name, right_calls(name, operation, dimensions, turns)));
         }
         all.extend(refused::comparisons(library, operation, &amounts.refused));
+        all.extend(damaged::comparisons(library, operation, &amounts.damaged));
     }
+    all.extend(special::comparisons(library, &amounts.special));
     all.extend(round_trips(library, &amounts.round_trips));
+    all.extend(large::comparisons(library, amounts.large));
     all.extend(table_a(library));
     all
 }
@@ -162,37 +213,45 @@ pub fn comparisons(library: &dyn Library, amounts: &Amounts) -> Vec<Comparison> 
 // There and back, with the library in both directions.
 
 fn round_trips(library: &dyn Library, amounts: &Turns) -> [Comparison; 2] {
-    let trips = [(TRIP, &ENCODE, &INTERPOLATE), (OTHER_TRIP, &INTERPOLATE, &ENCODE)];
-    trips.map(|(name, there, back)| {
-        compare(
-            name,
-            right_calls(name, there, CODE.dimensions, amounts),
-            PAPER_AND_LIBRARY,
-            trip_due,
-            |call| trip_of_library(library, call, back),
-        )
+    let dimensions = 0..=LARGEST_OF_MANY as u64;
+    [(TRIP, &ENCODE), (OTHER_TRIP, &INTERPOLATE)].map(|(name, there)| {
+        round_trip(library, name, right_calls(name, there, dimensions.clone(), amounts))
     })
+}
+
+fn round_trip(library: &dyn Library, name: &'static str, calls: Vec<Call>) -> Comparison {
+    compare(name, calls, PAPER_AND_LIBRARY, trip_due, |call| trip_of_library(library, call))
 }
 
 /// Both answers, and the list itself, with zeros for coefficients that were left off. A call that
 /// is refused, as smaller ones may be, gives nothing back.
 fn trip_due(call: &Call) -> Option<Vec<Vec<u64>>> {
-    let mut list = call[Given].clone();
-    list.resize(call[Output].len(), 0);
     let answer = raw(&done()).to_vec();
-    call.refusal().is_none().then(|| vec![answer.clone(), answer, list])
+    call.refusal().is_none().then(|| vec![answer.clone(), answer, padded(call)])
 }
 
-fn trip_of_library(library: &dyn Library, call: &Call, back: Op) -> Option<Vec<Vec<u64>>> {
+/// List 3 with zeros for coefficients that were left off.
+fn padded(call: &Call) -> Vec<u64> {
+    let mut list = call[Given].clone();
+    list.resize(call[Output].len(), 0);
+    list
+}
+
+fn trip_of_library(library: &dyn Library, call: &Call) -> Option<Vec<Vec<u64>>> {
     if call.refusal().is_some() {
         return None;
     }
     let mut there = after_safe(library, call);
-    let between = there.outputs.first().to_vec();
-    let returning = Call { operation: back, ..call.clone() }.with_list(Given, between);
+    let returning = returning(call, there.outputs.first().to_vec());
     let mut returned = after_safe(library, &returning);
     let answers = [there.answer, returned.answer].map(|answer| raw(&answer).to_vec());
     Some([&answers[..], &returned.outputs.contents()].concat())
+}
+
+/// The call that takes back what a call gave.
+fn returning(call: &Call, given: Vec<u64>) -> Call {
+    let operation = if call.operation == &ENCODE { &INTERPOLATE } else { &ENCODE };
+    Call { operation, ..call.clone() }.with_list(Given, given)
 }
 
 // Table A.

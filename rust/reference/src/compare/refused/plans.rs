@@ -388,9 +388,8 @@ fn queries_with(
 /// Any setting that has the chosen causes. One whose dimension is out of range may be too small
 /// as well: large ones would make large lists. There is a basis that can be dependent for each.
 fn setting_with(random: &mut Random, operation: Op, is_chosen: impl Fn(u64) -> bool) -> Setting {
-    let dimensions = if operation.takes(K) { 8 } else { operation.dimensions.end() + 1 };
     loop {
-        let mut setting = [1 + random.below(dimensions as usize) as u64, 0, 0];
+        let mut setting = [dimension_with(random, operation, is_chosen(4)), 0, 0];
         for number in operation.ranged() {
             setting[number as usize] = random.below(*range(number).0.end() as usize + 4) as u64;
         }
@@ -399,5 +398,15 @@ fn setting_with(random: &mut Random, operation: Op, is_chosen: impl Fn(u64) -> b
         if [4, 5, 6].iter().all(as_chosen) && (is_chosen(4) || as_chosen(&7)) {
             return setting;
         }
+    }
+}
+
+/// Any dimension that is not too large. Where it is the length of the basis, none but one that is
+/// too large is out of range.
+fn dimension_with(random: &mut Random, operation: Op, is_out: bool) -> u64 {
+    match operation.takes(K) {
+        false if is_out => operation.dimensions.end() + 1,
+        false => 1 + random.below(LARGEST_WITH_SEVERAL as usize) as u64,
+        true => 1 + random.below(8) as u64,
     }
 }
