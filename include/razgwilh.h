@@ -24,10 +24,10 @@
 #include <stddef.h>
 #include <stdint.h>
 
-#define RZ_VERSION "0.5.1"
+#define RZ_VERSION "0.6.0"
 #define RZ_VERSION_MAJOR 0
-#define RZ_VERSION_MINOR 5
-#define RZ_VERSION_PATCH 1
+#define RZ_VERSION_MINOR 6
+#define RZ_VERSION_PATCH 0
 
 #ifdef __cplusplus
 extern "C" {
@@ -178,7 +178,7 @@ static inline struct rz_output rz_output_of(uint64_t *entries, size_t length);
  *   last coefficients                 rz_last_length
  *   queries                           1 to 256, at most 2^(k - step)
  *   bytes of a transcript             rz_transcript_length, in bytes
- *   coefficients to be encoded        at most 2^k, where k is the length of the basis, 0 to 12
+ *   coefficients to be encoded        at most 2^k, where k is the length of the basis, 0 to 20
  *   values of an encoding             2^k
  *   coefficients of an interpolation  2^k
  *   values of a lone fold             2^(k - step)
@@ -201,15 +201,15 @@ uint64_t rz_transcript_length(size_t k, size_t rate, size_t step, size_t queries
 
 /* Beside the lists that it is lent a call takes stack, and no other memory. Nothing is allocated,
  * nothing is kept from one call to the next, and of C the library calls memcpy and memset alone.
- * At the largest sizes, which are k 12 for encoding and interpolation, k 20 with rate 1 and 256
- * queries for the others, with the step that takes the most, the functions take:
+ * At the largest sizes, which are k 20 with rate 1 and 256 queries, with the step that takes the
+ * most, the functions take:
  *
  *   function                          lent  list   stack
  *   rz_sum                               0     0     256
  *   rz_product                           0    16     512
  *   rz_inverse_answer                    0    16     512
- *   rz_encode_answer                65,632    64   1,792
- *   rz_interpolate_answer           65,632    64   2,048
+ *   rz_encode_answer            16,777,376    64   6,400
+ *   rz_interpolate_answer       16,777,376    64   5,632
  *   rz_fold_answer              12,583,224    64   3,584
  *   rz_rounds                            0     0     256
  *   rz_store_length                      0     0     256
@@ -246,7 +246,7 @@ static inline struct rz_answer rz_inverse_answer(uint64_t a);
 /* Writes the polynomial's values at all 2^k points, in point order, into `values`; k is the length
  * of the basis. There are at most 2^k coefficients; those left off are zero. Refused, in this
  * order, with
- *   number 4   k is over 12; no place
+ *   number 4   k is over 20; no place
  *   number 13  a list has the wrong length, and its place is the lower such list: 3,
  *              `coefficients`, over 2^k; 6, `values`, other than 2^k
  *   number 8   a basis element lies in the span of earlier ones, and its place is the first such

@@ -13,8 +13,7 @@
 #include <ucontext.h>
 
 #define LENGTH(list) (sizeof(list) / sizeof((list)[0]))
-#define LARGEST_CODE 12 /* the largest dimension of encoding and interpolation */
-#define LARGEST 20      /* and of all else */
+#define LARGEST 20 /* the largest dimension */
 #define RATE 1
 #define OFFSET 1
 #define QUERIES 256
@@ -250,7 +249,7 @@ int main(void) {
     for (size_t j = 0; j < LENGTH(word); j++) {
         word[j] = 1;
     }
-    for (k = 0; k <= LARGEST_CODE; k++) {
+    for (k = 0; k <= LARGEST; k++) {
         measure(rows_of_codes, LENGTH(rows_of_codes), 0);
     }
     k = LARGEST;

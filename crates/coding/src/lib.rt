@@ -1,18 +1,19 @@
-// Encoding and interpolation over a coset of at most 2^12 points, given by its offset and its basis.
+// Encoding and interpolation over a coset of at most 2^20 points, given by its offset and its basis.
 use field::Element;
 use refusal::Cause;
 use refusal::Outcome;
 ghost use mathlib.Core.Path.{_≡_};
 ghost use mathlib.Core.Bool.{cond};
-ghost use Prim.Native.Nat.{_^_, _≤_};
+ghost use Prim.Native.Nat.{ℕ, _^_, _≤_, _<_};
 ghost use lib.Dec.{leb};
-ghost use lib.ListN.{length};
-ghost use Rattle.reed_solomon.specs.Codes.{encoded};
+ghost use lib.ListN.{length, replicate};
+ghost use Rattle.poly.specs.Carrier.{gf64};
+ghost use Rattle.poly.specs.Polynomial.{padded};
 ghost use Rattle.reed_solomon.specs.Answers.{checked, encodeOutcome, interpolateOutcome, valuesAfter};
 ghost use Rattle.reed_solomon.specs.Answers.{coefficientsAfter};
 
 // The polynomial's values at all 2^k points, in point order; k is the length of the basis, and coefficients that are
-// left off are zero. Refused, in this order: k over 12 (4); over 2^k coefficients or other than 2^k values (13, list
+// left off are zero. Refused, in this order: k over 20 (4); over 2^k coefficients or other than 2^k values (13, list
 // 3 or 6); a dependent basis (8). A refusal leaves the values as they were.
 pub fn encode(offset: Element, basis: &[u64], coefficients: &[u64], values: &mut [u64]) -> Outcome
     ensures answer { λ r.
@@ -24,7 +25,9 @@ pub fn encode(offset: Element, basis: &[u64], coefficients: &[u64], values: &mut
     let outcome = checked(basis, coefficients.len() <= size, values.len() == size);
     match outcome {
         Outcome::Done => {
-            fill_values(offset, basis, coefficients, values);
+            fill(coefficients, values);
+            let used = dimension_of(coefficients.len());
+            coset_transform::evaluate_in_place(offset, basis, used, values);
             Outcome::Done
         }
         Outcome::Refused(cause) => Outcome::Refused(cause),
@@ -50,7 +53,7 @@ pub fn interpolate(
     match outcome {
         Outcome::Done => {
             poly::copy(word, coefficients);
-            newton::interpolate_in_place(offset, basis, coefficients);
+            coset_transform::interpolate_in_place(offset, basis, coefficients);
             Outcome::Done
         }
         Outcome::Refused(cause) => Outcome::Refused(cause),
@@ -59,15 +62,15 @@ pub fn interpolate(
 
 // 2^k, or 0 for a dimension that is refused.
 fn size_of(k: usize) -> usize
-    ensures { λ r. ⌜ r ≡ cond (leb k 12) (2 ^ k) 0 ⌝ }
+    ensures { λ r. ⌜ r ≡ cond (leb k 20) (2 ^ k) 0 ⌝ }
 {
-    if k <= 12 { 1 << k } else { 0 }
+    if k <= 20 { 1 << k } else { 0 }
 }
 
 fn checked(basis: &[u64], fits3: bool, fits6: bool) -> Outcome
     ensures { λ r. ⌜ r ≡ checked (now (basis .entry)) fits3 fits6 ⌝ }
 {
-    if basis.len() > 12 {
+    if basis.len() > 20 {
         return Outcome::Refused(Cause::DimensionOutOfRange);
     }
     if !fits3 {
@@ -79,16 +82,36 @@ fn checked(basis: &[u64], fits3: bool, fits6: bool) -> Outcome
     independence::checked_basis(basis)
 }
 
-fn fill_values(offset: Element, basis: &[u64], coefficients: &[u64], values: &mut [u64])
-    requires { ⌜ (length (now basis) ≤ 12) × (length (now values) ≡ 2 ^ length (now basis)) ⌝ }
-    ensures { λ _. ⌜ now (values .exit) ≡ encoded (offset .0) (now (basis .entry)) (now (coefficients .entry)) ⌝ }
+// The list, and zeros behind it.
+fn fill(from: &[u64], to: &mut [u64])
+    requires { ⌜ length (now from) ≤ length (now to) ⌝ }
+    ensures { λ _. ⌜ now (to .exit) ≡ padded gf64 (length (now (to .entry))) (now (from .entry)) ⌝ }
 {
-    let sums = points::prefix_sums(basis);
-    let mut x = offset;
-    let mut j: usize = 0;
-    while j < values.len() {
-        values[j] = poly::evaluate(coefficients, x).0;
-        j += 1;
-        x = points::stepped(&sums, x, j);
+    poly::copy(from, to);
+    let count = from.len();
+    clear(&mut to[count..]);
+}
+
+fn clear(part: &mut [u64])
+    ensures { λ _. ⌜ now (part .exit) ≡ replicate (length (now (part .entry))) 0 ⌝ }
+{
+    let mut i: usize = 0;
+    while i < part.len() {
+        part[i] = 0;
+        i += 1;
     }
+}
+
+// The least m with count ≤ 2^m.
+fn dimension_of(count: usize) -> usize
+    requires { ⌜ count ≤ 2 ^ 20 ⌝ }
+    ensures { λ r. ⌜ (count ≤ 2 ^ r) × ((m : ℕ) → m < r → 2 ^ m < count) ⌝ }
+{
+    let mut m: usize = 0;
+    let mut size: usize = 1;
+    while size < count {
+        size = size * 2;
+        m += 1;
+    }
+    m
 }

@@ -1,4 +1,5 @@
-// The conversion of the additive transform: from the powers of X to the products of the z_j, and back. Regrouping is a
+// The conversion of the additive transform: from the powers of X to the products of the z_j, and back. z_j is the
+// subspace polynomial of the first j basis elements, divided by its value e_j at basis element j. Regrouping is a
 // recursion on halves of the slice.
 use field::Element;
 ghost use mathlib.Core.Path.{_≡_};
@@ -38,7 +39,7 @@ pub fn convert_back(levels: usize, elements: &[u64], inverses: &[u64], slice: &m
     }
 }
 
-// e_j / e_(j-1)^2, or e_0.
+// e_j / e_(j-1)^2, or e_0; with the lists exchanged the inverse of that.
 fn ratio(elements: &[u64], inverses: &[u64], j: usize) -> Element
     requires { ⌜ (j < length (now elements)) × (j < length (now inverses)) ⌝ }
     ensures { λ r. ⌜ r .0 ≡ ratioOf (now (elements .entry)) (now (inverses .entry)) j ⌝ }
@@ -67,7 +68,8 @@ fn scale_runs(lower: usize, upper: usize, r: Element, slice: &mut [u64])
     }
 }
 
-// In the slice of 2^upper runs of 2^lower entries and in all its halves of four runs or more.
+// Exchanges quarters in the slice of 2^upper runs of 2^lower entries, and then in its halves, as long as they have four
+// runs or more.
 fn regroup(lower: usize, upper: usize, slice: &mut [u64])
     requires { ⌜ length (now slice) ≡ 2 ^ (upper + lower) ⌝ }
     ensures { λ _. ⌜ now (slice .exit) ≡ regrouped lower upper (now (slice .entry)) ⌝ }

@@ -1,5 +1,6 @@
 // Encoding and interpolation over a coset of at most 2^20 points, in the place of the list, by the additive transform:
-// the coset is split in halves until one point is left. Local lists: two of twenty.
+// the coset is split in halves until one point is left. Local lists: two of twenty here, and a
+// table of 64 below.
 use field::Element;
 ghost use mathlib.Core.Path.{_≡_};
 ghost use mathlib.Core.List.{map};

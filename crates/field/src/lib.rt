@@ -55,7 +55,7 @@ impl Element {
         Inverted::Value(self.inverse_or_zero())
     }
 
-    // self^(2^64 - 2): the inverse, or zero where self is zero. For a caller that knows self not to be zero.
+    // self^(2^64 - 2): the inverse, or zero where self is zero.
     pub fn inverse_or_zero(self) -> Element
         ensures { λ r. ⌜ r .0 ≡ inverse (self .0) ⌝ }
     {

@@ -13,7 +13,7 @@ pub record Multiples (c : ℕ) (table : List ℕ) : Type 0 where
 abbrev pub ProductBy : (table : List ℕ) (x r : ℕ) → Type 0
 ProductBy table x r = (c : ℕ) → Multiples c table → r ≡ product c x
 
--- ---- how the table is filled; no entry point's contract cites these
+-- ---- how the table is filled; inner functions alone cite these
 
 -- the polynomial of entry m: four bits, m % 16, at place m / 16
 abbrev pub placed : (m : ℕ) → ℕ
@@ -23,13 +23,14 @@ placed m = m % 2 ^ 4 * 2 ^ (4 * (m / 2 ^ 4))
 abbrev pub Filled : (c : ℕ) (table : List ℕ) (end : ℕ) → Type 0
 Filled c table end = (m : ℕ) → m < end → getD table m 0 ≡ product c (placed m)
 
--- where the entries below at + count are filled, a row fills those below end by the step, which is entry at + count
+-- where the entries below at + count are filled, at is 16 · n and count a power of two up to 8, a row fills those below
+-- end by the step, which is entry at + count
 abbrev pub RowFilled : (at count step : ℕ) (before after : List ℕ) (end : ℕ) → Type 0
 RowFilled at count step before after end =
     (c n k : ℕ) → at ≡ 16 * n → count ≡ 2 ^ k → count ≤ 8 → step ≡ product c (placed (at + count))
     → Filled c before (at + count) → Filled c after end
 
--- where the entries below at are filled, a block fills sixteen more by b, which is c at place n
+-- where the entries below at = 16 · n are filled, a block fills sixteen more by b, which is c · t^(4 · n)
 abbrev pub BlockFilled : (at b : ℕ) (before after : List ℕ) → Type 0
 BlockFilled at b before after =
     (c n : ℕ) → at ≡ 16 * n → b ≡ product c (2 ^ (4 * n)) → Filled c before at → Filled c after (at + 16)

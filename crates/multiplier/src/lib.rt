@@ -57,8 +57,7 @@ pub fn multiples(c: Element) -> [u64; 64]
     t
 }
 
-// The product of x by the element whose table it is, for an x of 16 bits, then 64. Four entries make the product by 16
-// bits, and four such products are reduced together.
+// The product of x, of 16 bits, by the element whose table it is: a sum of four entries.
 fn times16(table: &[u64; 64], x: usize) -> u64
     requires { ⌜ x < 2 ^ 16 ⌝ }
     ensures { λ r. ⌜ ProductBy (now (table .entry)) x r ⌝ }
@@ -72,6 +71,7 @@ fn times16(table: &[u64; 64], x: usize) -> u64
     sum
 }
 
+// The product of x by the element whose table it is: four products by 16 bits, reduced together.
 pub fn times(table: &[u64; 64], x: u64) -> u64
     ensures { λ r. ⌜ ProductBy (now (table .entry)) x r ⌝ }
 {

@@ -24,40 +24,40 @@ module _ (basis : List ℕ) (fits3 fits6 : Bool) where
   abbrev lists : Outcome
   lists = refusedUnless fits3 (WrongLength 3) after3
 
-  pub dimension-refused : 12 < length basis → Refused DimensionOutOfRange ≡ checked basis fits3 fits6
-  dimension-refused h = refused-by (leb (length basis) 12) DimensionOutOfRange lists (lt-leb (length basis) 12 h)
+  pub dimension-refused : 20 < length basis → Refused DimensionOutOfRange ≡ checked basis fits3 fits6
+  dimension-refused h = refused-by (leb (length basis) 20) DimensionOutOfRange lists (lt-leb (length basis) 20 h)
 
-  dimension-passed : length basis ≤ 12 → lists ≡ checked basis fits3 fits6
-  dimension-passed h = passed-by (leb (length basis) 12) DimensionOutOfRange lists (le-leb (length basis) 12 h)
+  dimension-passed : length basis ≤ 20 → lists ≡ checked basis fits3 fits6
+  dimension-passed h = passed-by (leb (length basis) 20) DimensionOutOfRange lists (le-leb (length basis) 20 h)
 
-  pub list3-refused : length basis ≤ 12 → fits3 ≡ false → Refused (WrongLength 3) ≡ checked basis fits3 fits6
+  pub list3-refused : length basis ≤ 20 → fits3 ≡ false → Refused (WrongLength 3) ≡ checked basis fits3 fits6
   list3-refused h e = refused-by fits3 (WrongLength 3) after3 e ∙ dimension-passed h
 
-  list3-passed : length basis ≤ 12 → fits3 ≡ true → after3 ≡ checked basis fits3 fits6
+  list3-passed : length basis ≤ 20 → fits3 ≡ true → after3 ≡ checked basis fits3 fits6
   list3-passed h e = passed-by fits3 (WrongLength 3) after3 e ∙ dimension-passed h
 
-  pub list6-refused : length basis ≤ 12 → fits3 ≡ true → fits6 ≡ false
+  pub list6-refused : length basis ≤ 20 → fits3 ≡ true → fits6 ≡ false
       → Refused (WrongLength 6) ≡ checked basis fits3 fits6
   list6-refused h e f = refused-by fits6 (WrongLength 6) (outcomeOfBasis (firstDependent basis)) f ∙ list3-passed h e
 
-  pub basis-looked-at : length basis ≤ 12 → fits3 ≡ true → fits6 ≡ true
+  pub basis-looked-at : length basis ≤ 20 → fits3 ≡ true → fits6 ≡ true
       → outcomeOfBasis (firstDependent basis) ≡ checked basis fits3 fits6
   basis-looked-at h e f = passed-by fits6 (WrongLength 6) (outcomeOfBasis (firstDependent basis)) f ∙ list3-passed h e
 
 -- where all have passed
 pub record Passed (basis : List ℕ) (fits3 fits6 : Bool) : Type 0 where
-  pub small : length basis ≤ 12
+  pub small : length basis ≤ 20
   pub list3 : fits3 ≡ true
   pub list6 : fits6 ≡ true
   pub independent : Independent basis
 
 pub passed : (basis : List ℕ) (fits3 fits6 : Bool) → checked basis fits3 fits6 ≡ Done → Passed basis fits3 fits6
 passed basis fits3 fits6 e =
-    let first = unless-done (leb (length basis) 12) DimensionOutOfRange (lists basis fits3 fits6) e in
+    let first = unless-done (leb (length basis) 20) DimensionOutOfRange (lists basis fits3 fits6) e in
     let second = unless-done fits3 (WrongLength 3) (after3 basis fits3 fits6) (first .1) in
     let third = unless-done fits6 (WrongLength 6) (outcomeOfBasis (firstDependent basis)) (second .1) in
     record {
-      small = le-of-test (length basis) 12 (first .0);
+      small = le-of-test (length basis) 20 (first .0);
       list3 = second .0;
       list6 = third .0;
       independent = independent-of (firstDependent basis) (third .1);
@@ -65,11 +65,11 @@ passed basis fits3 fits6 e =
 
 -- the code's size is 2^k, or 0 where k is refused anyway: so the tests of the lengths may take it
 pub answered-by-size : (basis : List ℕ) (fits3 fits6 : ℕ → Bool) (size : ℕ) (answer : Outcome)
-    → size ≡ cond (leb (length basis) 12) (2 ^ length basis) 0
+    → size ≡ cond (leb (length basis) 20) (2 ^ length basis) 0
     → answer ≡ checked basis (fits3 size) (fits6 size)
     → checked basis (fits3 (2 ^ length basis)) (fits6 (2 ^ length basis)) ≡ answer
 answered-by-size basis fits3 fits6 size answer e a =
-    sym (a ∙ ap (λ (n : ℕ). checked basis (fits3 n) (fits6 n)) e ∙ by (leb (length basis) 12))
+    sym (a ∙ ap (λ (n : ℕ). checked basis (fits3 n) (fits6 n)) e ∙ by (leb (length basis) 20))
   where
     by : (k : Bool)
         → refusedUnless k DimensionOutOfRange
@@ -79,7 +79,7 @@ answered-by-size basis fits3 fits6 size answer e a =
     by false = refl
 
 -- conversely
-pub passes : (basis : List ℕ) (fits3 fits6 : Bool) → length basis ≤ 12 → fits3 ≡ true → fits6 ≡ true → Independent basis
+pub passes : (basis : List ℕ) (fits3 fits6 : Bool) → length basis ≤ 20 → fits3 ≡ true → fits6 ≡ true → Independent basis
     → checked basis fits3 fits6 ≡ Done
 passes basis fits3 fits6 h e f d = sym (basis-looked-at basis fits3 fits6 h e f) ∙ ap outcomeOfBasis d
 

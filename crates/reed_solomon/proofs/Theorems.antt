@@ -77,10 +77,10 @@ interpolated-count offset basis word h =
 pub round-trips : RoundTrips
 round-trips = record { coefficients = coefficients-back; count = interpolated-count; word = word-back }
 
--- the checks pass exactly where k is at most 12, what the two tests stand for holds, and the basis is independent
+-- the checks pass exactly where k is at most 20, what the two tests stand for holds, and the basis is independent
 accepted-by : (basis : List ℕ) (fits3 fits6 : Bool) (P Q : Type 0) → (fits3 ≡ true → P) → (P → fits3 ≡ true)
     → (fits6 ≡ true → Q) → (Q → fits6 ≡ true)
-    → (checked basis fits3 fits6 ≡ Done) ↔ ((length basis ≤ 12) × P × Q × Independent basis)
+    → (checked basis fits3 fits6 ≡ Done) ↔ ((length basis ≤ 20) × P × Q × Independent basis)
 accepted-by basis fits3 fits6 P Q p p′ q q′ = (
   λ e. let all = passed basis fits3 fits6 e in (all .small, p (all .list3), q (all .list6), all .independent),
   λ a. passes basis fits3 fits6 (a .0) (p′ (a .1)) (q′ (a .2)) (a .3),

@@ -12,11 +12,11 @@ use Rattle.coset.specs.Span.{firstDependent}
 use Rattle.coset.specs.Answers.{outcomeOfBasis}
 use Rattle.reed_solomon.specs.Codes.{encoded, interpolated}
 
--- the checks in the order of document 01: k over 12 (number 4); the lowest of lists 3 and 6 that does not fit (13);
+-- the checks in the order of document 01: k over 20 (number 4); the lowest of lists 3 and 6 that does not fit (13);
 -- a dependent basis (8)
 abbrev pub checked : (basis : List ℕ) (fits3 fits6 : Bool) → Outcome
 checked basis fits3 fits6 =
-    refusedUnless (leb (length basis) 12) DimensionOutOfRange
+    refusedUnless (leb (length basis) 20) DimensionOutOfRange
     (refusedUnless fits3 (WrongLength 3)
     (refusedUnless fits6 (WrongLength 6)
     (outcomeOfBasis (firstDependent basis))))

@@ -33,15 +33,15 @@ pub record RoundTrips : Type 0 where
       → Independent basis → length word ≡ 2 ^ length basis
       → encoded offset basis (interpolated offset basis word) ≡ word
 
--- which calls are done: those with k at most 12, lists that fit and an independent basis
+-- which calls are done: those with k at most 20, lists that fit and an independent basis
 pub record CodesAccepted : Type 0 where
   pub encode : (basis coefficients values : List ℕ)
       → (encodeOutcome basis coefficients values ≡ Done)
-      ↔ ((length basis ≤ 12) × (length coefficients ≤ 2 ^ length basis) × (length values ≡ 2 ^ length basis)
+      ↔ ((length basis ≤ 20) × (length coefficients ≤ 2 ^ length basis) × (length values ≡ 2 ^ length basis)
       × Independent basis)
   pub interpolate : (basis word coefficients : List ℕ)
       → (interpolateOutcome basis word coefficients ≡ Done)
-      ↔ ((length basis ≤ 12) × (length word ≡ 2 ^ length basis) × (length coefficients ≡ 2 ^ length basis)
+      ↔ ((length basis ≤ 20) × (length word ≡ 2 ^ length basis) × (length coefficients ≡ 2 ^ length basis)
       × Independent basis)
 
 -- an outcome's number and place
@@ -50,12 +50,12 @@ Told outcome number place = (numberOfOutcome outcome ≡ number) × (placeOfOutc
 
 -- the numbers and places of the refusals, by the first check that fails
 pub record CodeRefusals : Type 0 where
-  pub dimension : (basis : List ℕ) (fits3 fits6 : Bool) → 12 < length basis → Told (checked basis fits3 fits6) 4 Absent
-  pub list3 : (basis : List ℕ) (fits3 fits6 : Bool) → length basis ≤ 12 → fits3 ≡ false
+  pub dimension : (basis : List ℕ) (fits3 fits6 : Bool) → 20 < length basis → Told (checked basis fits3 fits6) 4 Absent
+  pub list3 : (basis : List ℕ) (fits3 fits6 : Bool) → length basis ≤ 20 → fits3 ≡ false
       → Told (checked basis fits3 fits6) 13 (At 3)
-  pub list6 : (basis : List ℕ) (fits3 fits6 : Bool) → length basis ≤ 12 → fits3 ≡ true → fits6 ≡ false
+  pub list6 : (basis : List ℕ) (fits3 fits6 : Bool) → length basis ≤ 20 → fits3 ≡ true → fits6 ≡ false
       → Told (checked basis fits3 fits6) 13 (At 6)
-  pub dependent : (basis : List ℕ) (fits3 fits6 : Bool) (place : ℕ) → length basis ≤ 12 → fits3 ≡ true → fits6 ≡ true
+  pub dependent : (basis : List ℕ) (fits3 fits6 : Bool) (place : ℕ) → length basis ≤ 20 → fits3 ≡ true → fits6 ≡ true
       → firstDependent basis ≡ At place → Told (checked basis fits3 fits6) 8 (At place)
 
 -- encoding entry by entry

@@ -22,7 +22,7 @@ use Rattle.coset.proofs.Points.{all-elements}
 use Rattle.coset.proofs.Steps.{length-elements}
 use Rattle.reed_solomon.specs.Codes.{encoded, interpolated}
 use Rattle.transform.specs.Transform.{scaledRuns, regrouped, regroupedBack, converted, convertedBack, ratioOf}
-use Rattle.transform.specs.Transform.{multiplierOf, splitInHalves, joinedFromHalves, transformed, transformedBack}
+use Rattle.transform.specs.Transform.{normalisedAt, splitInHalves, joinedFromHalves, transformed, transformedBack}
 use Rattle.transform.proofs.Converting.{converted-block}
 use Rattle.transform.proofs.Theorems.{transformed-values, transformed-coefficients}
 
@@ -166,12 +166,12 @@ module _ (offset : ℕ) (basis s : List ℕ) (eo : IsElement offset) (eb : (i : 
         (zeros-repeated (drop (2 ^ used) s) (2 ^ length basis - length products) below
         (length-drop (2 ^ used) s ∙ ap₂ (λ (m n : ℕ). m - n) counted (sym length-products)))
 
-    pub evaluated : splitInHalves (multiplierOf elements inverses) basis (length basis) offset
+    pub evaluated : splitInHalves (normalisedAt elements inverses) basis (length basis) offset
         (converted (ratioOf elements inverses) 0 used (take (2 ^ used) s) ++ drop (2 ^ used) s)
         ≡ encoded offset basis s
     unfolding transformed encoded c products
     evaluated =
-        ap (splitInHalves (multiplierOf elements inverses) basis (length basis) offset)
+        ap (splitInHalves (normalisedAt elements inverses) basis (length basis) offset)
         (sym (ap (λ (l : List ℕ). padded gf64 (2 ^ length basis) (converted (ratioOf elements inverses) 0 used l))
         (padded-full gf64 (2 ^ used) c length-c) ∙ with-zeros))
         ∙ transformed-values offset basis eo (all-elements basis eb) d used c ec within (le-of-eq length-c)
@@ -180,7 +180,7 @@ module _ (offset : ℕ) (basis s : List ℕ) (eo : IsElement offset) (eb : (i : 
         (λ x. evaluate-taken gf64 IsElement gf64-laws (2 ^ used) s x below) (points offset basis))
 
   pub interpolated-in-place : convertedBack (ratioOf inverses elements) 0 (length basis)
-      (joinedFromHalves (multiplierOf elements inverses) basis (length basis) offset s)
+      (joinedFromHalves (normalisedAt elements inverses) basis (length basis) offset s)
       ≡ interpolated offset basis s
   unfolding transformedBack
   interpolated-in-place =
@@ -191,13 +191,13 @@ pub evaluated-with : (offset : ℕ) (basis s elements inverses : List ℕ) (used
     → ((i : ℕ) → getD basis i 0 < 2 ^ 64) → ((i : ℕ) → getD s i 0 < 2 ^ 64) → Independent basis
     → length s ≡ 2 ^ length basis → used ≤ length basis → DegreeBelow gf64 (2 ^ used) s
     → elements ≡ stepElements (length basis) basis → inverses ≡ map inverse elements → size ≡ 2 ^ used
-    → splitInHalves (multiplierOf elements inverses) basis (length basis) offset
+    → splitInHalves (normalisedAt elements inverses) basis (length basis) offset
     (converted (ratioOf elements inverses) 0 used (take size s) ++ drop size s)
     ≡ encoded offset basis s
 evaluated-with offset basis s elements inverses used size eo eb es d counted within below e i p =
-    ap (λ (n : ℕ). splitInHalves (multiplierOf elements inverses) basis (length basis) offset
+    ap (λ (n : ℕ). splitInHalves (normalisedAt elements inverses) basis (length basis) offset
     (converted (ratioOf elements inverses) 0 used (take n s) ++ drop n s)) p
-    ∙ ap₂ (λ (x y : List ℕ). splitInHalves (multiplierOf x y) basis (length basis) offset
+    ∙ ap₂ (λ (x y : List ℕ). splitInHalves (normalisedAt x y) basis (length basis) offset
     (converted (ratioOf x y) 0 used (take (2 ^ used) s) ++ drop (2 ^ used) s)) e (i ∙ ap (map inverse) e)
     ∙ evaluated offset basis s eo eb es d counted used within below
 
@@ -206,11 +206,11 @@ pub interpolated-with : (offset : ℕ) (basis s elements inverses : List ℕ) �
     → length s ≡ 2 ^ length basis
     → elements ≡ stepElements (length basis) basis → inverses ≡ map inverse elements
     → convertedBack (ratioOf inverses elements) 0 (length basis)
-    (joinedFromHalves (multiplierOf elements inverses) basis (length basis) offset s)
+    (joinedFromHalves (normalisedAt elements inverses) basis (length basis) offset s)
     ≡ interpolated offset basis s
 interpolated-with offset basis s elements inverses eo eb es d counted e i =
     ap₂ (λ (x y : List ℕ). convertedBack (ratioOf y x) 0 (length basis)
-    (joinedFromHalves (multiplierOf x y) basis (length basis) offset s)) e (i ∙ ap (map inverse) e)
+    (joinedFromHalves (normalisedAt x y) basis (length basis) offset s)) e (i ∙ ap (map inverse) e)
     ∙ interpolated-in-place offset basis s eo eb es d counted
 
 pub size-fits : (used size : ℕ) (basis s : List ℕ) → size ≡ 2 ^ used → used ≤ length basis

@@ -20,7 +20,7 @@ use Rattle.coset.specs.Span.{Independent}
 use Rattle.coset.specs.Steps.{oneStep, composedMaps, stepElements}
 use Rattle.coset.proofs.Steps.{through-additive, through-point, elements-of-prefix, length-elements}
 use Rattle.coset.proofs.Steps.{element-at, elements-not-zero, mapped-elements}
-use Rattle.transform.specs.Transform.{ratioOf, multiplierOf}
+use Rattle.transform.specs.Transform.{ratioOf, normalisedAt}
 
 all-at : (P : ℕ → Type 0) (xs : List ℕ) (i : ℕ) → All P xs → i < length xs → P (getD xs i 0)
 all-at P [] i h l = absurd (omega arith)
@@ -86,7 +86,7 @@ module _ (basis : List ℕ) (elements : All IsElement basis) (independent : Inde
   counted = length-elements (length basis) basis (le-refl (length basis))
 
   abbrev z : ℕ → ℕ → ℕ
-  z = multiplierOf es ds
+  z = normalisedAt es ds
 
   abbrev ratio : ℕ → ℕ
   ratio = ratioOf es ds
@@ -114,11 +114,11 @@ module _ (basis : List ℕ) (elements : All IsElement basis) (independent : Inde
       (divides-back j (omega arith))
 
   pub multiplier-element : (n x : ℕ) → IsElement (z n x)
-  unfolding multiplierOf
+  unfolding normalisedAt
   multiplier-element n x = product-lt (composedMaps (take n es) x) (getD ds n 0)
 
   pub multiplier-constant : (n offset i : ℕ) → n < k → z n (point offset (take n basis) i) ≡ z n offset
-  unfolding multiplierOf point
+  unfolding normalisedAt point
   multiplier-constant n offset i h =
       ap (λ (l : List ℕ). product (composedMaps l (point offset (take n basis) i)) (getD ds n 0)) first
       ∙ ap (λ (v : ℕ). product v (getD ds n 0))
@@ -138,7 +138,7 @@ module _ (basis : List ℕ) (elements : All IsElement basis) (independent : Inde
   own n h = element-at (length basis) basis n h (le-refl (length basis))
 
   pub multiplier-next : (n offset : ℕ) → n < k → z n (sum offset (getD basis n 0)) ≡ sum (z n offset) 1
-  unfolding multiplierOf
+  unfolding normalisedAt
   multiplier-next n offset h =
       ap (λ (v : ℕ). product v (getD ds n 0)) (through-additive (take n es) offset (getD basis n 0))
       ∙ product-add-l (composedMaps (take n es) offset) (composedMaps (take n es) (getD basis n 0)) (getD ds n 0)
@@ -161,7 +161,7 @@ module _ (basis : List ℕ) (elements : All IsElement basis) (independent : Inde
   level-next x j = refl
 
   pub level-scaled : (x j : ℕ) → IsElement x → j < k → product (ratio j) (z j x) ≡ level x j
-  unfolding ratioOf multiplierOf level composedMaps oneStep
+  unfolding ratioOf normalisedAt level composedMaps oneStep
   level-scaled x zero hx h =
       product-left-comm (getD es 0 0) x (getD ds 0 0) ∙ ap (product x) (divides 0 h) ∙ product-one-r x hx
   level-scaled x (suc j) hx h =

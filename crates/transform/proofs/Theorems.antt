@@ -22,12 +22,13 @@ use Rattle.coset.proofs.Points.{points-elements}
 use Rattle.reed_solomon.specs.Codes.{encoded, interpolated}
 use Rattle.reed_solomon.proofs.Values.{length-encoded}
 use Rattle.reed_solomon.proofs.Theorems.{round-trips}
-use Rattle.transform.specs.Transform.{weighted, squares, converted, convertedBack, ratioOf, multiplierOf}
+use Rattle.transform.specs.Transform.{weighted, squares, converted, convertedBack, ratioOf, normalisedAt}
 use Rattle.transform.specs.Transform.{splitInHalves, joinedFromHalves, transformed, transformedBack}
-use Rattle.transform.specs.Theorems.{Transforms}
-use Rattle.transform.proofs.Halves.{Block}
+use Rattle.transform.specs.Theorems.{Steps, Transforms}
+use Rattle.transform.proofs.Halves.{Block, second-twice, first-twice}
 use Rattle.transform.proofs.Weighted.{weighted-plus, weighted-short, weighted-value}
-use Rattle.transform.proofs.Regrouping.{block-is}
+use Rattle.transform.proofs.Regrouping.{block-is, regrouped-weighted, regrouped-undone}
+use Rattle.transform.proofs.Scaling.{scaled-weighted, scaled-undone}
 use Rattle.transform.proofs.Converting.{downTo, length-downTo, converted-block, converted-back-block}
 use Rattle.transform.proofs.Converting.{converted-undone, converted-weighted}
 use Rattle.transform.proofs.Splitting.{joined-block, split-undone, split-values}
@@ -91,7 +92,7 @@ module _ (offset : ℕ) (basis : List ℕ) (eo : IsElement offset) (eb : All IsE
 
   -- the value at x, by the products of the z_j
   at-point : (m : ℕ) (c : List ℕ) (x : ℕ) → All IsElement c → IsElement x → m ≤ k → length c ≤ 2 ^ m
-      → weighted (downTo (λ j. multiplierOf es ds j x) k)
+      → weighted (downTo (λ j. normalisedAt es ds j x) k)
       (padded gf64 (2 ^ k) (converted (ratioOf es ds) 0 m (padded gf64 (2 ^ m) c)))
       ≡ evaluate gf64 c x
   unfolding downTo
@@ -107,7 +108,7 @@ module _ (offset : ℕ) (basis : List ℕ) (eo : IsElement offset) (eb : All IsE
       ∙ evaluate-padded gf64 IsElement gf64-laws (2 ^ m) c x
     where
       z : ℕ → ℕ
-      z j = multiplierOf es ds j x
+      z j = normalisedAt es ds j x
 
       t : List ℕ
       t = converted (ratioOf es ds) 0 m (padded gf64 (2 ^ m) c)
@@ -139,11 +140,11 @@ module _ (offset : ℕ) (basis : List ℕ) (eo : IsElement offset) (eb : All IsE
       → transformed offset m basis c ≡ encoded offset basis c
   unfolding transformed encoded
   transformed-values m c ec hm hc =
-      split-values (multiplierOf es ds) basis (λ n o i h. multiplier-constant basis eb d n o i h)
+      split-values (normalisedAt es ds) basis (λ n o i h. multiplier-constant basis eb d n o i h)
       (λ n o h. multiplier-next basis eb d n o h) k offset s (le-refl k) sized
-      ∙ ap (λ (b : List ℕ). map (λ x. weighted (downTo (λ j. multiplierOf es ds j x) k) s) (points offset b))
+      ∙ ap (λ (b : List ℕ). map (λ x. weighted (downTo (λ j. normalisedAt es ds j x) k) s) (points offset b))
       (take-length basis)
-      ∙ map-agree (λ x. weighted (downTo (λ j. multiplierOf es ds j x) k) s) (evaluate gf64 c) (points offset basis)
+      ∙ map-agree (λ x. weighted (downTo (λ j. normalisedAt es ds j x) k) s) (evaluate gf64 c) (points offset basis)
       (every (points offset basis) (points-elements offset basis eo eb))
     where
       s : List ℕ
@@ -165,7 +166,7 @@ module _ (offset : ℕ) (basis : List ℕ) (eo : IsElement offset) (eb : All IsE
       )
 
       every : (xs : List ℕ) → All IsElement xs
-          → All (λ x. weighted (downTo (λ j. multiplierOf es ds j x) k) s ≡ evaluate gf64 c x) xs
+          → All (λ x. weighted (downTo (λ j. normalisedAt es ds j x) k) s ≡ evaluate gf64 c x) xs
       every [] h = record {}
       every (x ∷ xs) h = (at-point m c x ec (h .0) hm hc, every xs (h .1))
 
@@ -173,13 +174,13 @@ module _ (offset : ℕ) (basis : List ℕ) (eo : IsElement offset) (eb : All IsE
 
   module _ (word : List ℕ) (ew : All IsElement word) (hw : length word ≡ 2 ^ length basis) where
     joined : List ℕ
-    joined = joinedFromHalves (multiplierOf es ds) basis k offset word
+    joined = joinedFromHalves (normalisedAt es ds) basis k offset word
 
     joined-sized : Block (2 ^ (k + 0)) joined
     unfolding joined
     joined-sized =
         block-is (2 ^ k) (2 ^ (k + 0)) joined (ap (λ (n : ℕ). 2 ^ n) (sym (add-zero k)))
-        (joined-block (multiplierOf es ds) basis k offset word (hw, ew))
+        (joined-block (normalisedAt es ds) basis k offset word (hw, ew))
 
     back-sized : Block (2 ^ k) (transformedBack offset basis word)
     unfolding transformedBack joined
@@ -190,14 +191,14 @@ module _ (offset : ℕ) (basis : List ℕ) (eo : IsElement offset) (eb : All IsE
     pub word-again : transformed offset k basis (transformedBack offset basis word) ≡ word
     unfolding transformed transformedBack joined
     word-again =
-        ap (splitInHalves (multiplierOf es ds) basis k offset)
+        ap (splitInHalves (normalisedAt es ds) basis k offset)
         (ap (λ (l : List ℕ). padded gf64 (2 ^ k) (converted (ratioOf es ds) 0 k l))
         (padded-full gf64 (2 ^ k) (convertedBack (ratioOf ds es) 0 k joined) (back-sized .0))
         ∙ ap (padded gf64 (2 ^ k))
         (converted-undone (ratioOf es ds) (ratioOf ds es) 0 k joined
         (λ j h. ratios-inverse basis eb d j (omega arith)) joined-sized)
         ∙ padded-full gf64 (2 ^ k) joined (joined-sized .0 ∙ ap (λ (n : ℕ). 2 ^ n) (add-zero k)))
-        ∙ split-undone (multiplierOf es ds) basis k offset word (hw, ew)
+        ∙ split-undone (normalisedAt es ds) basis k offset word (hw, ew)
 
     pub transformed-coefficients : transformedBack offset basis word ≡ interpolated offset basis word
     transformed-coefficients =
@@ -220,6 +221,18 @@ module _ (offset : ℕ) (basis : List ℕ) (eo : IsElement offset) (eb : All IsE
       elements : All IsElement (encoded offset basis c)
       elements =
           values-elements gf64 IsElement gf64-laws c (points offset basis) ec (points-elements offset basis eo eb)
+
+pub steps : Steps
+steps =
+    record {
+      second-twice = second-twice;
+      first-twice = first-twice;
+      regrouped-weights = regrouped-weighted;
+      regrouped-back = regrouped-undone;
+      scaled-weights = scaled-weighted;
+      scaled-back = scaled-undone;
+      joined-back = split-undone;
+    }
 
 pub transforms : Transforms
 transforms =

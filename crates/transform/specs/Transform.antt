@@ -12,7 +12,8 @@ use Rattle.poly.specs.Polynomial.{plus, scale, padded}
 use Rattle.coset.specs.Coset.{tabulated}
 use Rattle.coset.specs.Steps.{composedMaps, stepElements}
 
--- the sum over all i of c_i times the weights whose bit of i is set, the first weight for the highest bit
+-- the sum over all i of c_i times the product of the weights whose bit of i is set, the first weight for the highest
+-- bit
 unfoldable pub weighted : (weights c : List ℕ) → ℕ
 weighted [] c = getD c 0 0
 weighted (y ∷ weights) c =
@@ -26,29 +27,31 @@ squares z (suc n) = power z (2 ^ n) ∷ squares z n
 
 -- ---- steps on the halves of a list
 
--- the first m entries plus c times the others
+-- the first m entries plus c times the others, of 2 m entries; the others stay
 unfoldable pub secondAdded : (c m : ℕ) (s : List ℕ) → List ℕ
 secondAdded c m s = plus gf64 (take m s) (scale gf64 c (drop m s)) ++ drop m s
 
--- the entries from m on plus the first ones
+-- the entries from m on plus the first m, of 2 m entries; the first ones stay
 unfoldable pub firstAdded : (m : ℕ) (s : List ℕ) → List ℕ
 firstAdded m s = take m s ++ plus gf64 (take m s) (drop m s)
 
--- f of the n entries from p on
+-- the n entries from p on replaced by f of them; the others stay
 unfoldable pub onPart : (p n : ℕ) (f : List ℕ → List ℕ) (s : List ℕ) → List ℕ
 onPart p n f s = take p s ++ (f (take n (drop p s)) ++ drop n (drop p s))
 
 -- ---- from the powers of X to the products of the z_j
 
--- quarters a, b, c, d of q entries become a, b + c + d, c + d, d: since y^2 = (y^2 + y) + y,
--- a + b y + c y^2 + d y^3 = a + (b + c + d) y + (c + d + d y) (y^2 + y)
+-- quarters a, b, c, d of q entries become a, b + c + d, c + d, d: for every y, since y^2 = (y^2 + y) + y,
+-- a + b y + c y^2 + d y^3 = a + (b + c + d) y + (c + d + d y) (y^2 + y); y is a power z^(2^n), and y^2 + y that of
+-- z^2 + z
 unfoldable pub quarters : (q : ℕ) (s : List ℕ) → List ℕ
 quarters q s = onPart q (q + q) (secondAdded 1 q) (onPart (q + q) (q + q) (secondAdded 1 q) s)
 
 unfoldable pub quartersBack : (q : ℕ) (s : List ℕ) → List ℕ
 quartersBack q s = onPart (q + q) (q + q) (secondAdded 1 q) (onPart q (q + q) (secondAdded 1 q) s)
 
--- in a list of 2^upper runs of 2^lower entries, and in all its halves of four runs or more
+-- the quarters exchanged so in a list of 2^upper runs of 2^lower entries, and then in its halves, as long as they have
+-- four runs or more
 unfoldable pub regrouped : (lower upper : ℕ) (s : List ℕ) → List ℕ
 regrouped lower zero s = s
 regrouped lower (suc zero) s = s
@@ -69,16 +72,17 @@ regroupedBack lower (suc (suc upper)) s =
 unfoldable pub scaledRuns : (lower r : ℕ) (s : List ℕ) → List ℕ
 scaledRuns lower r s = tabulated (λ i. product (power r (i / 2 ^ lower)) (getD s i 0)) 0 (length s)
 
--- the levels from `lower` on, `upper` of them; `ratio` gives the factor of each
+-- the conversion by its levels from `lower` on, `upper` of them; `ratio` gives the factor of each
 unfoldable pub converted : (ratio : ℕ → ℕ) (lower upper : ℕ) (s : List ℕ) → List ℕ
 converted ratio lower zero s = s
 converted ratio lower (suc upper) s =
     converted ratio (suc lower) upper (regrouped lower (suc upper) (scaledRuns lower (ratio lower) s))
 
-unfoldable pub convertedBack : (ratio : ℕ → ℕ) (lower upper : ℕ) (s : List ℕ) → List ℕ
-convertedBack ratio lower zero s = s
-convertedBack ratio lower (suc upper) s =
-    scaledRuns lower (ratio lower) (regroupedBack lower (suc upper) (convertedBack ratio (suc lower) upper s))
+-- the same levels undone, from the last to the first; `inverseRatio` gives the inverse of each factor
+unfoldable pub convertedBack : (inverseRatio : ℕ → ℕ) (lower upper : ℕ) (s : List ℕ) → List ℕ
+convertedBack inverseRatio lower zero s = s
+convertedBack inverseRatio lower (suc upper) s =
+    scaledRuns lower (inverseRatio lower) (regroupedBack lower (suc upper) (convertedBack inverseRatio (suc lower) upper s))
 
 -- e_j / e_(j-1)^2, or e_0, where the inverses are those of the elements e_j; with the two lists exchanged it is the
 -- inverse of that
@@ -90,8 +94,8 @@ ratioOf elements inverses (suc j) =
 -- ---- from the products of the z_j to values
 
 -- z_n(x), from the elements of the maps X · (X - e) and their inverses
-unfoldable pub multiplierOf : (elements inverses : List ℕ) (n x : ℕ) → ℕ
-multiplierOf elements inverses n x = product (composedMaps (take n elements) x) (getD inverses n 0)
+unfoldable pub normalisedAt : (elements inverses : List ℕ) (n x : ℕ) → ℕ
+normalisedAt elements inverses n x = product (composedMaps (take n elements) x) (getD inverses n 0)
 
 -- halves a, b become a + c b, a + c b + b, where c = z_n(offset) and z_n(offset + b_n) = c + 1; then each half by
 -- itself
@@ -113,16 +117,15 @@ joinedFromHalves z basis (suc n) offset s =
 
 -- ---- the transform and its inverse, over a basis
 
--- 2^m coefficients or fewer to the values at the 2^k points: over the first 2^m entries the conversion, with zeros
--- behind
--- them the halves
+-- from 2^m coefficients or fewer to the values at the 2^k points: the first 2^m entries are converted; then all 2^k, of
+-- which the others are zero, are split in halves
 unfoldable pub transformed : (offset m : ℕ) (basis coefficients : List ℕ) → List ℕ
 transformed offset m basis coefficients =
     let k = length basis in
     let elements = stepElements k basis in
     let inverses = map inverse elements in
     let products = converted (ratioOf elements inverses) 0 m (padded gf64 (2 ^ m) coefficients) in
-    splitInHalves (multiplierOf elements inverses) basis k offset (padded gf64 (2 ^ k) products)
+    splitInHalves (normalisedAt elements inverses) basis k offset (padded gf64 (2 ^ k) products)
 
 -- the values at the 2^k points to the coefficients
 unfoldable pub transformedBack : (offset : ℕ) (basis word : List ℕ) → List ℕ
@@ -131,4 +134,4 @@ transformedBack offset basis word =
     let elements = stepElements k basis in
     let inverses = map inverse elements in
     convertedBack (ratioOf inverses elements) 0 k
-    (joinedFromHalves (multiplierOf elements inverses) basis k offset word)
+    (joinedFromHalves (normalisedAt elements inverses) basis k offset word)

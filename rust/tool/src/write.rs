@@ -91,9 +91,6 @@ fn more(assignment: &Assignment, refusal: &Refusal) -> String {
         (Cause::WrongLength, Some(3), Given::Coefficients(coefficients)) => {
             format!(" has length {}, over {}", coefficients.len(), 1 << k)
         }
-        (Cause::DimensionOutOfRange, ..) if rounds > 0 => {
-            "; coefficients are for k up to 12: give the word".to_string()
-        }
         _ => String::new(),
     }
 }

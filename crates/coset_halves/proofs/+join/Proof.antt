@@ -6,7 +6,7 @@ use Prim.Native.Nat.{_+_, _-_, _/_, _^_}
 use lib.ListN.{length, take, drop}
 use lib.Seq.{length-take-le}
 use Rattle.gf64.specs.Field.{sum}
-use Rattle.transform.specs.Transform.{firstAdded, secondAdded, joinedFromHalves, multiplierOf}
+use Rattle.transform.specs.Transform.{firstAdded, secondAdded, joinedFromHalves, normalisedAt}
 use Rattle.transform.proofs.Recursion.{halves-changed, halves-length, second-length, half-power, two-of-power}
 use Rattle.transform.proofs.Recursion.{join-none, join-next}
 use borrow.Author.Needs.{needs}
@@ -41,7 +41,7 @@ join-returns : (t : ℕ) → join-lts.Need-returns (
 ) (join-at t) join.Post
 join-returns t c =
     let a = c .before .before .before .before .before .args in
-    join-none (multiplierOf (a .elements .now) (a .inverses .now)) (a .basis .now) (a .n) (a .offset .0)
+    join-none (normalisedAt (a .elements .now) (a .inverses .now)) (a .basis .now) (a .n) (a .offset .0)
     (a .slice .now)
     (omega arith)
 
@@ -272,7 +272,7 @@ join-returns-2 t c =
       two-of-power (a .n) (length s) (omega arith)
           (start .pre .1 .3),
     ) in
-    let z = multiplierOf (a .elements .now) (a .inverses .now) in
+    let z = normalisedAt (a .elements .now) (a .inverses .now) in
     let front = first .join .last .1 .1 .1 .1 .1 .0 in
     let counted : length front ≡ half = first .join .kept .1 .1 .1 .1 .1 .0 ∙ length-take-le half s (omega arith) in
     let offset′ = second .before .before .sum .result .0 in

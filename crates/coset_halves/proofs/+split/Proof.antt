@@ -6,7 +6,7 @@ use Prim.Native.Nat.{_+_, _-_, _/_, _^_}
 use lib.ListN.{length, take, drop}
 use lib.Seq.{length-take-le}
 use Rattle.gf64.specs.Field.{sum}
-use Rattle.transform.specs.Transform.{splitInHalves, multiplierOf}
+use Rattle.transform.specs.Transform.{splitInHalves, normalisedAt}
 use Rattle.transform.proofs.Recursion.{halves-changed, second-length, back-half, half-power, two-of-power}
 use Rattle.transform.proofs.Recursion.{split-none, split-next, first-below, second-below}
 use Rattle.poly.specs.Carrier.{gf64}
@@ -36,34 +36,34 @@ split-below t = and 4 split-kinds.ps (falls 4 split-kinds.ps _<_ μ-split t) spl
 split-returns : (t : ℕ) → split-lts.Need-returns (
   step-reads.Asked,
   step-reads.Learnt,
-  split-below t,
-  split.Post,
   sum-reads.Asked,
   sum-reads.Learnt,
+  split-below t,
+  split.Post,
 ) (split-at t) split.Post
 split-returns t c =
     let a = c .before .before .before .before .before .args in
-    split-none (multiplierOf (a .elements .now) (a .inverses .now)) (a .basis .now) (a .n) (a .offset .0)
+    split-none (normalisedAt (a .elements .now) (a .inverses .now)) (a .basis .now) (a .n) (a .offset .0)
     (a .slice .now)
     (omega arith)
 
 split-sub-last : (t : ℕ) → split-lts.Need-sub-last (
   step-reads.Asked,
   step-reads.Learnt,
-  split-below t,
-  split.Post,
   sum-reads.Asked,
   sum-reads.Learnt,
+  split-below t,
+  split.Post,
 ) (split-at t) split.Post
 split-sub-last t c = search needs
 
 split-step-requires : (t : ℕ) → split-lts.Need-step-requires (
   step-reads.Asked,
   step-reads.Learnt,
-  split-below t,
-  split.Post,
   sum-reads.Asked,
   sum-reads.Learnt,
+  split-below t,
+  split.Post,
 ) (split-at t) split.Post
 split-step-requires t c κs =
     let start = c .before .before .before .before .before .before in
@@ -77,43 +77,53 @@ split-step-requires t c κs =
 split-mul-b : (t : ℕ) → split-lts.Need-mul-b (
   step-reads.Asked,
   step-reads.Learnt,
-  split-below t,
-  split.Post,
   sum-reads.Asked,
   sum-reads.Learnt,
+  split-below t,
+  split.Post,
 ) (split-at t) split.Post
 split-mul-b t c = search needs
 
 split-shared-slice-read-b : (t : ℕ) → split-lts.Need-shared-slice-read-b (
   step-reads.Asked,
   step-reads.Learnt,
-  split-below t,
-  split.Post,
   sum-reads.Asked,
   sum-reads.Learnt,
+  split-below t,
+  split.Post,
 ) (split-at t) split.Post
 split-shared-slice-read-b t c = search needs
+
+split-sum-requires : (t : ℕ) → split-lts.Need-sum-requires (
+  step-reads.Asked,
+  step-reads.Learnt,
+  sum-reads.Asked,
+  sum-reads.Learnt,
+  split-below t,
+  split.Post,
+) (split-at t) split.Post
+split-sum-requires t c κs = search needs
 
 split-slice-relend-prefix-split : (t : ℕ) → split-lts.Need-slice-relend-prefix-split (
   step-reads.Asked,
   step-reads.Learnt,
-  split-below t,
-  split.Post,
   sum-reads.Asked,
   sum-reads.Learnt,
+  split-below t,
+  split.Post,
 ) (split-at t) split.Post
 split-slice-relend-prefix-split t c = search needs
 
 split-slice-aggregate-split : (t : ℕ) → split-lts.Need-slice-aggregate-split (
   step-reads.Asked,
   step-reads.Learnt,
-  split-below t,
-  split.Post,
   sum-reads.Asked,
   sum-reads.Learnt,
+  split-below t,
+  split.Post,
 ) (split-at t) split.Post
 split-slice-aggregate-split t c =
-    let step = c .before .before .before .before in
+    let step = c .before .before .before .before .before in
     let start = step .before .before .before .before .before .before .before in
     let s = start .args .slice .now in
     sym (length-take-le (length s / 2) (step .step .last .1 .1 .1 .1 .1 .0)
@@ -122,13 +132,13 @@ split-slice-aggregate-split t c =
 split-split-requires : (t : ℕ) → split-lts.Need-split-requires (
   step-reads.Asked,
   step-reads.Learnt,
-  split-below t,
-  split.Post,
   sum-reads.Asked,
   sum-reads.Learnt,
+  split-below t,
+  split.Post,
 ) (split-at t) split.Post
 split-split-requires t c κs =
-    let step = c .before .before .before .before in
+    let step = c .before .before .before .before .before in
     let start = step .before .before .before .before .before .before .before in
     let a = start .args in
     let s = a .slice .now in
@@ -137,7 +147,7 @@ split-split-requires t c κs =
     let same = step .step .kept .1 .1 .1 .1 .1 .0 in
     let at = half-power (a .n) (length s) (omega arith) (start .pre .1 .3) in
     let two = two-of-power (a .n) (length s) (omega arith) (start .pre .1 .3) in
-    let z = multiplierOf (a .elements .now) (a .inverses .now) in (
+    let z = normalisedAt (a .elements .now) (a .inverses .now) in (
       omega (arith, start .pre .0),
       (
         omega (arith, start .pre .1 .0),
@@ -149,67 +159,57 @@ split-split-requires t c κs =
       ),
     )
 
-split-sum-requires : (t : ℕ) → split-lts.Need-sum-requires (
-  step-reads.Asked,
-  step-reads.Learnt,
-  split-below t,
-  split.Post,
-  sum-reads.Asked,
-  sum-reads.Learnt,
-) (split-at t) split.Post
-split-sum-requires t c κs = search needs
-
 split-mul-split : (t : ℕ) → split-lts.Need-mul-split (
   step-reads.Asked,
   step-reads.Learnt,
-  split-below t,
-  split.Post,
   sum-reads.Asked,
   sum-reads.Learnt,
+  split-below t,
+  split.Post,
 ) (split-at t) split.Post
 split-mul-split t c = search needs
 
 split-sub-split : (t : ℕ) → split-lts.Need-sub-split (
   step-reads.Asked,
   step-reads.Learnt,
-  split-below t,
-  split.Post,
   sum-reads.Asked,
   sum-reads.Learnt,
+  split-below t,
+  split.Post,
 ) (split-at t) split.Post
 split-sub-split t c = search needs
 
 split-part-split-start : (t : ℕ) → split-lts.Need-part-split-start (
   step-reads.Asked,
   step-reads.Learnt,
-  split-below t,
-  split.Post,
   sum-reads.Asked,
   sum-reads.Learnt,
+  split-below t,
+  split.Post,
 ) (split-at t) split.Post
 split-part-split-start t c = search needs
 
 split-part-split-end : (t : ℕ) → split-lts.Need-part-split-end (
   step-reads.Asked,
   step-reads.Learnt,
-  split-below t,
-  split.Post,
   sum-reads.Asked,
   sum-reads.Learnt,
+  split-below t,
+  split.Post,
 ) (split-at t) split.Post
 split-part-split-end t c = search needs
 
 split-split-requires-2 : (t : ℕ) → split-lts.Need-split-requires-2 (
   step-reads.Asked,
   step-reads.Learnt,
-  split-below t,
-  split.Post,
   sum-reads.Asked,
   sum-reads.Learnt,
+  split-below t,
+  split.Post,
 ) (split-at t) split.Post
 split-split-requires-2 t c κs =
-    let first = c .before .before .before .before in
-    let step = first .before .before .before .before .before in
+    let first = c .before .before .before in
+    let step = first .before .before .before .before .before .before in
     let start = step .before .before .before .before .before .before .before in
     let a = start .args in
     let s = a .slice .now in
@@ -218,7 +218,7 @@ split-split-requires-2 t c κs =
     let same = step .step .kept .1 .1 .1 .1 .1 .0 in
     let at = half-power (a .n) (length s) (omega arith) (start .pre .1 .3) in
     let two = two-of-power (a .n) (length s) (omega arith) (start .pre .1 .3) in
-    let z = multiplierOf (a .elements .now) (a .inverses .now) in
+    let z = normalisedAt (a .elements .now) (a .inverses .now) in
     let front = first .split .last .1 .1 .1 .1 .1 .1 .0 in
     let counted : length front ≡ half =
     first .split .kept .1 .1 .1 .1 .1 .1 .0 ∙ length-take-le half t₁ (omega (arith, same)) in
@@ -238,25 +238,25 @@ split-split-requires-2 t c κs =
 split-same-length : (t : ℕ) → split-lts.Need-same-length (
   step-reads.Asked,
   step-reads.Learnt,
-  split-below t,
-  split.Post,
   sum-reads.Asked,
   sum-reads.Learnt,
+  split-below t,
+  split.Post,
 ) (split-at t) split.Post
 split-same-length t c = search needs
 
 split-returns-2 : (t : ℕ) → split-lts.Need-returns-2 (
   step-reads.Asked,
   step-reads.Learnt,
-  split-below t,
-  split.Post,
   sum-reads.Asked,
   sum-reads.Learnt,
+  split-below t,
+  split.Post,
 ) (split-at t) split.Post
 split-returns-2 t c =
     let second = c .before .before in
-    let first = second .before .before .before .before .before in
-    let step = first .before .before .before .before .before in
+    let first = second .before .before .before .before in
+    let step = first .before .before .before .before .before .before in
     let start = step .before .before .before .before .before .before .before in
     let a = start .args in
     let s = a .slice .now in
@@ -265,27 +265,27 @@ split-returns-2 t c =
     let same = step .step .kept .1 .1 .1 .1 .1 .0 in
     let at = half-power (a .n) (length s) (omega arith) (start .pre .1 .3) in
     let two = two-of-power (a .n) (length s) (omega arith) (start .pre .1 .3) in
-    let z = multiplierOf (a .elements .now) (a .inverses .now) in
+    let z = normalisedAt (a .elements .now) (a .inverses .now) in
     let front = first .split .last .1 .1 .1 .1 .1 .1 .0 in
     let counted : length front ≡ half =
     first .split .kept .1 .1 .1 .1 .1 .1 .0 ∙ length-take-le half t₁ (omega (arith, same)) in
-    let offset′ = second .before .before .sum .result .0 in
+    let offset′ = first .before .before .sum .result .0 in
     let f = splitInHalves z (a .basis .now) (a .n - 1) (a .offset .0) in
     let g = splitInHalves z (a .basis .now) (a .n - 1) offset′ in
     halves-changed half t₁ front (second .split2 .last .1 .1 .1 .1 .1 .1 .0) f g counted (first .split .ensures)
     (second .split2 .ensures)
     ∙ ap₂ (λ (l : List ℕ) (o : ℕ). f (take half l) ++ splitInHalves z (a .basis .now) (a .n - 1) o (drop half l))
-    (step .step .ensures) (second .before .before .sum .ensures)
+    (step .step .ensures) (first .before .before .sum .ensures)
     ∙ split-next z (a .basis .now) (a .n) (a .offset .0) half s (omega arith) at
 
 pub +split-spec : {M : Type 1} → statement M
 +split-spec = close μ-split λ t. split-lts.spec (
   step-reads.Asked,
   step-reads.Learnt,
-  split-below t,
-  split.Post,
   sum-reads.Asked,
   sum-reads.Learnt,
+  split-below t,
+  split.Post,
 )
     (split-at t)
     split.Post
@@ -294,10 +294,10 @@ pub +split-spec : {M : Type 1} → statement M
     (split-step-requires t)
     (split-mul-b t)
     (split-shared-slice-read-b t)
+    (split-sum-requires t)
     (split-slice-relend-prefix-split t)
     (split-slice-aggregate-split t)
     (split-split-requires t)
-    (split-sum-requires t)
     (split-mul-split t)
     (split-sub-split t)
     (split-part-split-start t)

@@ -4,7 +4,7 @@ use Prim.Native.Nat.{ℕ}
 use lib.ListN.{getD}
 use lib.Seq.{length-take-le}
 use Rattle.gf64.specs.Field.{product}
-use Rattle.transform.specs.Transform.{multiplierOf}
+use Rattle.transform.specs.Transform.{normalisedAt}
 use borrow.Author.Needs.{needs}
 use native.Mathlib.Omega.{arith}
 use Rattle.coset_halves.proofs.multiplier.Statement.{statement}
@@ -28,7 +28,7 @@ product-requires : tie.Need-product-requires
 product-requires c κs = search needs
 
 returns : tie.Need-returns
-unfolding multiplierOf
+unfolding normalisedAt
 returns c =
     let a = c .before .before .before .before .before .before .args in
     c .product .ensures .0 ∙ ap (λ (v : ℕ). product v (getD (a .inverses .now) (a .n) 0))

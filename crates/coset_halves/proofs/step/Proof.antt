@@ -4,7 +4,7 @@ use mathlib.Core.Path.{_≡_, sym, ap, ap₂, _∙_}
 use mathlib.Core.List.{List}
 use Prim.Native.Nat.{ℕ, _/_, _^_}
 use lib.ListN.{length}
-use Rattle.transform.specs.Transform.{firstAdded, secondAdded, multiplierOf}
+use Rattle.transform.specs.Transform.{firstAdded, secondAdded, normalisedAt}
 use Rattle.transform.proofs.Recursion.{second-none}
 use borrow.Author.Needs.{needs}
 use native.Mathlib.Omega.{arith}
@@ -23,7 +23,7 @@ returns c =
     let start = first .before .before .before .before .before .before in
     let a = start .args in
     let half : length (a .slice .now) / 2 ≡ 2 ^ a .n = omega (arith, start .pre .2) in
-    let z = multiplierOf (a .elements .now) (a .inverses .now) (a .n) (a .offset .0) in
+    let z = normalisedAt (a .elements .now) (a .inverses .now) (a .n) (a .offset .0) in
     first .add-first .ensures ∙ ap (λ (h : ℕ). firstAdded h (a .slice .now)) half
     ∙ ap (firstAdded (2 ^ a .n)) (sym (second-none (a .used) (a .n) z (a .slice .now) (omega arith)
     (start .pre .3) (start .pre .2)))

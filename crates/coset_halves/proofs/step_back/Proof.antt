@@ -3,7 +3,7 @@ use mathlib.Core.Path.{_≡_, ap, ap₂, _∙_}
 use mathlib.Core.List.{List}
 use Prim.Native.Nat.{ℕ, _/_, _^_}
 use lib.ListN.{length}
-use Rattle.transform.specs.Transform.{firstAdded, secondAdded, multiplierOf}
+use Rattle.transform.specs.Transform.{firstAdded, secondAdded, normalisedAt}
 use borrow.Author.Needs.{needs}
 use native.Mathlib.Omega.{arith}
 use Rattle.coset_halves.proofs.step_back.Statement.{statement}
@@ -29,7 +29,7 @@ returns c =
     let a = start .args in
     let half : length (a .slice .now) / 2 ≡ 2 ^ a .n = omega (arith, start .pre .2) in
     let f = first .add-first .last .0 in
-    let z = multiplierOf (a .elements .now) (a .inverses .now) (a .n) (a .offset .0) in
+    let z = normalisedAt (a .elements .now) (a .inverses .now) (a .n) (a .offset .0) in
     multiplied .add-multiples .ensures
     ∙ ap (λ (m : ℕ). secondAdded m (length f / 2) f) (first .before .before .multiplier .ensures)
     ∙ ap₂ (λ (h : ℕ) (l : List ℕ). secondAdded z h l) (ap (λ (n : ℕ). n / 2) (first .add-first .kept .0) ∙ half)

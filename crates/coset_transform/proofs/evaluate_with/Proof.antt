@@ -8,7 +8,7 @@ use lib.ListN.{length, drop, length-map, length-append, length-drop}
 use lib.Seq.{length-take-le}
 use Rattle.gf64.specs.Field.{inverse}
 use Rattle.coset.proofs.Steps.{length-elements}
-use Rattle.transform.specs.Transform.{multiplierOf, splitInHalves}
+use Rattle.transform.specs.Transform.{normalisedAt, splitInHalves}
 use Rattle.transform.proofs.InPlace.{evaluated-with, size-fits, zeros-behind}
 use borrow.Author.Needs.{needs}
 use native.Mathlib.Omega.{arith}
@@ -83,7 +83,7 @@ returns c =
     .before in
     let a = start .args in
     let sized = c .before .before .before .before .before .before .before .before .power-of-two in
-    let z = multiplierOf (a .elements .now) (a .inverses .now) in
+    let z = normalisedAt (a .elements .now) (a .inverses .now) in
     c .before .before .split .ensures
     ∙ ap (λ (l : List ℕ). splitInHalves z (a .basis .now) (length (a .basis .now)) (a .offset .0)
     (l ++ drop (sized .result) (a .slice .now))) (c .before .before .before .before .before .before .convert .ensures)
