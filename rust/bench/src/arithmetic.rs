@@ -2,6 +2,7 @@
 //! counted.
 
 use crate::field;
+use crate::multiplier::{multiples, times};
 use std::cell::Cell;
 
 /// A type of its own for each product, so that a method is compiled for each.
@@ -16,6 +17,19 @@ pub trait Arithmetic: Copy {
     fn inverse(self, a: u64) -> u64 {
         field::inverse(|a, b| self.product(a, b), a)
     }
+
+    /// The product by c, for a run of products.
+    #[inline(always)]
+    fn products_by(self, c: u64) -> impl Fn(u64) -> u64 {
+        move |x| self.product(c, x)
+    }
+
+    /// Does the work, compiled for the instructions that the product needs. A recursion's own
+    /// work goes through it, since a recursion is not inlined.
+    #[inline(always)]
+    fn compiled<R>(self, work: impl FnOnce() -> R) -> R {
+        work()
+    }
 }
 
 /// Calls the product, as the library does: inlined, it gains little in the fold with step 1 and
@@ -28,14 +42,33 @@ impl Arithmetic for Windowed {
     fn product(self, a: u64, b: u64) -> u64 {
         field::windowed(a, b)
     }
+
+    #[inline(always)]
+    fn products_by(self, c: u64) -> impl Fn(u64) -> u64 {
+        let table = multiples(c);
+        move |x| times(&table, x)
+    }
 }
 
-/// How many operations of the field; the products that an inverse takes are not among them.
+/// The windowed product in runs too, so that the tables' gain is seen.
+#[derive(Clone, Copy)]
+pub struct Untabled;
+
+impl Arithmetic for Untabled {
+    #[inline(always)]
+    fn product(self, a: u64, b: u64) -> u64 {
+        field::windowed(a, b)
+    }
+}
+
+/// How many operations of the field, and how many tables are filled; the products that an inverse
+/// takes and the sums that a table takes are not among them.
 #[derive(Clone, Copy, Default)]
 pub struct Counts {
     pub sums: u64,
     pub products: u64,
     pub inverses: u64,
+    pub tables: u64,
 }
 
 impl Counts {
@@ -58,6 +91,15 @@ impl Arithmetic for &Cell<Counts> {
     fn inverse(self, a: u64) -> u64 {
         self.set(Counts { inverses: self.get().inverses + 1, ..self.get() });
         Windowed.inverse(a)
+    }
+
+    fn products_by(self, c: u64) -> impl Fn(u64) -> u64 {
+        self.set(Counts { tables: self.get().tables + 1, ..self.get() });
+        let by_table = Windowed.products_by(c);
+        move |x| {
+            self.set(Counts { products: self.get().products + 1, ..self.get() });
+            by_table(x)
+        }
     }
 }
 

@@ -80,17 +80,22 @@ fn with_hardware<O: Operation>(operation: O, room: &mut O::Room) -> O::Answer {
             // SAFETY: made only below, where the processor has the instruction.
             unsafe { field::carryless_multiply(a, b) }
         }
+
+        #[inline(always)]
+        fn compiled<R>(self, work: impl FnOnce() -> R) -> R {
+            // SAFETY: as above.
+            unsafe { with_instruction(work) }
+        }
     }
 
     // The product is inlined only into what is compiled for the instruction too.
     #[target_feature(enable = "pclmulqdq", enable = "sse2")]
-    unsafe fn with_instruction<O: Operation>(operation: O, room: &mut O::Room) -> O::Answer {
-        operation.by(Hardware, room)
+    unsafe fn with_instruction<R>(work: impl FnOnce() -> R) -> R {
+        work()
     }
 
     assert!(field::hardware().is_some());
-    // SAFETY: the processor has the instruction.
-    unsafe { with_instruction(operation, room) }
+    Hardware.compiled(|| operation.by(Hardware, room))
 }
 
 #[cfg(not(target_arch = "x86_64"))]

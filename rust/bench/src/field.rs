@@ -138,7 +138,7 @@ fn mixed32(t: &Table, u: &Table, x: u64, y: u64) -> u64 {
 }
 
 #[inline(always)]
-fn reduced(high: u64, low: u64) -> u64 {
+pub fn reduced(high: u64, low: u64) -> u64 {
     let h = high ^ (high >> 60) ^ (high >> 61) ^ (high >> 63);
     low ^ h ^ (h << 1) ^ (h << 3) ^ (h << 4)
 }

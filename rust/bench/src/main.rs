@@ -7,7 +7,9 @@ mod codes;
 mod coset;
 mod field;
 mod fold;
+mod multiplier;
 mod protocol;
+mod transform;
 
 fn main() {
     println!(

@@ -59,7 +59,7 @@ fn print_counts(proof: Proof) {
     });
     print_round_counts(proof, &once, &queried);
     let each = |count: u64| count as f64 / proof.queries.len() as f64;
-    let Counts { sums, products, inverses } = once;
+    let Counts { sums, products, inverses, .. } = once;
     println!(
         "    once a query {:.1} sums and {:.1} products, once in all {sums} sums, {products} \
          products and {inverses} inverses:",
