@@ -84,18 +84,25 @@ fn with_hardware<O: Operation>(operation: O, room: &mut O::Room) -> O::Answer {
         #[inline(always)]
         fn compiled<R>(self, work: impl FnOnce() -> R) -> R {
             // SAFETY: as above.
-            unsafe { with_instruction(work) }
+            unsafe { compiled_with_instruction(work) }
         }
     }
 
     // The product is inlined only into what is compiled for the instruction too.
     #[target_feature(enable = "pclmulqdq", enable = "sse2")]
-    unsafe fn with_instruction<R>(work: impl FnOnce() -> R) -> R {
+    unsafe fn with_instruction<O: Operation>(operation: O, room: &mut O::Room) -> O::Answer {
+        operation.by(Hardware, room)
+    }
+
+    // Apart from the above, which as a closure is compiled to slower code in the judge.
+    #[target_feature(enable = "pclmulqdq", enable = "sse2")]
+    unsafe fn compiled_with_instruction<R>(work: impl FnOnce() -> R) -> R {
         work()
     }
 
     assert!(field::hardware().is_some());
-    Hardware.compiled(|| operation.by(Hardware, room))
+    // SAFETY: the processor has the instruction.
+    unsafe { with_instruction(operation, room) }
 }
 
 #[cfg(not(target_arch = "x86_64"))]
