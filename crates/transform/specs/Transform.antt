@@ -82,7 +82,8 @@ converted ratio lower (suc upper) s =
 unfoldable pub convertedBack : (inverseRatio : ℕ → ℕ) (lower upper : ℕ) (s : List ℕ) → List ℕ
 convertedBack inverseRatio lower zero s = s
 convertedBack inverseRatio lower (suc upper) s =
-    scaledRuns lower (inverseRatio lower) (regroupedBack lower (suc upper) (convertedBack inverseRatio (suc lower) upper s))
+    scaledRuns lower (inverseRatio lower)
+    (regroupedBack lower (suc upper) (convertedBack inverseRatio (suc lower) upper s))
 
 -- e_j / e_(j-1)^2, or e_0, where the inverses are those of the elements e_j; with the two lists exchanged it is the
 -- inverse of that
