@@ -1,3 +1,4 @@
 mod Multiples
 mod Schoolbook
+mod Squares
 pub mod WideSums

@@ -1,4 +1,5 @@
-// The product of two polynomials over GF(2), by a window of four bits, before its reduction.
+// The product of two polynomials over GF(2), by a window of four bits, and the square of one, by moving its bits apart;
+// both before their reduction.
 ghost use mathlib.Core.Path.{_≡_};
 ghost use Prim.Native.Nat.{_*_, _%_, _^_, _<_};
 ghost use lib.Bits.{bitXor};
@@ -107,6 +108,29 @@ pub fn wide_product(a: u64, b: u64) -> Wide
     Wide {
         high: p.high ^ (p.middle >> 32),
         low: p.low ^ (p.middle << 32),
+    }
+}
+
+// a · a: the mixed products cancel, so that bit i moves to place 2 i. Each line moves the upper half of every block of
+// bits up, down to blocks of one bit; of the two copies of each half the mask keeps one.
+fn spread(a: u64) -> u64
+    requires { ⌜ a < 2 ^ 32 ⌝ }
+    ensures { λ r. ⌜ r ≡ carryless a a ⌝ }
+{
+    let x = (a ^ (a << 16)) & 0x0000ffff0000ffff;
+    let x = (x ^ (x << 8)) & 0x00ff00ff00ff00ff;
+    let x = (x ^ (x << 4)) & 0x0f0f0f0f0f0f0f0f;
+    let x = (x ^ (x << 2)) & 0x3333333333333333;
+    (x ^ (x << 1)) & 0x5555555555555555
+}
+
+// a · a, by halves of 32 bits.
+pub fn wide_square(a: u64) -> Wide
+    ensures { λ r. ⌜ wideOf r ≡ carryless a a ⌝ }
+{
+    Wide {
+        high: spread(a / 4294967296),
+        low: spread(a % 4294967296),
     }
 }
 

@@ -35,3 +35,10 @@ pub fn product(a: u64, b: u64) -> u64
 {
     reduced(carryless::wide_product(a, b))
 }
+
+// The square of the field, without the windows that a product builds.
+pub fn square(a: u64) -> u64
+    ensures { λ r. ⌜ r ≡ product a a ⌝ }
+{
+    reduced(carryless::wide_square(a))
+}
