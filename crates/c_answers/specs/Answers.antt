@@ -9,8 +9,6 @@ use Rattle.refusal.specs.declared.Outcome.{Outcome}
 use Rattle.refusal.specs.declared.Position.{Position}
 use Rattle.refusal.specs.declared.Position.the-variants.{At, Absent}
 use Rattle.refusal.specs.Numbers.{numberOf, placeOf, roundOf, numberOfOutcome, placeOfOutcome, roundOfOutcome}
-use Rattle.field.specs.declared.Inverted.{Inverted}
-use Rattle.field.specs.declared.Inverted.the-variants.{Value, Refused}
 use Rattle.fold.specs.declared.Folded.{Folded}
 use Rattle.fold.specs.Answers.{numberOfFolded, placeOfFolded, roundOfFolded, valueOfFolded}
 use Rattle.fri.specs.declared.Verdict.{Verdict}
@@ -41,11 +39,6 @@ answerOfCause cause reads =
       reads = reads;
       value = none;
     }
-
--- the answer of an inversion, which reads nothing
-abbrev pub answerOfInverted : (inverted : Inverted) → Answer
-answerOfInverted (Value x) = answerOfValue 0 (x .0)
-answerOfInverted (Refused cause) = answerOfCause cause 0
 
 -- the answer of a fold, whose value is the next offset; only a judge counts reads
 abbrev pub answerOfFolded : (folded : Folded) → Answer

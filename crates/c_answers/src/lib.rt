@@ -1,5 +1,4 @@
 // The five numbers by which the C interface answers.
-use field::Inverted;
 use fold::Folded;
 use fri::Verdict;
 use layout::Part;
@@ -8,7 +7,7 @@ use refusal::Outcome;
 use refusal::Position;
 ghost use mathlib.Core.Path.{_≡_};
 ghost use lib.ListN.{length};
-ghost use Rattle.c_answers.specs.Answers.{orNone, answerOfValue, answerOfCause, answerOfInverted, answerOfFolded};
+ghost use Rattle.c_answers.specs.Answers.{orNone, answerOfValue, answerOfCause, answerOfFolded};
 ghost use Rattle.c_answers.specs.Answers.{answerOfOutcome, answerOfProved, answerOfPart, answerOfVerdict};
 ghost use Rattle.c_answers.specs.Answers.{numbersOf};
 
@@ -37,7 +36,7 @@ fn or_none(p: Position) -> u64
 }
 
 impl Answer {
-    fn of_value(reads: u64, value: u64) -> Answer
+    pub fn of_value(reads: u64, value: u64) -> Answer
         ensures { λ r. ⌜ r ≡ answerOfValue reads value ⌝ }
     {
         Answer {
@@ -58,15 +57,6 @@ impl Answer {
             round: or_none(cause.round()),
             reads,
             value: NONE,
-        }
-    }
-
-    pub fn of_inverted(inverted: Inverted) -> Answer
-        ensures { λ r. ⌜ r ≡ answerOfInverted inverted ⌝ }
-    {
-        match inverted {
-            Inverted::Value(x) => Answer::of_value(0, x.0),
-            Inverted::Refused(cause) => Answer::of_cause(cause, 0),
         }
     }
 

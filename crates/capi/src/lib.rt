@@ -3,9 +3,9 @@ use c_answers::Answer;
 use field::Element;
 use layout::Parameters;
 ghost use mathlib.Core.Path.{_≡_};
+ghost use mathlib.Core.List.{map};
 ghost use lib.ListN.{length};
-ghost use Rattle.gf64.specs.Field.{sum, product};
-ghost use Rattle.field.specs.Answers.{invertedOf};
+ghost use Rattle.gf64.specs.Field.{sum, product, inverse};
 ghost use Rattle.reed_solomon.specs.Answers.{encodeOutcome, interpolateOutcome, valuesAfter, coefficientsAfter};
 ghost use Rattle.lone_fold.specs.Calls.{FoldCall};
 ghost use Rattle.fri.specs.Judge.{verdictOf};
@@ -15,7 +15,7 @@ ghost use Rattle.layout.specs.Lengths.{lengthsOf};
 ghost use Rattle.transcript.specs.Judge.{transcriptVerdict};
 ghost use Rattle.sheet_text.specs.Sheet.{transcriptSheet, inFront};
 ghost use Rattle.writer.specs.Lengths.{transcriptLengthOf};
-ghost use Rattle.c_answers.specs.Answers.{answerOfInverted, answerOfOutcome, answerOfPart, answerOfVerdict};
+ghost use Rattle.c_answers.specs.Answers.{answerOfValue, answerOfOutcome, answerOfPart, answerOfVerdict};
 ghost use Rattle.c_answers.specs.Answers.{answered, whereAnswered};
 ghost use Rattle.capi.specs.Calls.{FoldAnswered, ProofAnswered, WriteAnswered};
 
@@ -38,12 +38,19 @@ pub extern "C" fn rz_product(a: u64, b: u64) -> u64
 
 #[no_mangle]
 pub extern "C" fn rz_inverse(a: u64, answer: &mut [u64])
-    ensures { λ _. ⌜ now (answer .exit) ≡ answered (answerOfInverted (invertedOf a)) (now (answer .entry)) ⌝ }
+    ensures { λ _. ⌜ now (answer .exit) ≡ answered (answerOfValue 0 (inverse a)) (now (answer .entry)) ⌝ }
 {
     if answer.len() != ANSWER_LENGTH {
         return;
     }
-    Answer::of_inverted(Element(a).inverse()).write(answer);
+    Answer::of_value(0, Element(a).inverse().0).write(answer);
+}
+
+#[no_mangle]
+pub extern "C" fn rz_invert(list: &mut [u64])
+    ensures { λ _. ⌜ now (list .exit) ≡ map inverse (now (list .entry)) ⌝ }
+{
+    list_inverse::invert(list);
 }
 
 #[no_mangle]

@@ -292,6 +292,11 @@ elements-not-zero (suc n) (b ∷ basis) h d = (
   elements-not-zero n (map (oneStep b) basis) (mapped-elements b basis (h .1)) (independent-step b basis h d),
 )
 
+-- the same for a list that is said to be theirs
+pub listed-not-zero : (n : ℕ) (basis elements : List ℕ) → All IsElement basis → Independent basis
+    → elements ≡ stepElements n basis → All (λ e. e ≢ 0) elements
+listed-not-zero n basis elements h d e = subst (All (λ e. e ≢ 0)) (sym e) (elements-not-zero n basis h d)
+
 -- ---- zero exactly on the span
 
 pub zero-through : (n : ℕ) (basis : List ℕ) (x : ℕ) → All IsElement basis → IsElement x

@@ -97,11 +97,6 @@ fn inverses_of(basis: &[u64], elements: &[u64]) -> [u64; 20]
     ensures { λ r. ⌜ r ≡ padded gf64 20 (map inverse (now (elements .entry))) ⌝ }
 {
     let mut inverses = [0u64; 20];
-    let mut t: usize = 0;
-    while t < basis.len() {
-        let e = elements[t];
-        inverses[t] = Element(e).inverse_of_nonzero().0;
-        t += 1;
-    }
+    list_inverse::inverses_of_nonzero(elements, &mut inverses);
     inverses
 }

@@ -4,12 +4,13 @@
 // halved points are moved as well, by the image of the challenge, and no halving needs the challenge itself.
 use field::Element;
 ghost use mathlib.Core.Path.{_≡_};
+ghost use mathlib.Core.Logic.{_≢_};
 ghost use mathlib.Core.List.{map};
 ghost use Prim.Native.Nat.{suc, _*_, _/_, _^_, _≤_};
 ghost use lib.ListN.{length, getD, take};
 ghost use Rattle.gf64.specs.Field.{sum, inverse};
 ghost use Rattle.poly.specs.Carrier.{gf64};
-ghost use Rattle.poly.specs.Polynomial.{padded};
+ghost use Rattle.poly.specs.Polynomial.{All, padded};
 ghost use Rattle.coset.specs.Coset.{points};
 ghost use Rattle.fold.specs.Halving.{lineAt, halvedPoints, halvedEntries, valueAt};
 ghost use Rattle.coset_value.specs.Cosets.{elements, numbers, cosetOf, cosetRead};
@@ -124,15 +125,11 @@ impl Coset {
 
 // The inverses of at most three elements, and zeros. None of a step's elements is zero (`Subspaces.elements`).
 pub fn inverses_of(elements: &[u64]) -> [u64; 3]
-    requires { ⌜ length (now elements) ≤ 3 ⌝ }
+    requires { ⌜ (length (now elements) ≤ 3) × All (λ e. e ≢ 0) (now elements) ⌝ }
     ensures { λ r. ⌜ r ≡ padded gf64 3 (map inverse (now (elements .entry))) ⌝ }
 {
     let mut inverses = [0u64; 3];
-    let mut t: usize = 0;
-    while t < elements.len() {
-        inverses[t] = Element(elements[t]).inverse_or_zero().0;
-        t += 1;
-    }
+    list_inverse::inverses_of_nonzero(elements, &mut inverses);
     inverses
 }
 

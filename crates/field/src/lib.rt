@@ -2,21 +2,13 @@
 // modulo t^64 + t^4 + t^3 + t + 1.
 pub mod reduction;
 
-use refusal::Cause;
 ghost use mathlib.Core.Path.{_≡_};
 ghost use mathlib.Core.Logic.{_≢_};
 ghost use Prim.Native.Nat.{_^_};
 ghost use Rattle.gf64.specs.Polynomial.{remainder};
 ghost use Rattle.gf64.specs.Field.{sum, product, power, inverse};
-ghost use Rattle.field.specs.Answers.{invertedOf, numberOfInverted};
 
 pub struct Element(pub u64);
-
-// What `inverse` answers.
-pub enum Inverted {
-    Value(Element),
-    Refused(Cause),
-}
 
 impl Element {
     pub const ZERO: Element = Element(0);
@@ -39,26 +31,20 @@ impl Element {
         Element(reduction::product(self.0, other.0))
     }
 
-    // Number 15 where self is zero.
-    pub fn inverse(self) -> Inverted
-        ensures answer { λ r. ⌜ r ≡ invertedOf (self .0) ⌝ }
-        ensures refuses { λ r. do
+    // The inverse, self^(2^64 - 2); as in AES, zero has zero for its inverse.
+    pub fn inverse(self) -> Element
+        ensures value { λ r. ⌜ r .0 ≡ inverse (self .0) ⌝ }
+        ensures of_zero { λ r. do
           zero ← ⟦Element::ZERO.0⟧ .entry
-          ⌜ (self .0 ≡ zero → numberOfInverted r ≡ 15) ⌝ }
+          ⌜ (self .0 ≡ zero → r .0 ≡ zero) ⌝ }
         ensures inverts { λ r. do
+          zero ← ⟦Element::ZERO.0⟧ .entry
           one ← ⟦Element::ONE.0⟧ .entry
-          ⌜ ((x : Element) → r ≡ Inverted.Value x → product (self .0) (x .0) ≡ one) ⌝ }
+          ⌜ (self .0 ≢ zero → product (self .0) (r .0) ≡ one) ⌝ }
     {
         if self.0 == Element::ZERO.0 {
-            return Inverted::Refused(Cause::InverseOfZero);
+            return Element::ZERO;
         }
-        Inverted::Value(self.inverse_or_zero())
-    }
-
-    // self^(2^64 - 2): the inverse, or zero where self is zero.
-    pub fn inverse_or_zero(self) -> Element
-        ensures { λ r. ⌜ r .0 ≡ inverse (self .0) ⌝ }
-    {
         // ones_n is self^(2^n - 1), whose exponent has n bits, all set.
         let ones_2 = self.raised(1, self);
         let ones_3 = ones_2.raised(1, self);
@@ -71,12 +57,12 @@ impl Element {
         ones_63.squared(1)
     }
 
-    // The inverse, for a caller that shows that there is one.
+    // The inverse, for a caller that divides: it shows that self is not zero.
     pub fn inverse_of_nonzero(self) -> Element
         requires { ⌜ self .0 ≢ 0 ⌝ }
         ensures { λ r. ⌜ r .0 ≡ inverse (self .0) ⌝ }
     {
-        self.inverse_or_zero()
+        self.inverse()
     }
 
     // self^(2^n) · other.
@@ -93,7 +79,7 @@ impl Element {
         let mut x = self.0;
         let mut i: usize = 0;
         while i < n {
-            x = reduction::product(x, x);
+            x = reduction::square(x);
             i += 1;
         }
         Element(x)

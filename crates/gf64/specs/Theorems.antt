@@ -45,7 +45,7 @@ pub record ProductRing : Type 0 where
   pub one-neutral : (a : ℕ) → IsElement a → product 1 a ≡ a
   pub square-additive : (a b : ℕ) → product (sum a b) (sum a b) ≡ sum (product a a) (product b b)
 
--- every nonzero element has exactly one inverse, `inverse`; there are no zero divisors
+-- every nonzero element has exactly one inverse, `inverse`, which gives zero for zero; there are no zero divisors
 pub record Inverses : Type 0 where
   pub closed : (a : ℕ) → IsElement (inverse a)
   pub inverts : (a : ℕ) → IsElement a → a ≢ 0 → product a (inverse a) ≡ 1

@@ -1,7 +1,8 @@
 -- Newton's form over the points of a coset, one coefficient after the other. Assumes nothing.
 use mathlib.Core.Path.{_≡_, refl, sym, ap, ap₂, _∙_, subst}
+use mathlib.Core.Logic.{_≢_}
 use mathlib.Core.List.{List, [], _∷_, _++_}
-use Prim.Native.Nat.{ℕ, zero, suc, _+_, _≤_, _<_}
+use Prim.Native.Nat.{ℕ, zero, suc, _+_, _^_, _≤_, _<_}
 use native.Mathlib.Nat.{le-of-lt}
 use native.Mathlib.Numerals.{add-one}
 use native.Mathlib.Omega.{arith}
@@ -11,10 +12,15 @@ use lib.Bits.{bitXor, xor-zero-r}
 use Rattle.gf64.specs.Field.{IsElement, sum, product, inverse}
 use Rattle.gf64.proofs.Ring.{product-zero-r}
 use Rattle.poly.specs.Carrier.{gf64}
+use Rattle.poly.specs.Polynomial.{All, Distinct}
 use Rattle.poly.specs.Newton.{newtonValue, vanishing, newtonCoefficient, newtonCoefficients}
 use Rattle.poly.proofs.AtField.{gf64-laws}
+use Rattle.poly.proofs.Entries.{all-at, all-take}
 use Rattle.poly.proofs.Filling.{filled}
 use Rattle.poly.proofs.Newton.{newton-split, vanishing-last, newtonCoefficients-getD, length-newtonCoefficients}
+use Rattle.poly.proofs.Newton.{vanishing-not-zero}
+use Rattle.coset.specs.Coset.{points}
+use Rattle.coset.proofs.Points.{points-elements, all-elements}
 
 -- one point, one coefficient
 single : (x c z : ℕ) → newtonValue gf64 (x ∷ []) (c ∷ []) z ≡ c
@@ -99,3 +105,27 @@ module _ (points word held now : List ℕ) (i z y : ℕ) (same : length points �
       ap₂ (λ (n : ℕ) (cs : List ℕ). newtonCoefficient gf64 (take n points) cs z y) known-length known
       ∙ ap₂ (newtonCoefficient gf64 (take i points) (take i (newtonCoefficients gf64 points word))) at value
       ∙ sym (newtonCoefficients-getD gf64 0 points word i same (omega arith))
+
+-- ---- no point comes twice
+
+none-before : (xs : List ℕ) (i : ℕ) → Distinct xs → i < length xs → All (λ x. getD xs i 0 ≢ x) (take i xs)
+none-before [] i d h = absurd (omega arith)
+none-before (x ∷ xs) zero d h = record {}
+none-before (x ∷ xs) (suc i) d h =
+    (all-at (λ y. y ≢ x) xs i 0 (d .0) (omega arith), none-before xs i (d .1) (omega arith))
+
+-- a point is none of those passed before it
+pub none-passed : (xs : List ℕ) (i n z : ℕ) → Distinct xs → i < length xs → n ≡ i → z ≡ getD xs i 0
+    → All (λ x. z ≢ x) (take n xs)
+none-passed xs i n z d h e ez =
+    subst (λ (m : ℕ). All (λ x. z ≢ x) (take m xs)) (sym e)
+    (subst (λ (y : ℕ). All (λ x. y ≢ x) (take i xs)) (sym ez) (none-before xs i d h))
+
+-- so the vanishing polynomial of the points passed is not zero at z
+pub not-passed : (offset : ℕ) (basis : List ℕ) (j n z w : ℕ) → IsElement offset → IsElement z
+    → ((i : ℕ) → getD basis i 0 < 2 ^ 64) → j ≡ n → All (λ x. z ≢ x) (take n (points offset basis))
+    → w ≡ vanishing gf64 (take j (points offset basis)) z → w ≢ 0
+not-passed offset basis j n z w eo ez eb e apart h zero-here =
+    vanishing-not-zero gf64 IsElement gf64-laws (take n (points offset basis)) z
+    (all-take IsElement n (points offset basis) (points-elements offset basis eo (all-elements basis eb))) ez apart
+    (ap (λ (m : ℕ). vanishing gf64 (take m (points offset basis)) z) (sym e) ∙ sym h ∙ zero-here)

@@ -1,9 +1,11 @@
 // Interpolation over a coset of at most 2^12 points, in the place of the values: Newton's form, then its expansion.
 use field::Element;
 ghost use mathlib.Core.Path.{_≡_};
+ghost use mathlib.Core.Logic.{_≢_};
 ghost use Prim.Native.Nat.{_^_, _≤_};
 ghost use lib.ListN.{length, take};
 ghost use Rattle.poly.specs.Carrier.{gf64};
+ghost use Rattle.poly.specs.Polynomial.{All};
 ghost use Rattle.poly.specs.Newton.{newtonCoefficient, newtonCoefficients, hornerStep, expanded};
 ghost use Rattle.coset.specs.Coset.{points};
 ghost use Rattle.coset.specs.Span.{Independent};
@@ -21,7 +23,8 @@ pub fn interpolate_in_place(offset: Element, basis: &[u64], values: &mut [u64])
 
 // Newton's coefficients in the place of the values, each from those before it.
 fn fill_newton(offset: Element, basis: &[u64], coefficients: &mut [u64])
-    requires { ⌜ (length (now basis) ≤ 12) × (length (now coefficients) ≡ 2 ^ length (now basis)) ⌝ }
+    requires { ⌜ (length (now basis) ≤ 12) × Independent (now basis)
+        × (length (now coefficients) ≡ 2 ^ length (now basis)) ⌝ }
     ensures { λ _.
         let all = points (offset .0) (now (basis .entry)) in
         ⌜ now (coefficients .exit) ≡ newtonCoefficients gf64 all (now (coefficients .entry)) ⌝ }
@@ -35,7 +38,8 @@ fn fill_newton(offset: Element, basis: &[u64], coefficients: &mut [u64])
     }
 }
 
-// The coefficient that gives Newton's form, of which the known ones come first, the value y at z.
+// The coefficient that gives Newton's form, of which the known ones come first, the value y at z, which is none of the
+// points passed: so what is divided by is not zero (`Interpolation.divisor`).
 fn newton_coefficient(
     offset: Element,
     basis: &[u64],
@@ -43,7 +47,8 @@ fn newton_coefficient(
     z: Element,
     y: Element,
 ) -> Element
-    requires { ⌜ (length (now basis) ≤ 12) × (length (now known) ≤ 2 ^ length (now basis)) ⌝ }
+    requires { ⌜ (length (now basis) ≤ 12) × (length (now known) ≤ 2 ^ length (now basis))
+        × All (λ x. z .0 ≢ x) (take (length (now known)) (points (offset .0) (now basis))) ⌝ }
     ensures { λ r.
         let passed = take (length (now (known .entry))) (points (offset .0) (now (basis .entry))) in
         ⌜ r .0 ≡ newtonCoefficient gf64 passed (now (known .entry)) (z .0) (y .0) ⌝ }
@@ -59,7 +64,7 @@ fn newton_coefficient(
         j += 1;
         x = points::stepped(&sums, x, j);
     }
-    y.sum(value).product(vanishing.inverse_or_zero())
+    y.sum(value).product(vanishing.inverse_of_nonzero())
 }
 
 // From Newton's form to the polynomial, from the last point to the first.

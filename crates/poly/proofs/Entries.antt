@@ -2,8 +2,9 @@
 -- the entries of a repeated value. Assumes nothing.
 use mathlib.Core.Path.{_≡_, refl, ap, ap₂}
 use mathlib.Core.List.{List, [], _∷_, _++_, map}
-use Prim.Native.Nat.{ℕ, zero, suc}
-use lib.ListN.{take, drop, getD, replicate}
+use Prim.Native.Nat.{ℕ, zero, suc, _<_}
+use native.Mathlib.Omega.{arith}
+use lib.ListN.{length, take, drop, getD, replicate}
 use Rattle.poly.specs.Polynomial.{All}
 
 module _ {A : Type 0} (P : A → Type 0) where
@@ -33,6 +34,11 @@ module _ {A : Type 0} (P : A → Type 0) where
   all-getD [] i a h all = h
   all-getD (x ∷ xs) zero a h all = all .0
   all-getD (x ∷ xs) (suc i) a h all = all-getD xs i a h (all .1)
+
+  pub all-at : (xs : List A) (i : ℕ) (a : A) → All P xs → i < length xs → P (getD xs i a)
+  all-at [] i a all h = absurd (omega arith)
+  all-at (x ∷ xs) zero a all h = all .0
+  all-at (x ∷ xs) (suc i) a all h = all-at xs i a (all .1) (omega arith)
 
 -- from one predicate to another
 pub all-map : {A B : Type 0} (P : A → Type 0) (Q : B → Type 0) (f : A → B) → ((a : A) → P a → Q (f a)) → (xs : List A)

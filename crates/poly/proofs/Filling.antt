@@ -1,19 +1,21 @@
 -- A list that is being filled from the front: j entries of the target, and after them those it held
 -- before. Assumes nothing.
 use mathlib.Core.Path.{_≡_, refl, sym, ap, ap₂, _∙_}
-use mathlib.Core.List.{List, [], _∷_, _++_, map, append-nil}
+use mathlib.Core.List.{List, [], _∷_, _++_, map, append-nil, append-assoc}
 use mathlib.Core.Logic.{_⊎_, inl, inr, ⊎-elim}
 use Prim.Native.Nat.{ℕ, zero, suc, _+_, _-_, _≤_, _<_}
 use native.Mathlib.Nat.{le-trans}
 use native.Mathlib.Numerals.{add-one}
 use native.Mathlib.Omega.{arith}
-use lib.ListN.{length, getD, take, drop, set, replicate, length-replicate, length-append}
+use lib.ListN.{length, getD, take, drop, set, replicate, length-replicate, length-append, length-map}
 use lib.ListN.{length-drop, drop-of-length-le, List·getD-eq-default, List·getD-append}
 use lib.Seq.{ext-getD, take-append-seam, take-at, take-append-le, length-take-le, getD-append-add, getD-drop}
+use lib.Seq.{drop-at, take-add, drop-drop}
+use borrow.Rule.Slice.PartMut.{midOf, putMid}
 use Rattle.poly.specs.Carrier.{gf64}
 use Rattle.poly.specs.Polynomial.{padded}
 use Rattle.poly.proofs.Evaluation.{length-padded}
-use Rattle.poly.proofs.Entries.{getD-replicated}
+use Rattle.poly.proofs.Entries.{getD-replicated, map-take, map-drop}
 
 unfoldable pub filled : List ℕ → List ℕ → ℕ → List ℕ
 filled target held j = take j target ++ drop j held
@@ -99,6 +101,36 @@ filled-all target held j h e =
     filled-done target held j e
     (λ i l. List·getD-eq-default target 0 (omega arith) ∙ sym (List·getD-eq-default held 0 (le-trans h l)))
 
+-- a part of a list that is being filled, and the list with the target's part in its place
+module _ (target held : List ℕ) (p n : ℕ) (same : length target ≡ length held) (inside : p + n ≤ length held) where
+  taken : length (take p target) ≡ p
+  taken = length-take-le p target (omega arith)
+
+  pub part-held : midOf p n (filled target held p) ≡ take n (drop p held)
+  unfolding filled
+  part-held = ap (take n) (drop-at (take p target) (drop p held) p taken)
+
+  pub part-filled : putMid p n (filled target held p) (take n (drop p target)) ≡ filled target held (p + n)
+  unfolding filled
+  part-filled =
+      ap₂ (λ (x y : List ℕ). x ++ (take n (drop p target) ++ drop n y)) (take-at (take p target)
+      (drop p held) p taken)
+      (drop-at (take p target) (drop p held) p taken)
+      ∙ sym (append-assoc (take p target) (take n (drop p target)) (drop n (drop p held)))
+      ∙ ap₂ (λ (x y : List ℕ). x ++ y) (sym (take-add p n target)) (drop-drop n p held)
+
+-- the same where the target is that of f, entry by entry
+pub mapped-next : (f : ℕ → ℕ) (held now changed : List ℕ) (at end : ℕ) → at ≤ end → end ≤ length held
+    → now ≡ filled (map f held) held at → changed ≡ map f (midOf at (end - at) now)
+    → putMid at (end - at) now changed ≡ filled (map f held) held end
+mapped-next f held now changed at end up inside inv e =
+    ap₂ (putMid at (end - at)) inv
+    (e ∙ ap (λ (l : List ℕ). map f (midOf at (end - at) l)) inv
+    ∙ ap (map f) (part-held (map f held) held at (end - at) (length-map held f) (omega arith))
+    ∙ map-take f (end - at) (drop at held) ∙ ap (take (end - at)) (map-drop f at held))
+    ∙ part-filled (map f held) held at (end - at) (length-map held f) (omega arith)
+    ∙ ap (filled (map f held) held) (omega arith)
+
 -- ---- zeros at the end
 
 getD-followed : (p : List ℕ) (n i : ℕ) → getD (p ++ replicate n 0) i 0 ≡ getD p i 0
@@ -149,6 +181,11 @@ drop-zeros (suc m) (suc n) l e = drop-zeros m n l (omega arith)
 pub padded-front : (n : ℕ) (front : List ℕ) → front ++ drop (length front) (replicate n 0) ≡ padded gf64 n front
 unfolding padded
 padded-front n front = ap {B = List ℕ} (λ l. front ++ l) (drop-zeros (length front) n (n - length front) refl)
+
+pub padded-mapped : (n : ℕ) (f : ℕ → ℕ) (l : List ℕ)
+    → map f l ++ drop (length l) (replicate n 0) ≡ padded gf64 n (map f l)
+padded-mapped n f l =
+    ap (λ (m : ℕ). map f l ++ drop m (replicate n 0)) (sym (length-map l f)) ∙ padded-front n (map f l)
 
 -- ---- the front of a list that may be longer
 

@@ -5,6 +5,7 @@ use Rattle.poly.proofs.Evaluation.{evaluate-padded}
 use Rattle.poly.proofs.Roots.{root-bound-degree, unique}
 use Rattle.poly.proofs.Interpolation.{length-interpolant, interpolant-elements}
 use Rattle.poly.proofs.Interpolation.{interpolant-agrees, interpolant-recovers}
+use Rattle.poly.proofs.Newton.{vanishing-not-zero}
 use Rattle.poly.proofs.Vanishing.{evaluate-vanishing, vanishing-leading}
 use Rattle.poly.proofs.Identity.{rows-identity}
 use Rattle.poly.proofs.Rows.{length-rows, rows-lengths, rows-evaluate, rows-degree, degree-of-rows}
@@ -20,6 +21,7 @@ interpolation A F Element L =
       agrees = interpolant-agrees F Element L;
       padding = evaluate-padded F Element L;
       recovers = interpolant-recovers F Element L;
+      divisor = vanishing-not-zero F Element L;
     }
 
 root-product : (A : Type 0) (F : Operations A) (Element : A → Type 0) → Laws A F Element → RootProduct A F

@@ -1,7 +1,7 @@
 -- What is proved of polynomials, as statements: proofs/Theorems.antt has a value of `OverEveryCarrier` and
 -- proofs/AtField.antt one of `AtField`.
 use mathlib.Core.Path.{_≡_}
-use mathlib.Core.Logic.{_↔_}
+use mathlib.Core.Logic.{_↔_, _≢_}
 use mathlib.Core.List.{List, map}
 use Prim.Native.Nat.{ℕ, _+_, _*_, _≤_}
 use lib.ListN.{length, drop, getD}
@@ -36,6 +36,9 @@ pub record Interpolation (A : Type 0) (F : Operations A) (Element : A → Type 0
   -- from the values of p at the points the interpolant is p again, zeros filled in
   pub recovers : (p points : List A) → All Element p → All Element points → Distinct points → length p ≤ length points
       → interpolant F points (map (evaluate F p) points) ≡ padded F (length points) p
+  -- what Newton's form is divided by at a new point: it is not zero
+  pub divisor : (points : List A) (z : A) → All Element points → Element z → All (λ x. z ≢ x) points
+      → vanishing F points z ≢ F .zero
 
 -- the product of X - a over a list of roots
 pub record RootProduct (A : Type 0) (F : Operations A) : Type 0 where

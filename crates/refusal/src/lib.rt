@@ -1,4 +1,5 @@
-// The causes of a refusal, each with its number and its place. A number, once given, keeps its cause for good.
+// The causes of a refusal, each with its number and its place. A number, once given, keeps its cause for good: 15, the
+// inverse of zero, is retired and not used again.
 ghost use mathlib.Core.Path.{_≡_};
 ghost use Rattle.refusal.specs.Numbers.{numberOf, placeOf, roundOf};
 
@@ -34,8 +35,6 @@ pub enum Cause {
     WrongLength { list: usize },
     // 14: the program's input has over 65,536 bytes
     InputTooLong,
-    // 15: the inverse of zero
-    InverseOfZero,
     // 16: a later layer's basis is dependent; the round whose fold gives that layer
     LaterBasisDependent { round: usize },
     // 17: two queries share a first-layer coset; the first query that lies in the coset of an earlier one
@@ -73,7 +72,6 @@ impl Cause {
             Cause::DegreeTooLarge { degree: _ } => 12,
             Cause::WrongLength { list: _ } => 13,
             Cause::InputTooLong => 14,
-            Cause::InverseOfZero => 15,
             Cause::LaterBasisDependent { round: _ } => 16,
             Cause::CosetShared { query: _ } => 17,
         }
@@ -97,7 +95,6 @@ impl Cause {
             Cause::DegreeTooLarge { degree } => Position::At(degree),
             Cause::WrongLength { list } => Position::At(list),
             Cause::InputTooLong => Position::Absent,
-            Cause::InverseOfZero => Position::Absent,
             Cause::LaterBasisDependent { round: _ } => Position::Absent,
             Cause::CosetShared { query } => Position::At(query),
         }
@@ -121,7 +118,6 @@ impl Cause {
             Cause::DegreeTooLarge { degree: _ } => Position::Absent,
             Cause::WrongLength { list: _ } => Position::Absent,
             Cause::InputTooLong => Position::Absent,
-            Cause::InverseOfZero => Position::Absent,
             Cause::LaterBasisDependent { round } => Position::At(round),
             Cause::CosetShared { query: _ } => Position::Absent,
         }

@@ -5,9 +5,13 @@ use field::Element;
 use layer_cosets::LayerCoset;
 use layout::Parameters;
 ghost use mathlib.Core.Path.{_≡_};
+ghost use mathlib.Core.Logic.{_≢_};
 ghost use mathlib.Core.Bool.{true};
 ghost use Prim.Native.Nat.{_+_, _^_, _≤_, _<_, min};
 ghost use lib.ListN.{length};
+ghost use Rattle.poly.specs.Polynomial.{All};
+ghost use Rattle.coset.specs.Span.{Independent};
+ghost use Rattle.coset.specs.Steps.{stepElements};
 ghost use Rattle.layout.specs.Parameters.{stepsBy, Valid};
 ghost use Rattle.layer_cosets.specs.Cosets.{basisOf};
 ghost use Rattle.round_checks.specs.Rounds.{roundOver, roundAt, Holds, queryPointAt, nextQueryPoint};
@@ -31,9 +35,10 @@ pub struct QueryPoint {
     pub point: Element,
 }
 
-// All rounds. What is inverted is inverted here, before the queries: the elements of each round's maps.
+// All rounds. What is inverted is inverted here, before the queries: the elements of each round's maps. None of them is
+// zero, since the bases of all layers are independent.
 pub fn set_up(parameters: Parameters, basis: &[u64], challenges: &[u64]) -> [Round; 19]
-    requires { ⌜ Valid parameters × (length (now basis) ≡ parameters .k)
+    requires { ⌜ Valid parameters × (length (now basis) ≡ parameters .k) × Independent (now basis)
         × (length (now challenges) ≡ length (stepsBy parameters)) ⌝ }
     ensures { λ r.
         let round = roundAt parameters (now (basis .entry)) (now (challenges .entry)) in
@@ -65,7 +70,8 @@ pub fn set_up(parameters: Parameters, basis: &[u64], challenges: &[u64]) -> [Rou
 
 impl Round {
     fn over(coset: LayerCoset, step: usize, challenge: Element, start: usize, next: usize) -> Round
-        requires { ⌜ (step ≤ 3) × (step ≤ coset .dimension) × (coset .dimension ≤ 20) ⌝ }
+        requires { ⌜ (step ≤ 3) × (step ≤ coset .dimension) × (coset .dimension ≤ 20)
+            × All (λ e. e ≢ 0) (stepElements step (basisOf coset)) ⌝ }
         ensures { λ r. ⌜ r ≡ roundOver step (basisOf coset) (challenge .0) start next ⌝ }
     {
         let elements = coset.step_elements(step);

@@ -14,6 +14,7 @@ use Rattle.gf64.proofs.Ring.{product-lt, product-comm, product-add-r, product-a
 use Rattle.gf64.proofs.Ring.{product-one-r, product-left-comm, product-swap}
 use Rattle.gf64.proofs.Inverse.{inverse-right}
 use Rattle.poly.specs.Polynomial.{All}
+use Rattle.poly.proofs.Entries.{all-at}
 use Rattle.poly.proofs.Filling.{getD-map}
 use Rattle.coset.specs.Coset.{point}
 use Rattle.coset.specs.Span.{Independent}
@@ -21,11 +22,6 @@ use Rattle.coset.specs.Steps.{oneStep, composedMaps, stepElements}
 use Rattle.coset.proofs.Steps.{through-additive, through-point, elements-of-prefix, length-elements}
 use Rattle.coset.proofs.Steps.{element-at, elements-not-zero, mapped-elements}
 use Rattle.transform.specs.Transform.{ratioOf, normalisedAt}
-
-all-at : (P : ℕ → Type 0) (xs : List ℕ) (i : ℕ) → All P xs → i < length xs → P (getD xs i 0)
-all-at P [] i h l = absurd (omega arith)
-all-at P (x ∷ xs) zero h l = h .0
-all-at P (x ∷ xs) (suc i) h l = all-at P xs i (h .1) (omega arith)
 
 -- the elements of a shorter step are the first ones
 take-elements : (n k : ℕ) (basis : List ℕ) → n ≤ k → take n (stepElements k basis) ≡ stepElements n basis
@@ -99,8 +95,8 @@ module _ (basis : List ℕ) (elements : All IsElement basis) (independent : Inde
   divides j h =
       ap (product (getD es j 0)) (getD-map inverse es j (omega (arith, counted)))
       ∙ inverse-right (getD es j 0)
-      (all-at IsElement es j (steps-element (length basis) basis elements) (omega (arith, counted)))
-      (all-at (λ e. e ≢ 0) es j (elements-not-zero (length basis) basis elements independent) (omega
+      (all-at IsElement es j 0 (steps-element (length basis) basis elements) (omega (arith, counted)))
+      (all-at (λ e. e ≢ 0) es j 0 (elements-not-zero (length basis) basis elements independent) (omega
       (arith, counted)))
 
   divides-back : (j : ℕ) → j < k → product (getD ds j 0) (getD es j 0) ≡ 1
@@ -171,11 +167,3 @@ module _ (basis : List ℕ) (elements : All IsElement basis) (independent : Inde
       ∙ through-append (take j es) (getD es j 0 ∷ []) x)
       ∙ next-product (getD es (suc j) 0) (getD ds j 0) (getD ds (suc j) 0) (getD es j 0) (composedMaps (take j es) x)
       (divides (suc j) h) (divides-back j (omega arith))
-
--- what is inverted is not zero
-pub element-not-zero : (basis elements : List ℕ) (t : ℕ) → All IsElement basis → Independent basis
-    → elements ≡ stepElements (length basis) basis → t < length basis → getD elements t 0 ≢ 0
-element-not-zero basis elements t eb d e h =
-    subst (λ (l : List ℕ). getD l t 0 ≢ 0) (sym e)
-    (all-at (λ x. x ≢ 0) (stepElements (length basis) basis) t (elements-not-zero (length basis) basis eb d)
-    (omega (arith, length-elements (length basis) basis (le-refl (length basis)))))

@@ -1,6 +1,6 @@
 -- Runs times powers of r: the weights of r z become those of z; the powers of its inverse undo it. Assumes nothing.
 use mathlib.Core.Path.{_≡_, refl, sym, ap, ap₂, _∙_, subst}
-use mathlib.Core.List.{List, _∷_, _++_, map, append-assoc}
+use mathlib.Core.List.{List, _∷_, _++_, map}
 use Prim.Native.Nat.{ℕ, zero, suc, _+_, _*_, _/_, _%_, _^_, _<_, _≤_}
 use native.Mathlib.Nat.{zero-add, add-zero, div-eq-of-lt, mul-add-div-right, add-div-right, add-mod-right}
 use native.Mathlib.Nat.{suc-mul, mul-le-mul-right, div-lt-iff-lt-mul}
@@ -8,7 +8,7 @@ use native.Mathlib.Numerals.{add-one}
 use native.Mathlib.Omega.{arith}
 use lib.Pow.{pow-pos, pow-add, split, high}
 use lib.ListN.{length, getD, take, drop, length-append, length-drop, length-map, take-append-drop, List·getD-append}
-use lib.Seq.{ext-getD, getD-append-add, getD-take, getD-drop, length-take-le, take-at, drop-at, take-add, drop-drop}
+use lib.Seq.{ext-getD, getD-append-add, getD-take, getD-drop, length-take-le}
 use borrow.Rule.Slice.PartMut.{midOf, putMid}
 use Rattle.gf64.specs.Field.{IsElement, sum, product, power}
 use Rattle.gf64.proofs.Ring.{product-lt, product-comm, product-assoc, product-one-l}
@@ -16,7 +16,7 @@ use Rattle.gf64.proofs.Power.{power-zero, power-suc, power-add}
 use Rattle.poly.specs.Carrier.{gf64}
 use Rattle.poly.specs.Polynomial.{All, scale}
 use Rattle.poly.proofs.Entries.{all-getD}
-use Rattle.poly.proofs.Filling.{filled, filled-all, getD-map}
+use Rattle.poly.proofs.Filling.{filled, filled-all, getD-map, part-held, part-filled}
 use Rattle.coset.specs.Coset.{tabulated}
 use Rattle.coset.proofs.Points.{length-tabulated, getD-tabulated, all-tabulated, tabulated-agree, map-tabulated}
 use Rattle.coset.proofs.Points.{tabulated-part}
@@ -170,24 +170,6 @@ scaled-weighted r z ws (suc upper) s h =
     hb = block-drop m m s halves
 
 -- ---- run by run, as a loop goes
-
--- a part of a list that is being filled, and the list with the target's part in its place
-module _ (target held : List ℕ) (p n : ℕ) (same : length target ≡ length held) (inside : p + n ≤ length held) where
-  front : length (take p target) ≡ p
-  front = length-take-le p target (omega arith)
-
-  pub part-held : midOf p n (filled target held p) ≡ take n (drop p held)
-  unfolding filled
-  part-held = ap (take n) (drop-at (take p target) (drop p held) p front)
-
-  pub part-filled : putMid p n (filled target held p) (take n (drop p target)) ≡ filled target held (p + n)
-  unfolding filled
-  part-filled =
-      ap₂ (λ (x y : List ℕ). x ++ (take n (drop p target) ++ drop n y)) (take-at (take p target)
-      (drop p held) p front)
-      (drop-at (take p target) (drop p held) p front)
-      ∙ sym (append-assoc (take p target) (take n (drop p target)) (drop n (drop p held)))
-      ∙ ap₂ (λ (x y : List ℕ). x ++ y) (sym (take-add p n target)) (drop-drop n p held)
 
 -- at is a multiple of the run
 runs-whole : (lower at : ℕ) → at % 2 ^ lower ≡ 0 → at / 2 ^ lower * 2 ^ lower ≡ at

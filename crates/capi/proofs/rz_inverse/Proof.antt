@@ -3,15 +3,15 @@ use Rattle.c_answers.specs.declared.Answer.{Answer}
 use mathlib.Core.Path.{ap, _∙_}
 use native.Mathlib.Omega.{arith}
 use borrow.Author.Needs.{needs}
-use Rattle.field.specs.Answers.{invertedOf}
-use Rattle.c_answers.specs.Answers.{answerOfInverted, numbersOf}
+use Rattle.gf64.specs.Field.{inverse}
+use Rattle.c_answers.specs.Answers.{answerOfValue, numbersOf}
 use Rattle.c_answers.proofs.Five.{answered-five, answered-other}
 use Rattle.capi.proofs.rz_inverse.Statement.{statement}
 use Rattle.capi.proofs.rz_inverse.Tie as tie
 
 -- the inverse in C's numbers
 abbrev answer-at : tie.Start → Answer
-answer-at c = answerOfInverted (invertedOf (c .args .a))
+answer-at c = answerOfValue 0 (inverse (c .args .a))
 
 returns : tie.Need-returns
 returns c = let start = c .before .before in answered-other (answer-at start) (start .args .answer .now) (c .if1 .taken)
@@ -19,8 +19,8 @@ returns c = let start = c .before .before in answered-other (answer-at start) (s
 inverse-requires : tie.Need-inverse-requires
 inverse-requires c κs = search needs
 
-of-inverted-requires : tie.Need-of-inverted-requires
-of-inverted-requires c κs = search needs
+of-value-requires : tie.Need-of-value-requires
+of-value-requires c κs = search needs
 
 write-requires : tie.Need-write-requires
 write-requires c κs = search needs
@@ -31,13 +31,13 @@ same-length c = search needs
 returns-2 : tie.Need-returns-2
 returns-2 c =
     let write = c .before .before .write in
-    let told = c .before .before .before .before .of-inverted in
+    let told = c .before .before .before .before .of-value in
     let inverse = c .before .before .before .before .before in
     let start = inverse .before .before .before in
-    write .ensures ∙ ap numbersOf (told .ensures ∙ ap answerOfInverted (inverse .inverse .ensures .0))
+    write .ensures ∙ ap numbersOf (told .ensures ∙ ap (answerOfValue 0) (inverse .inverse .ensures .0))
     ∙ answered-five (answer-at start) (start .args .answer .now) (omega arith)
 
 pub rz-inverse-spec : {M : Type 1} → statement M
 rz-inverse-spec =
     tie.close
-    (tie.spec returns inverse-requires of-inverted-requires write-requires same-length returns-2)
+    (tie.spec returns inverse-requires of-value-requires write-requires same-length returns-2)

@@ -1,7 +1,7 @@
 -- `newton::fill_newton` meets its contract. The loop's invariant: i coefficients are filled in, the others are values
 -- still. Assumes nothing.
-use Rattle.newton.proofs.NewtonSteps.{coefficient-next}
-use Rattle.coset.proofs.Points.{length-points, getD-points}
+use Rattle.newton.proofs.NewtonSteps.{coefficient-next, none-passed}
+use Rattle.coset.proofs.Points.{length-points, getD-points, points-distinct}
 use Rattle.coset.specs.Coset.{point, points}
 use Rattle.poly.proofs.Newton.{length-newtonCoefficients}
 use Rattle.poly.proofs.Filling.{filled, filled-start, filled-next, filled-rest, filled-all}
@@ -59,7 +59,17 @@ newton-coefficient-requires : tie.Need-newton-coefficient-requires Inv-loop μ-l
 newton-coefficient-requires c κs =
     let start = c .before .before .before .before .before .before .before in
     let l = c .before .before .before .before .loop in
-    (start .pre .0, omega (arith, length-take-le (l .i) (l .coefficients) (omega arith), l .inv .2, start .pre .1))
+    let a = start .args in
+    let all = points (a .offset .0) (a .basis .now) in
+    let passed = length-take-le (l .i) (l .coefficients) (omega arith) in
+    let count = length-points (a .offset .0) (a .basis .now) in
+    let inside : l .i < length all = omega (arith, l .inv .2, start .pre .2, count) in (
+      start .pre .0,
+      omega (arith, passed, l .inv .2, start .pre .2),
+      none-passed all (l .i) _ _ (points-distinct (a .offset .0) (a .basis .now) (start .pre .1)) inside passed
+          (c .before .before .point .ensures
+          ∙ sym (getD-points (a .offset .0) (a .basis .now) (l .i) (omega (arith, l .inv .2, start .pre .2)))),
+    )
 
 mul-coefficients : tie.Need-mul-coefficients Inv-loop μ-loop
 mul-coefficients c = search needs
@@ -81,7 +91,7 @@ loop-again c =
     let values = a .coefficients .now in
     let all = points (a .offset .0) (a .basis .now) in
     let inside : l .i < length values = omega (arith, l .inv .2) in
-    let as-many : length all ≡ length values = length-points (a .offset .0) (a .basis .now) ∙ sym (start .pre .1) in
+    let as-many : length all ≡ length values = length-points (a .offset .0) (a .basis .now) ∙ sym (start .pre .2) in
     let counted = length-newtonCoefficients gf64 all values as-many ∙ as-many in (
       search needs,
       ap (λ (now : List ℕ). set now (l .i) (c .newton-coefficient .result .0)) (l .inv .1)
@@ -92,7 +102,7 @@ loop-again c =
           (getD (l .coefficients) (l .i) 0)
           as-many (sym as-many) inside
           (c .before .before .before .point .ensures
-          ∙ sym (getD-points (a .offset .0) (a .basis .now) (l .i) (omega (arith, start .pre .1))))
+          ∙ sym (getD-points (a .offset .0) (a .basis .now) (l .i) (omega (arith, start .pre .2))))
           (ap (λ (now : List ℕ). getD now (l .i) 0) (l .inv .1)
           ∙ filled-rest (newtonCoefficients gf64 all values) values (l .i) (l .i) (le-of-eq refl) counted)
           (l .inv .1)),
@@ -109,7 +119,7 @@ returns c =
     let l = c .before .loop in
     let all = points (a .offset .0) (a .basis .now) in
     let as-many : length all ≡ length (a .coefficients .now) = length-points (a .offset .0) (a .basis .now)
-    ∙ sym (start .pre .1) in
+    ∙ sym (start .pre .2) in
     l .inv .1
     ∙ filled-all (newtonCoefficients gf64 all (a .coefficients .now)) (a .coefficients .now) (l .i)
     (omega (arith, l .inv .2))

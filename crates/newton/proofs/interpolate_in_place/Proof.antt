@@ -28,7 +28,7 @@ values-elements : (c : tie.After-slice-known) → (i : ℕ) → getD (startOf c 
 values-elements c i = omega (arith, c .slice-known .given i)
 
 fill-newton-requires : tie.Need-fill-newton-requires
-fill-newton-requires c κs = let start = startOf (c .before) in (start .pre .0, start .pre .2)
+fill-newton-requires c κs = startOf (c .before) .pre
 
 expand-requires : tie.Need-expand-requires
 expand-requires c κs =

@@ -12,7 +12,7 @@ use Rattle.coset.specs.Coset.{point, points}
 use Rattle.coset.proofs.Dependence.{point-first}
 use Rattle.coset.proofs.Points.{length-points, getD-points}
 use Rattle.coset.proofs.Sequence.{point-stepped}
-use Rattle.newton.proofs.NewtonSteps.{value-next, vanishing-next, coefficient-end}
+use Rattle.newton.proofs.NewtonSteps.{value-next, vanishing-next, not-passed, coefficient-end}
 use borrow.Author.Needs.{needs}
 use native.Mathlib.Omega.{arith}
 use Rattle.newton.proofs.newton_coefficient.Statement.{statement}
@@ -100,8 +100,14 @@ loop-again c =
 sum-requires-3 : tie.Need-sum-requires-3 Inv-loop μ-loop
 sum-requires-3 c κs = search needs
 
-inverse-or-zero-requires : tie.Need-inverse-or-zero-requires Inv-loop μ-loop
-inverse-or-zero-requires c κs = search needs
+inverse-of-nonzero-requires : tie.Need-inverse-of-nonzero-requires Inv-loop μ-loop
+inverse-of-nonzero-requires c κs =
+    let at = c .before .before in
+    let start = startOf at in
+    let l = at .loop in
+    not-passed (start .args .offset .0) (start .args .basis .now) (l .j) (length (start .args .known .now))
+    (start .args .z .0) (l .vanishing .0) (search needs) (search needs)
+    (λ i. omega (arith, at .before .before .before .shared-slice-known .given i)) (omega arith) (start .pre .2) (l .inv .2)
 
 product-requires-3 : tie.Need-product-requires-3 Inv-loop μ-loop
 product-requires-3 c κs = search needs
@@ -110,7 +116,7 @@ returns : tie.Need-returns Inv-loop μ-loop
 returns c =
     let a = c .before .before .before .before .before .before .before .before .args in
     let l = c .before .before .before .before .loop in
-    c .product3 .ensures .0 ∙ ap₂ product (c .before .before .sum3 .ensures) (c .before .inverse-or-zero .ensures)
+    c .product3 .ensures .0 ∙ ap₂ product (c .before .before .sum3 .ensures) (c .before .inverse-of-nonzero .ensures)
     ∙ coefficient-end (points (a .offset .0) (a .basis .now)) (a .known .now) (l .j) (a .z .0) (a .y .0) (l .value .0)
     (l .vanishing .0)
     (l .inv .0) (c .before .before .before .loop-test .left) (l .inv .1) (l .inv .2)
@@ -135,6 +141,6 @@ newton-coefficient-spec =
     loop-less
     loop-again
     sum-requires-3
-    inverse-or-zero-requires
+    inverse-of-nonzero-requires
     product-requires-3
     returns)

@@ -9,7 +9,11 @@ use Rattle.layer_cosets.specs.Cosets.{layerCosetOf, basisOf}
 use Rattle.layout.specs.declared.Parameters.{Parameters}
 use Rattle.layout.specs.Parameters.{stepsBy}
 use Rattle.layer_cosets.specs.declared.LayerCoset.{LayerCoset}
-use Rattle.fri.proofs.Cosets.{length-basis}
+use Rattle.coset.proofs.Points.{all-elements}
+use Rattle.coset.proofs.Steps.{elements-not-zero}
+use Rattle.coset.specs.Steps.{stepElements}
+use Rattle.poly.specs.Polynomial.{All}
+use Rattle.fri.proofs.Cosets.{length-basis, layerBasis-all, later-independent}
 use Rattle.fri.specs.Layers.{layerBasis}
 use Rattle.fri.specs.Layout.{layerStart}
 use Rattle.round_checks.specs.declared.Round.{Round}
@@ -17,7 +21,8 @@ use lib.ListN.{length, getD, length-set}
 use native.Mathlib.Numerals.{add-one}
 use Prim.Native.Nat.{ℕ, suc, _-_, _≤_, _<_}
 use mathlib.Core.List.{List}
-use mathlib.Core.Path.{_≡_, refl, sym, ap, ap₂, _∙_}
+use mathlib.Core.Logic.{_≢_}
+use mathlib.Core.Path.{_≡_, refl, sym, ap, ap₂, _∙_, subst}
 use borrow.Author.Needs.{needs}
 use native.Mathlib.Omega.{arith}
 use Rattle.round_checks.proofs.set_up.Statement.{statement}
@@ -104,10 +109,27 @@ shared-slice-read-challenge : tie.Need-shared-slice-read-challenge Inv-loop μ-l
 shared-slice-read-challenge c =
     let in-loop = c .before .before in
     let start = in-loop .before .before .before .before .before .before in
-    omega (arith, start .pre .2, within in-loop .round-within)
+    omega (arith, start .pre .3, within in-loop .round-within)
 
 over-requires : tie.Need-over-requires Inv-loop μ-loop
-over-requires c κs = let w = within (c .before .before) in (w .step-few, w .step-fits, w .dimension-few)
+over-requires c κs =
+    let w = within (c .before .before) in
+    let l = c .before .before .before .loop in
+    let known = c .before .before .before .before .before .before .before in
+    let start = known .before in
+    let steps = stepsBy (start .args .parameters) in
+    let basis = start .args .basis .now in
+    let elements = all-elements basis (λ i. omega (arith, known .shared-slice-known .given i)) in
+    let here = layerBasis steps basis (l .i) in
+    let step = start .args .parameters .step in (
+      w .step-few,
+      w .step-fits,
+      w .dimension-few,
+      subst (λ (b : List ℕ). All (λ e. e ≢ 0) (stepElements step b))
+          (sym (ap basisOf (l .inv .coset-is) ∙ basisOf-coset (l .coset .offset .0) here))
+          (elements-not-zero step here (layerBasis-all steps basis elements (l .i))
+          (later-independent steps basis elements (start .pre .2) (l .i))),
+    )
 
 mul-table : tie.Need-mul-table Inv-loop μ-loop
 mul-table c = omega (arith, within (c .before .before .before) .place-within)

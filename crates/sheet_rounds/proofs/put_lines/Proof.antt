@@ -66,7 +66,7 @@ rounds-requires c κs = checked (c .before) .coset .parameters
 set-up-requires : tie.Need-set-up-requires Inv-loop2 μ-loop2 Inv-loop μ-loop
 set-up-requires c κs =
     let known = checked (c .before .before) in
-    (known .coset .parameters, known .fit .basis, known .fit .challenges)
+    (known .coset .parameters, known .fit .basis, known .coset .independent, known .fit .challenges)
 
 loop-holds : tie.Need-loop-holds Inv-loop2 μ-loop2 Inv-loop μ-loop
 loop-holds c =

@@ -9,6 +9,7 @@ use Rattle.gf64.specs.Field.{IsElement, sum}
 use Rattle.poly.proofs.Entries.{all-take}
 use Rattle.fold.specs.Halving.{cosetValues}
 use Rattle.coset.proofs.Points.{all-elements}
+use Rattle.coset.proofs.Steps.{listed-not-zero}
 use Rattle.coset.proofs.Sizes.{size-shifted}
 use Rattle.fold.specs.Theorems.{IsWord}
 use Rattle.fold.proofs.AllCosets.{Ready, length-inverses-taken, length-span-taken, length-upper, cosets-fit}
@@ -82,7 +83,16 @@ shl-size : tie.Need-shl-size
 shl-size c = search needs
 
 inverses-of-requires : tie.Need-inverses-of-requires
-inverses-of-requires c κs = search needs
+inverses-of-requires c κs =
+    let known = c .before in
+    let start = known .before .before in
+    let basis = start .args .basis .now in
+    let fits = start .pre .step in (
+      fits .few,
+      listed-not-zero (length (start .args .elements .now)) basis (start .args .elements .now)
+          (all-elements basis (λ i. omega (arith, known .shared-slice-known2 .given i))) (fits .independent)
+          (fits .elements-are),
+    )
 
 slice-aggregate-span-of : tie.Need-slice-aggregate-span-of
 slice-aggregate-span-of c = sym (lent (c .before .before .before .before .before))

@@ -17,8 +17,8 @@ abbrev μ-loop : tie.MeasureT-loop
 loop-holds : tie.Need-loop-holds Inv-loop μ-loop
 loop-holds c = (search needs, ones-first (c .args .self .0) (search needs))
 
-product-requires : tie.Need-product-requires Inv-loop μ-loop
-product-requires c κs = search needs
+square-requires : tie.Need-square-requires Inv-loop μ-loop
+square-requires c κs = search needs
 
 add-i : tie.Need-add-i Inv-loop μ-loop
 add-i c = search needs
@@ -29,7 +29,7 @@ loop-less c = search needs
 loop-again : tie.Need-loop-again Inv-loop μ-loop
 loop-again c = (
   search needs,
-  c .product .ensures
+  c .square .ensures
       ∙ squared-once-more _ (c .before .before .loop .i) _ (c .before .before .loop .inv .1),
 )
 
@@ -41,4 +41,4 @@ returns c =
 pub squared-spec : {M : Type 1} → statement M
 squared-spec =
     tie.close
-    (tie.spec Inv-loop μ-loop loop-holds product-requires add-i loop-less loop-again returns)
+    (tie.spec Inv-loop μ-loop loop-holds square-requires add-i loop-less loop-again returns)

@@ -51,9 +51,6 @@ enum-told-7 c = search needs
 enum-told-8 : tie.Need-enum-told-8
 enum-told-8 c = search needs
 
-enum-told-9 : tie.Need-enum-told-9
-enum-told-9 c = search needs
-
 enum-known-self-8 : tie.Need-enum-known-self-8
 enum-known-self-8 c = search needs
 
@@ -103,10 +100,7 @@ returns-15 : tie.Need-returns-15
 returns-15 c = search needs
 
 returns-16 : tie.Need-returns-16
-returns-16 c = search needs
-
-returns-17 : tie.Need-returns-17
-returns-17 c = ap placeOf (sym (c .before .self8 .given .1))
+returns-16 c = ap placeOf (sym (c .before .self8 .given .1))
 
 pub place-spec : {M : Type 1} → statement M
 place-spec =
@@ -127,7 +121,6 @@ place-spec =
     enum-known-self-7
     enum-told-7
     enum-told-8
-    enum-told-9
     enum-known-self-8
     returns
     returns-2
@@ -144,5 +137,4 @@ place-spec =
     returns-13
     returns-14
     returns-15
-    returns-16
-    returns-17)
+    returns-16)

@@ -48,14 +48,11 @@ enum-told-12 c = search needs
 enum-told-13 : tie.Need-enum-told-13
 enum-told-13 c = search needs
 
-enum-told-14 : tie.Need-enum-told-14
-enum-told-14 c = search needs
-
 enum-known-self-2 : tie.Need-enum-known-self-2
 enum-known-self-2 c = search needs
 
-enum-told-15 : tie.Need-enum-told-15
-enum-told-15 c = search needs
+enum-told-14 : tie.Need-enum-told-14
+enum-told-14 c = search needs
 
 returns : tie.Need-returns
 returns c = search needs
@@ -100,13 +97,10 @@ returns-14 : tie.Need-returns-14
 returns-14 c = search needs
 
 returns-15 : tie.Need-returns-15
-returns-15 c = search needs
+returns-15 c = ap roundOf (sym (c .before .self2 .given .1))
 
 returns-16 : tie.Need-returns-16
-returns-16 c = ap roundOf (sym (c .before .self2 .given .1))
-
-returns-17 : tie.Need-returns-17
-returns-17 c = search needs
+returns-16 c = search needs
 
 pub round-spec : {M : Type 1} → statement M
 round-spec =
@@ -126,9 +120,8 @@ round-spec =
     enum-told-11
     enum-told-12
     enum-told-13
-    enum-told-14
     enum-known-self-2
-    enum-told-15
+    enum-told-14
     returns
     returns-2
     returns-3
@@ -144,5 +137,4 @@ round-spec =
     returns-13
     returns-14
     returns-15
-    returns-16
-    returns-17)
+    returns-16)

@@ -2,15 +2,17 @@
 use Rattle.round_checks.proofs.Tables.{round-equal}
 use Rattle.layer_cosets.specs.Cosets.{basisOf}
 use Rattle.coset.proofs.Subspace.{elements-taken}
+use Rattle.coset.specs.Steps.{stepElements}
 use Rattle.coset.specs.Coset.{points}
-use Rattle.poly.specs.Polynomial.{padded}
+use Rattle.poly.specs.Polynomial.{All, padded}
 use Rattle.poly.specs.Carrier.{gf64}
 use Rattle.gf64.specs.Field.{inverse}
 use lib.Seq.{length-take-le, take-take}
 use Prim.Native.Nat.{ℕ}
 use lib.ListN.{length, take}
 use mathlib.Core.List.{List, map}
-use mathlib.Core.Path.{_≡_, sym, ap, _∙_}
+use mathlib.Core.Logic.{_≢_}
+use mathlib.Core.Path.{_≡_, sym, ap, _∙_, subst}
 use borrow.Author.Needs.{needs}
 use native.Mathlib.Omega.{arith}
 use Rattle.round_checks.proofs.Round.over.Statement.{statement}
@@ -33,8 +35,22 @@ basis-whole start =
     length-take-le (start .args .step) (start .args .coset .basis)
     (omega (arith, twenty start, start .pre .1, start .pre .2))
 
+abbrev ElementsAre : tie.After-step-elements → Type 0
+ElementsAre c =
+    let a = c .before .args in
+    take (a .step) (c .step-elements .result) ≡ stepElements (a .step) (basisOf (a .coset))
+
+elements-are : (c : tie.After-step-elements) → ElementsAre c
+elements-are c =
+    let start = c .before in
+    let a = start .args in
+    let whole : length (basisOf (a .coset)) ≡ a .coset .dimension =
+    length-take-le (a .coset .dimension) (a .coset .basis) (omega (arith, twenty start, start .pre .2)) in
+    elements-taken (a .step) (basisOf (a .coset)) (c .step-elements .result) (omega (arith, whole, start .pre .1))
+    (c .step-elements .ensures)
+
 step-elements-requires : tie.Need-step-elements-requires
-step-elements-requires c κs = c .pre
+step-elements-requires c κs = (c .pre .0, c .pre .1, c .pre .2)
 
 array-share-prefix-elements : tie.Need-array-share-prefix-elements
 array-share-prefix-elements c = search needs
@@ -43,7 +59,11 @@ slice-aggregate-inverses-of : tie.Need-slice-aggregate-inverses-of
 slice-aggregate-inverses-of c = sym (elements-whole (c .before .before))
 
 inverses-of-requires : tie.Need-inverses-of-requires
-inverses-of-requires c κs = omega (arith, c .before .before .before .pre .0, elements-whole (c .before .before))
+inverses-of-requires c κs =
+    let made = c .before .before in (
+      omega (arith, made .before .pre .0, elements-whole made),
+      subst (All (λ e. e ≢ 0)) (sym (elements-are made)) (made .before .pre .3),
+    )
 
 array-share-prefix-basis : tie.Need-array-share-prefix-basis
 array-share-prefix-basis c =
@@ -66,11 +86,7 @@ returns c =
     let a = start .args in
     let step = a .step in
     let basis = basisOf (a .coset) in
-    let whole : length basis ≡ a .coset .dimension =
-    length-take-le (a .coset .dimension) (a .coset .basis) (omega (arith, twenty start, start .pre .2)) in
-    let elements =
-    elements-taken step basis (made .step-elements .result) (omega (arith, whole, start .pre .1))
-    (made .step-elements .ensures) in
+    let elements = elements-are made in
     round-equal step basis (a .challenge .0) (a .start) (a .next) (made .step-elements .result)
     (inverses .inverses-of .result) (c .span-of .result)
     (made .step-elements .ensures)

@@ -1,2 +1,0 @@
--- What the operations of an element answer.
-pub mod Answers

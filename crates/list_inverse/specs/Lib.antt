@@ -1,0 +1,2 @@
+-- The products by which a list is inverted.
+pub mod Products
