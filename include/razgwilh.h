@@ -24,9 +24,9 @@
 #include <stddef.h>
 #include <stdint.h>
 
-#define RZ_VERSION "0.6.0"
+#define RZ_VERSION "0.7.0"
 #define RZ_VERSION_MAJOR 0
-#define RZ_VERSION_MINOR 6
+#define RZ_VERSION_MINOR 7
 #define RZ_VERSION_PATCH 0
 
 #ifdef __cplusplus
@@ -45,7 +45,7 @@ extern "C" {
 
 /* 2. THE ANSWER
  *
- * A function that can refuse, and the layer lookup, answer five numbers:
+ * A function that can refuse, the inverse and the layer lookup answer five numbers:
  *   number  0 when it went well, else that of the cause; RZ_NONE where nothing was done
  *   place   the section (numbers 1, 2), basis place (8), query (10, 11, 17), degree (12) or list
  *           (13); for the layer lookup, a start
@@ -89,8 +89,8 @@ static inline int rz_done(struct rz_answer answer);
 /* 3. THE NUMBERS
  *
  * Each with its cause, in the words of docs/NUMBERS.md, which says what an operator does next. A
- * number, once given, keeps its cause for good. None has been retired. Beside RZ_NONE there are no
- * others. */
+ * number, once given, keeps its cause for good. Retired, and not used again: 15, the inverse of
+ * zero, which versions up to 0.6 gave. Beside RZ_NONE there are no others. */
 enum rz_number {
     RZ_ACCEPTED = 0,
     /* the bytes end in a count or its entries */
@@ -123,8 +123,6 @@ enum rz_number {
     /* the program's input has over 65,536 bytes; the program `judge` alone gives it, and no
      * function of this header */
     RZ_INPUT_TOO_LONG = 14,
-    /* the inverse of zero; the inverse alone gives it */
-    RZ_INVERSE_OF_ZERO = 15,
     /* a later layer's basis is dependent; it is checked for, and proved never to come about */
     RZ_LATER_BASIS_DEPENDENT = 16,
     /* two queries share a first-layer coset */
@@ -139,7 +137,8 @@ enum rz_number {
  *
  * A null pointer with length 0 is a list without entries, wherever part 6 takes a list or bytes. A
  * null pointer with another length, and a null pointer to a run or a fold call, are mistakes of
- * the caller: the answer's number, or a sheet's length, is RZ_NONE, and nothing is done. */
+ * the caller: the answer's number, or a sheet's length, is RZ_NONE, and nothing is done. The
+ * inversion of a list, which answers nothing, then does nothing. */
 
 /* A list that is read. */
 struct rz_list {
@@ -202,12 +201,14 @@ uint64_t rz_transcript_length(size_t k, size_t rate, size_t step, size_t queries
 /* Beside the lists that it is lent a call takes stack, and no other memory. Nothing is allocated,
  * nothing is kept from one call to the next, and of C the library calls memcpy and memset alone.
  * At the largest sizes, which are k 20 with rate 1 and 256 queries, with the step that takes the
- * most, the functions take:
+ * most, the functions take what follows; rz_invert_list is lent 2^20 elements there, and takes no
+ * more stack for more:
  *
  *   function                          lent  list   stack
  *   rz_sum                               0     0     256
  *   rz_product                           0    16     512
  *   rz_inverse_answer                    0    16     512
+ *   rz_invert_list               8,388,608    64   1,024
  *   rz_encode_answer            16,777,376    64   6,400
  *   rz_interpolate_answer       16,777,376    64   5,632
  *   rz_fold_answer              12,583,224    64   3,584
@@ -238,10 +239,15 @@ uint64_t rz_sum(uint64_t a, uint64_t b);
 /* The product of two elements. */
 uint64_t rz_product(uint64_t a, uint64_t b);
 
-/* value: the inverse of a. Refused with number 15 (inverse of zero) where a is 0. The answer has
- * no place, no round, and 0 reads. */
+/* value: the inverse of a; as in AES, that of 0 is 0. It is never refused: the number is 0 always.
+ * The answer has no place, no round, and 0 reads. */
 RZ_MUST_USE
 static inline struct rz_answer rz_inverse_answer(uint64_t a);
+
+/* Each element of the list becomes its inverse, in its place; a 0 stays 0. The list may have any
+ * length, and nothing is refused. In a long list an element takes a tenth of the time of an inverse
+ * by itself. */
+static inline void rz_invert_list(struct rz_output list);
 
 /* Writes the polynomial's values at all 2^k points, in point order, into `values`; k is the length
  * of the basis. There are at most 2^k coefficients; those left off are zero. Refused, in this
@@ -441,8 +447,9 @@ static inline uint64_t rz_sheet_into(const uint8_t *bytes, size_t length, uint8_
  * They are for those who bind another language; a C program calls those of part 6. rz_judge does
  * what is said of rz_judge_answer, rz_prove what is said of rz_prove_answer, and so on, with these
  * differences: the answer's five numbers, in the order of part 2, are written into the list
- * `answer`, and no pointer may be null, even where the list is empty. rz_sheet, which answers no
- * such numbers, does what is said of rz_sheet_into with the second difference alone.
+ * `answer`, and no pointer may be null, even where the list is empty. rz_sheet and rz_invert, which
+ * answer no such numbers, do what is said of rz_sheet_into and rz_invert_list with the second
+ * difference alone.
  *
  * WARNING. Where `answer_length` is not RZ_ANSWER_LENGTH, nothing at all is written or done: the
  * list `answer` is left alone. A list of zeros then reads as accepted:
@@ -456,6 +463,8 @@ static inline uint64_t rz_sheet_into(const uint8_t *bytes, size_t length, uint8_
 #define RZ_ANSWER_LENGTH 5
 
 void rz_inverse(uint64_t a, uint64_t *answer, size_t answer_length);
+
+void rz_invert(uint64_t *list, size_t length);
 
 void rz_encode(uint64_t offset, const uint64_t *basis, size_t basis_length,
                const uint64_t *coefficients, size_t coefficients_length, uint64_t *values,
@@ -500,7 +509,8 @@ uint64_t rz_sheet(const uint8_t *bytes, size_t bytes_length, uint8_t *out, size_
 /* 8. THE FUNCTIONS OF PART 6, MADE OF THOSE OF PART 7
  *
  * Each presets the five numbers, calls the raw function unless a pointer is missing, and names
- * what stands there then; for the sheet, the length is RZ_NONE where a pointer is missing. */
+ * what stands there then; for the sheet, the length is RZ_NONE where a pointer is missing, and for
+ * the inversion of a list there are no numbers. */
 
 static inline int rz_accepted(struct rz_answer verdict) {
     return verdict.number == RZ_ACCEPTED;
@@ -588,6 +598,12 @@ static inline struct rz_answer rz_inverse_answer(uint64_t a) {
 
     rz_inverse(a, numbers, RZ_ANSWER_LENGTH);
     return rz_answer_of(numbers);
+}
+
+static inline void rz_invert_list(struct rz_output list) {
+    if (rz_output_there(list)) {
+        rz_invert(rz_room(list), list.length);
+    }
 }
 
 static inline struct rz_answer rz_encode_answer(uint64_t offset, struct rz_list basis,

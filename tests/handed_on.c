@@ -1,7 +1,7 @@
 /* Defines the raw functions itself, without the library: each records what it is handed and
- * answers five different numbers, that of the sheet a length. So every function of the header's
- * part 6 is seen to hand on its arguments whole and in their order, never a null pointer, and to
- * name what comes back. C and C++ both compile it. */
+ * answers five different numbers, that of the sheet a length, that of a list nothing. So every
+ * function of the header's part 6 is seen to hand on its arguments whole and in their order, never
+ * a null pointer, and to name what comes back. C and C++ both compile it. */
 #include "razgwilh.h"
 
 #include <stdio.h>
@@ -55,6 +55,11 @@ static void give_answer(uint64_t *answer, size_t length) {
 void rz_inverse(uint64_t a, uint64_t *answer, size_t answer_length) {
     take_number(a);
     give_answer(answer, answer_length);
+}
+
+void rz_invert(uint64_t *elements, size_t length) {
+    take(elements, length);
+    handed.calls++;
 }
 
 void rz_encode(uint64_t offset, const uint64_t *basis, size_t basis_length,
@@ -186,6 +191,12 @@ static struct rz_answer call_inverse(void) {
     return rz_inverse_answer(number(0));
 }
 
+/* That the raw function was called stands for its answer. */
+static struct rz_answer call_invert(void) {
+    rz_invert_list(output(0));
+    return rz_answer_of(handed.calls == 1 ? answered : nothing_done);
+}
+
 static struct rz_answer call_encode(void) {
     return rz_encode_answer(number(0), list(1), list(2), output(3));
 }
@@ -305,6 +316,7 @@ static void expect_function(const char *name, struct rz_answer (*call)(void),
 
 int main(void) {
     expect_function("rz_inverse_answer", call_inverse, "n");
+    expect_function("rz_invert_list", call_invert, "l");
     expect_function("rz_encode_answer", call_encode, "nlll");
     expect_function("rz_interpolate_answer", call_interpolate, "nlll");
     expect_function("rz_fold_answer", call_fold, "nnnllnll");

@@ -165,7 +165,28 @@ static void expect_arithmetic(size_t length) {
     expect(rz_sum(UINT64_C(0xf00000000000000f), 5) == UINT64_C(0xf00000000000000a), "rz_sum");
     expect(rz_product(UINT64_C(0x8000000000000000), 2) == 0x1b, "rz_product");
     expect_inverse(2, length, given(UINT64_C(0x800000000000000d)));
-    expect_inverse(0, length, refused(RZ_INVERSE_OF_ZERO, RZ_NONE));
+    expect_inverse(0, length, given(0));
+}
+
+/* Zeros, elements and their inverses, and none behind the list's end. */
+static void expect_inverted(void) {
+    static const uint64_t due[] = {UINT64_C(0x800000000000000d), 0, 1, 2};
+    uint64_t raw[ROOM], list[ROOM];
+
+    fill(raw);
+    fill(list);
+    raw[0] = list[0] = 2;
+    raw[1] = list[1] = 0;
+    raw[2] = list[2] = 1;
+    raw[3] = list[3] = UINT64_C(0x800000000000000d);
+    rz_invert(raw, 4);
+    expect_list(raw, due, 4, "rz_invert");
+    rz_invert_list(rz_output_of(list, 4));
+    expect_list(list, due, 4, "rz_invert_list");
+    rz_invert_list(rz_output_of(list, 0));
+    rz_invert_list(rz_output_of(NULL, 0));
+    rz_invert_list(rz_output_of(NULL, 1));
+    expect_list(list, due, 4, "rz_invert_list: no list");
 }
 
 /* Case E there and back, but from offset 8. */
@@ -1004,6 +1025,7 @@ int main(void) {
         expect_raw_transcripts(length);
         expect_raw_writing(length);
     }
+    expect_inverted();
     expect_codes();
     expect_codes_refused();
     expect_fold();

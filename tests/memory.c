@@ -68,6 +68,11 @@ static void inverse(void) {
     answer = rz_inverse_answer(word[0]);
 }
 
+/* Ones, which are their own inverses, so that the word stays as it is. */
+static void invert(void) {
+    rz_invert_list(lent_output(word, (size_t)1 << k));
+}
+
 static void encode(void) {
     answer = rz_encode_answer(OFFSET, lent_list(basis, k), lent_list(word, (size_t)1 << k),
                               lent_output(values, (size_t)1 << k));
@@ -181,6 +186,7 @@ static struct row rows_of_codes[] = {
     {"rz_sum", sum, 0, 0, 0},
     {"rz_product", product, 0, 0, 0},
     {"rz_inverse_answer", inverse, 0, 0, 0},
+    {"rz_invert_list", invert, 0, 0, 0},
     {"rz_encode_answer", encode, 0, 0, 0},
     {"rz_interpolate_answer", interpolate, 0, 0, 0},
 };

@@ -6,14 +6,15 @@
 //! set. A word lists 2^k values in point order. A polynomial is the list of its coefficients,
 //! constant first.
 //!
-//! There is arithmetic ([`sum`], [`product`], [`inverse`]), [`encode`] and [`interpolate`], a
-//! lone [`fold`], the lengths of a run's lists ([`Run::store_length`] and others), the prover
-//! ([`prove`]), the [`layer`] of a store, the writer of transcripts ([`write_transcript`]), the
-//! judge, over lists ([`judge`]) and over the bytes of a transcript ([`judge_transcript`]), and the
-//! marking sheet of a transcript ([`sheet`], [`sheet_into`]). `include/razgwilh.h` describes each
-//! function in full, with the order of its refusals and, called from C, the stack that it takes;
-//! [`raw`] has those that answer in a lent list by the C convention. Only [`sheet`] needs an
-//! allocator: it is left out without the feature `alloc`.
+//! There is arithmetic ([`sum`], [`product`], [`inverse`], and [`invert`] for a whole list),
+//! [`encode`] and [`interpolate`], a lone [`fold`], the lengths of a run's lists
+//! ([`Run::store_length`] and others), the prover ([`prove`]), the [`layer`] of a store, the writer
+//! of transcripts ([`write_transcript`]), the judge, over lists ([`judge`]) and over the bytes of a
+//! transcript ([`judge_transcript`]), and the marking sheet of a transcript ([`sheet`],
+//! [`sheet_into`]). `include/razgwilh.h` describes each function in full, with the order of its
+//! refusals and, called from C, the stack that it takes; [`raw`] has those that answer in a lent
+//! list by the C convention. Only [`sheet`] needs an allocator: it is left out without the feature
+//! `alloc`.
 //!
 //! Whatever a caller passes, a refusal is an `Err` with its [`Cause`], whose number
 //! `docs/NUMBERS.md` lists. Only number 0 reads as done or accepted: the five numbers of an
@@ -108,10 +109,27 @@ pub fn product(a: u64, b: u64) -> u64 {
     unsafe { raw::rz_product(a, b) }
 }
 
-/// The inverse of `a`, or number 15 where `a` is zero.
-pub fn inverse(a: u64) -> Result<u64, Refusal> {
-    let done = Answer::of(|answer| raw::inverse(a, answer)).result()?;
-    Ok(done.value)
+/// The inverse of `a`, and zero for zero.
+///
+/// # Panics
+///
+/// Where the linked library refuses zero, as versions before 0.7 do if they can be linked.
+pub fn inverse(a: u64) -> u64 {
+    let answer = Answer::of(|answer| raw::inverse(a, answer));
+    answer.result().unwrap_or_else(|refusal| panic!("the inverse of {a}: {refusal}")).value
+}
+
+/// Inverts each element of the list, in its place; zeros stay zero. Any length is taken. In a long
+/// list an element takes a tenth of the time of an inverse by itself.
+///
+/// ```
+/// let mut list = [2, 0, 1, 0x8000_0000_0000_000d];
+/// razgwilh::invert(&mut list);
+/// assert_eq!(list, [0x8000_0000_0000_000d, 0, 1, 2]);
+/// ```
+pub fn invert(list: &mut [u64]) {
+    // SAFETY: the pointer and the length are those of one exclusive slice.
+    unsafe { raw::rz_invert(list.as_mut_ptr(), list.len()) }
 }
 
 /// Encodes: `values` gets the polynomial's value at each point of the coset, in point order. A

@@ -257,6 +257,7 @@ extern "C" {
     pub(crate) fn rz_last_length(k: usize, rate: usize, step: usize) -> usize;
     pub(crate) fn rz_transcript_length(k: usize, rate: usize, step: usize, queries: usize) -> u64;
     fn rz_inverse(a: u64, answer: *mut u64, answer_length: usize);
+    pub(crate) fn rz_invert(list: *mut u64, length: usize);
     fn rz_encode(
         offset: u64,
         basis: *const u64,

@@ -42,8 +42,6 @@ pub enum Cause {
     /// The input of the program `judge` has over 65,536 bytes. No call of this crate refuses
     /// so.
     InputTooLong = 14,
-    /// The inverse of zero.
-    InverseOfZero = 15,
     /// A later layer's basis is dependent; the round whose fold gives that layer is there, from
     /// 0. It is checked for, and proved never to come about.
     LaterBasisDependent = 16,
@@ -69,7 +67,6 @@ impl Cause {
         Cause::DegreeTooLarge,
         Cause::WrongLength,
         Cause::InputTooLong,
-        Cause::InverseOfZero,
         Cause::LaterBasisDependent,
         Cause::CosetShared,
     ];
@@ -106,7 +103,6 @@ impl Cause {
                  8 bytes of a transcript"
             }
             Cause::InputTooLong => "the program's input has over 65,536 bytes",
-            Cause::InverseOfZero => "the inverse of zero",
             Cause::LaterBasisDependent => "a later layer's basis is dependent",
             Cause::CosetShared => "two queries share a first-layer coset",
         }

@@ -1,7 +1,7 @@
 //! The causes are those of docs/NUMBERS.md, and no answer reads as accepted but number 0.
 
-use razgwilh::raw::{Answer, NONE};
-use razgwilh::{judge, transcript_length, write_transcript, Cause, Refusal, Run};
+use razgwilh::raw::{self, Answer, NONE};
+use razgwilh::{inverse, judge, transcript_length, write_transcript, Cause, Refusal, Run};
 
 #[test]
 fn causes_are_those_of_the_table() {
@@ -10,6 +10,8 @@ fn causes_are_those_of_the_table() {
         .skip_while(|line| !line.starts_with("| number | cause | place | round |"));
     let rows: Vec<&str> = table.skip(2).take_while(|line| line.starts_with('|')).collect();
     assert_eq!(rows.len(), Cause::ALL.len());
+    let declared = include_str!("../src/refusal.rs").lines().filter(|line| line.contains(" = "));
+    assert_eq!(declared.filter(|line| line.ends_with(',')).count(), rows.len());
     for (row, cause) in rows.iter().zip(Cause::ALL) {
         let front = format!("| {} | {} |", cause.number(), cause.words());
         assert!(row.starts_with(&front), "{cause} stands in the place of {row}");
@@ -37,6 +39,20 @@ fn a_call_that_writes_nothing_is_not_accepted() {
 #[should_panic(expected = "number 18")]
 fn a_number_without_a_cause_is_not_accepted() {
     let _ = Answer::of(|answer| answer.copy_from_slice(&[18, NONE, NONE, 0, NONE])).result();
+}
+
+/// As from a library before 0.7, of the inverse of zero.
+#[test]
+#[should_panic(expected = "number 15")]
+fn a_retired_number_is_not_accepted() {
+    let _ = Answer::of(|answer| answer.copy_from_slice(&[15, NONE, NONE, 0, NONE])).result();
+}
+
+#[test]
+fn the_inverse_of_zero_is_zero() {
+    assert_eq!([0, 1, 2].map(inverse), [0, 1, 0x8000_0000_0000_000d]);
+    let answer = Answer::of(|answer| raw::inverse(0, answer));
+    assert_eq!(answer, Answer { number: 0, place: NONE, round: NONE, reads: 0, value: 0 });
 }
 
 #[test]
