@@ -50,12 +50,18 @@ pub const DEGREE_TOO_HIGH: u64 = 12;
 pub const WRONG_LENGTH: u64 = 13;
 /// There are more bytes than the program takes.
 pub const INPUT_TOO_LONG: u64 = 14;
-/// Zero has no inverse.
-pub const INVERSE_OF_ZERO: u64 = 15;
 /// The basis of a later layer is dependent.
 pub const DEPENDENT_LATER_BASIS: u64 = 16;
 /// Two queries share a first-layer coset.
 pub const COSET_SHARED: u64 = 17;
+
+/// Numbers that had a cause once and are not used again: 15 was the inverse of zero.
+pub const RETIRED: [u64; 1] = [15];
+
+/// Whether a number has a cause.
+pub fn has_cause(number: u64) -> bool {
+    (BYTES_END..=COSET_SHARED).contains(&number) && !RETIRED.contains(&number)
+}
 
 // Answers.
 
@@ -74,8 +80,10 @@ pub fn accepted(reads: u64) -> Answer {
     Answer { reads, ..done() }
 }
 
-/// The answer that carries nothing but the number of its cause.
+/// The answer that carries nothing but the number of its cause. Every refusal is made here, so
+/// none has a retired number.
 pub fn refused(number: u64) -> Answer {
+    assert!(!RETIRED.contains(&number), "number {number} is retired");
     Answer { number, ..done() }
 }
 
@@ -104,4 +112,15 @@ pub fn raw(answer: &Answer) -> [u64; ANSWER_LENGTH] {
         answer.reads,
         answer.value.unwrap_or(NONE),
     ]
+}
+
+#[cfg(test)]
+mod tests {
+    use super::*;
+
+    #[test]
+    #[should_panic(expected = "number 15 is retired")]
+    fn nothing_is_refused_with_a_retired_number() {
+        refused_at(15, 0);
+    }
 }

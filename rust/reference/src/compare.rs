@@ -5,6 +5,7 @@
 
 pub mod field;
 pub mod fold;
+pub mod numbers;
 pub mod protocol;
 pub mod reed_solomon;
 pub mod sheet;

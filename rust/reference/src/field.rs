@@ -23,10 +23,10 @@ pub fn product(a: u64, b: u64) -> u64 {
     element(remainder)
 }
 
-/// The inverse of an element, or nothing for zero, by the extended Euclidean algorithm.
-pub fn inverse(a: u64) -> Option<u64> {
+/// The inverse of an element by the extended Euclidean algorithm, and zero for zero.
+pub fn inverse(a: u64) -> u64 {
     if a == 0 {
-        return None;
+        return 0;
     }
     // Each remainder is its factor times `a`, up to a multiple of the modulus.
     let (mut last, mut next) = (MODULUS, u128::from(a));
@@ -39,7 +39,14 @@ pub fn inverse(a: u64) -> Option<u64> {
     }
     // The modulus is irreducible, so nothing but one divides it and `a`.
     assert_eq!(last, 1, "the modulus and {a:x} have a common divisor");
-    Some(element(last_factor))
+    element(last_factor)
+}
+
+/// The inverse of an element that is divided by: that there is an inverse of zero must not hide
+/// a division by zero.
+pub fn inverse_of_divisor(a: u64) -> u64 {
+    assert_ne!(a, 0, "a division by zero");
+    inverse(a)
 }
 
 /// The doubling of NIST SP 800-38B's subkeys for a block of 64 bits.
@@ -97,7 +104,18 @@ mod tests {
     fn table_a() {
         assert_eq!(product(0x8000000000000000, 2), 0x1b);
         assert_eq!(product(3, 7), 9);
-        assert_eq!(inverse(2), Some(0x800000000000000d));
+        assert_eq!(inverse(2), 0x800000000000000d);
+    }
+
+    #[test]
+    fn zero_is_its_own_inverse() {
+        assert_eq!([0, 1].map(inverse), [0, 1]);
+    }
+
+    #[test]
+    #[should_panic(expected = "a division by zero")]
+    fn nothing_is_divided_by_zero() {
+        inverse_of_divisor(0);
     }
 
     /// CIPH_K(0), K1 and K2 of the three-key TDEA example of SP 800-38B.

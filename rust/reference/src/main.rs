@@ -14,8 +14,11 @@ fn main() -> ExitCode {
     let transcripts = compare::transcript::comparisons(&judges, &compare::transcript::FULL);
     let sheets = compare::sheet::Sheets::razgwilh();
     let sheets = compare::sheet::comparisons(&sheets, &compare::sheet::FULL);
+    let lists = compare::field::lists::Lists::razgwilh();
     let parts = [
+        compare::numbers::comparisons(&compare::numbers::Numbers::razgwilh()),
         compare::field::comparisons(&compare::field::Field::razgwilh(), compare::field::FULL),
+        compare::field::lists::comparisons(&lists, &compare::field::lists::FULL),
         compare::reed_solomon::comparisons(&Razgwilh, &compare::reed_solomon::FULL),
         compare::fold::comparisons(&Razgwilh, &compare::fold::FULL),
         compare::protocol::comparisons(&Razgwilh, &compare::protocol::FULL),

@@ -33,13 +33,13 @@ fn joined(pair: &[u64], factor: &Factor) -> u64 {
 }
 
 /// Lagrange's interpolant: the sum over all points of the polynomial that vanishes at the other
-/// points, scaled to the word's value at this one.
+/// points, scaled to the word's value at this one. It has no zero there, as the points differ.
 pub fn interpolant(points: &[u64], word: &[u64]) -> Vec<u64> {
     let vanishing = vanishing(points);
     let mut sum = vec![0; points.len()];
     for (&point, &due) in points.iter().zip(word) {
         let others = divided(&vanishing, point);
-        let found = field::inverse(value(&others, point)).expect("the points differ");
+        let found = field::inverse_of_divisor(value(&others, point));
         let scale = Factor::of(field::product(due, found));
         for (total, &coefficient) in sum.iter_mut().zip(&others) {
             *total = field::sum(*total, scale.times(coefficient));
@@ -112,5 +112,11 @@ mod tests {
                 assert_eq!(sum_of_terms(&polynomial, point), due);
             }
         }
+    }
+
+    #[test]
+    #[should_panic(expected = "a division by zero")]
+    fn equal_points_have_no_interpolant() {
+        interpolant(&[2, 5, 2], &[1, 1, 1]);
     }
 }

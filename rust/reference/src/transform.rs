@@ -102,8 +102,7 @@ impl Stage {
 
     /// Undoes `join`.
     fn part(&self, list: &mut [u64]) {
-        let inverse = field::inverse(self.basis[0]).expect("an element of a basis");
-        let inverse = Factor::of(inverse);
+        let inverse = Factor::of(field::inverse_of_divisor(self.basis[0]));
         self.for_each_pair(list, |x, at_x, at_other| {
             for (at_x, at_other) in at_x.iter().zip(at_other.iter_mut()) {
                 *at_other = inverse.times(field::sum(*at_x, *at_other));
@@ -171,6 +170,13 @@ mod tests {
             let due = interpolant(&points(offset, &basis), &word);
             assert_eq!(coefficients(offset, &basis, &word), due);
         }
+    }
+
+    /// The second element becomes zero in the second stage.
+    #[test]
+    #[should_panic(expected = "a division by zero")]
+    fn a_dependent_basis_has_no_coefficients() {
+        coefficients(0, &[3, 3], &[1, 2, 3, 4]);
     }
 
     #[test]

@@ -1,23 +1,26 @@
 //! The comparisons of the field of 2^64 elements.
 
 pub mod answered;
+pub mod lists;
 
+use super::lent::FILLS;
 use super::{compare, library, Comparison, Fixed, Input, Show, Sides};
 use super::{LEFT_AND_RIGHT, PAPER_AND_LIBRARY, REFERENCE_AND_LIBRARY};
-use crate::answer::{refused, went_well, Answer, ANSWER_LENGTH, INVERSE_OF_ZERO};
+use crate::answer::{went_well, Answer, ANSWER_LENGTH, NONE};
 use crate::field;
 use crate::random::Random;
 use answered::{answered, compare_answers};
 use std::collections::BTreeSet;
 
 type Operation = Box<dyn Fn(u64, u64) -> u64 + Sync>;
+type RawInverse = Box<dyn Fn(u64, &mut [u64]) + Sync>;
 
 /// The functions under test.
 pub struct Field {
     sum: Operation,
     product: Operation,
-    inverse: Box<dyn Fn(u64) -> Answer + Sync>,
-    raw_inverse: Box<dyn Fn(u64, &mut [u64]) + Sync>,
+    inverse: Box<dyn Fn(u64) -> u64 + Sync>,
+    raw_inverse: RawInverse,
 }
 
 impl Field {
@@ -61,7 +64,7 @@ fn edge_values() -> BTreeSet<u64> {
 /// The edge values and the elements that have one for an inverse. All ones is among the
 /// inverses, which as a raw number also stands for no value.
 fn edge_values_and_inverses() -> BTreeSet<u64> {
-    let inverses = edge_values().into_iter().filter_map(field::inverse);
+    let inverses = edge_values().into_iter().map(field::inverse);
     inverses.chain(edge_values()).collect()
 }
 
@@ -109,11 +112,6 @@ fn sums_and_products(Field { sum, product, .. }: &Field, amount: usize) -> Vec<C
     .concat()
 }
 
-/// The answer due for the inverse of an element.
-fn inverse_due(a: u64) -> Answer {
-    field::inverse(a).map_or_else(|| refused(INVERSE_OF_ZERO), went_well)
-}
-
 fn inverses(Field { product, inverse, .. }: &Field, amount: usize) -> Vec<Comparison> {
     let inverses = ["inverse, edge values", "inverse, random values"];
     let products = [
@@ -121,12 +119,13 @@ fn inverses(Field { product, inverse, .. }: &Field, amount: usize) -> Vec<Compar
         "product with the inverse is one, random values",
     ];
     let edge = || singly(edge_values_and_inverses());
-    let due = |&[a]: &[u64; 1]| inverse_due(a);
-    let one = |&[a]: &[u64; 1]| (a != 0).then_some(1);
-    let their_product = |&[a]: &[u64; 1]| inverse(a).value.map(|x| product(a, x));
+    let due = |&[a]: &[u64; 1]| field::inverse(a);
+    // With zero every product is zero.
+    let one = |&[a]: &[u64; 1]| u64::from(a != 0);
+    let their_product = |&[a]: &[u64; 1]| product(a, inverse(a));
     [
-        // Zero apart from the rest, with the answer as the paper gives it.
-        vec![case("inverse, zero", 0, refused(15), |&a| inverse(a))],
+        // Zero apart from the rest, with the value as the paper gives it.
+        vec![case("inverse, zero", 0, 0, |&a| inverse(a))],
         both(inverses, edge(), amount, REFERENCE_AND_LIBRARY, due, |&[a]| inverse(a)),
         // This needs no inverse of the reference: both functions are the library's.
         both(products, edge(), amount, PAPER_AND_LIBRARY, one, their_product),
@@ -174,7 +173,7 @@ fn table_a(Field { product, inverse, .. }: &Field) -> Vec<Comparison> {
     vec![
         case("case A of table A", [1 << 63, 2], 0x1b, |&[a, b]| product(a, b)),
         case("case B of table A", [3, 7], 9, |&[a, b]| product(a, b)),
-        case("case C of table A", 2, went_well(0x800000000000000d), |&a| inverse(a)),
+        case("case C of table A", 2, 0x800000000000000d, |&a| inverse(a)),
     ]
 }
 
@@ -189,6 +188,21 @@ fn case<I: Input, A: PartialEq + Show + Copy>(
 
 // The list that an answer is written into.
 
+/// The answer due for the inverse of an element: it is never refused.
+fn inverse_due(a: u64) -> Answer {
+    went_well(field::inverse(a))
+}
+
+/// Zero apart from the rest, with the five numbers as the papers give them: number 0, no place,
+/// no round, no reads, the value 0.
+fn zero_into_five(raw_inverse: &RawInverse) -> Comparison {
+    case("inverse into a list of five, zero", 0, [0, NONE, NONE, 0, 0], |&a| {
+        let mut answer = [FILLS[0]; ANSWER_LENGTH];
+        raw_inverse(a, &mut answer);
+        answer
+    })
+}
+
 /// Each value comes twice, and so with both fills.
 fn lent_lists(Field { raw_inverse, .. }: &Field, amount: usize) -> Vec<Comparison> {
     let compared = |name, values: &[u64], lengths: &[usize]| {
@@ -202,6 +216,7 @@ fn lent_lists(Field { raw_inverse, .. }: &Field, amount: usize) -> Vec<Compariso
     let edge = "inverse into a list of five, edge values";
     let random = "inverse into a list of five, random values";
     vec![
+        zero_into_five(raw_inverse),
         compared("inverse into a list of another length", &few, &others),
         compared(edge, &Vec::from_iter(edge_values_and_inverses()), &five),
         compared(random, &Random::named(random).list(amount), &five),

@@ -122,7 +122,7 @@ fn word(random: &mut Random, step: u64, offset: u64, basis: &[u64], turn: usize)
 fn to_all_ones(random: &mut Random, k: u64) -> Call {
     let mut call = right(random, k, 1, 0);
     let offset = call[Offset];
-    let inverse = field::inverse(offset).expect("an offset that is not zero");
+    let inverse = field::inverse_of_divisor(offset);
     call[Basis][0] = field::sum(offset, field::product(u64::MAX, inverse));
     call
 }

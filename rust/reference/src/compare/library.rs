@@ -4,10 +4,10 @@
 use super::call::*;
 use super::operation::Outputs;
 use crate::answer::{accepted, done, went_well, Answer, DEGREE_TOO_HIGH};
-use razgwilh::{raw, Fold, Refusal, Run};
+use razgwilh::{raw, Cause, Fold, Refusal, Run};
 
 pub use razgwilh::raw::{inverse as raw_inverse, judge_transcript as raw_judge_transcript};
-pub use razgwilh::{product, sheet, sheet_into, sum};
+pub use razgwilh::{inverse, invert, product, sheet, sheet_into, sum};
 
 /// The refusal as an answer. A prover's degree is also the value of a raw answer.
 fn refusal(refusal: Refusal) -> Answer {
@@ -152,10 +152,11 @@ pub fn transcript_length(call: &Call, _: &mut Outputs) -> Answer {
     went_well(razgwilh::transcript_length(k, rate, step, queries) as u64)
 }
 
-// The field and transcripts.
+// Numbers and transcripts.
 
-pub fn inverse(a: u64) -> Answer {
-    razgwilh::inverse(a).map_or_else(refusal, went_well)
+/// The number again, if it has a cause.
+pub fn number_of_cause(number: u64) -> Option<u64> {
+    Cause::of(number).map(Cause::number)
 }
 
 pub fn judge_transcript(bytes: &[u8]) -> Answer {

@@ -1,7 +1,7 @@
 //! Wrong libraries, and the comparisons that they differ in.
 
 use super::*;
-use crate::answer::NONE;
+use crate::answer::done;
 use crate::compare::wrong::{changed_at, hold_table, into_five, row, write_what_fits, Row};
 
 /// Few enough to run without optimisation.
@@ -13,7 +13,7 @@ fn right() -> Field {
     Field {
         sum: Box::new(field::sum),
         product: Box::new(field::product),
-        inverse: Box::new(inverse_due),
+        inverse: Box::new(field::inverse),
         raw_inverse: Box::new(|a, answer| into_five(answer, || inverse_due(a))),
     }
 }
@@ -29,7 +29,7 @@ fn wrong_product(what: &str, product: Operation, differ: &[&[&str]]) -> Row<Fiel
     wrong(format!("product: {what}"), library, differ).differs(PRODUCT)
 }
 
-fn inverting(inverse: impl Fn(u64) -> Answer + Sync + 'static) -> Field {
+fn inverting(inverse: fn(u64) -> u64) -> Field {
     Field { inverse: Box::new(inverse), ..right() }
 }
 
@@ -56,6 +56,7 @@ const CASE_A: &[&str] = &["case A of table A"];
 const CASES: &[&str] = &["case A of table A", "case B of table A"];
 const CASE_C: &[&str] = &["case C of table A"];
 const ZERO: &[&str] = &["inverse, zero"];
+const ZERO_INTO_FIVE: &[&str] = &["list of five, zero"];
 const OTHERS: &[&str] = &["list of another length"];
 const FIVE: &[&str] = &["list of five, edge values", "list of five, random values"];
 
@@ -112,27 +113,47 @@ fn wrong_products() -> Vec<Row<Field>> {
 
 fn wrong_inverses() -> Vec<Row<Field>> {
     // As a raw number all ones may be a value or stand for none.
-    let all_ones_is_none = |a| {
-        let due = inverse_due(a);
-        Answer { value: due.value.filter(|&x| x != NONE), ..due }
+    let no_all_ones = |a| match field::inverse(a) {
+        u64::MAX => 0,
+        x => x,
+    };
+    let one_for_zero = |a| if a == 0 { 1 } else { field::inverse(a) };
+    let all_ones_for_zero = |a| if a == 0 { u64::MAX } else { field::inverse(a) };
+    vec![
+        // Zero and one are their own inverses.
+        wrong("is its argument", inverting(|a| a), &[INVERSE, ONE, CASE_C]),
+        wrong("is always zero", inverting(|_| 0), &[INVERSE, ONE, CASE_C]),
+        wrong("all ones is zero", inverting(no_all_ones), &[&INVERSE[..1], &ONE[..1]])
+            .smallest(INVERSE[0], field::inverse(u64::MAX).show()),
+        wrong("is one for 0", inverting(one_for_zero), &[ZERO, &INVERSE[..1]])
+            .smallest(INVERSE[0], "0"),
+        wrong("is all ones for 0", inverting(all_ones_for_zero), &[ZERO, &INVERSE[..1]])
+            .smallest(INVERSE[0], "0"),
+        wrong("one more", inverting(|a| field::inverse(a) ^ 1), &[ZERO, INVERSE, ONE, CASE_C]),
+    ]
+}
+
+/// Only the answers of five numbers are wrong, for zero alone or for all.
+fn wrong_answers() -> Vec<Row<Field>> {
+    let for_zero = |what: &str, other: Answer| {
+        let library = writing(move |a, answer| {
+            into_five(answer, || if a == 0 { other } else { inverse_due(a) })
+        });
+        wrong(format!("for 0, {what}"), library, &[ZERO_INTO_FIVE, &FIVE[..1]])
+            .smallest(FIVE[0], "0; answer of length 5, ")
     };
     let mut rows = vec![
-        wrong("is its argument", inverting(went_well), &[ZERO, INVERSE, ONE, CASE_C]),
-        wrong("is refused", inverting(|_| refused(15)), &[INVERSE, ONE, CASE_C]),
-        wrong("all ones is none", inverting(all_ones_is_none), &[&INVERSE[..1], &ONE[..1]])
-            .smallest(INVERSE[0], field::inverse(u64::MAX).show()),
+        // As it was before there was an inverse of zero.
+        for_zero("refused with 15", Answer { number: 15, ..done() }),
+        for_zero("15 with the value", Answer { number: 15, ..went_well(0) }),
+        for_zero("no value", done()),
+        for_zero("one", went_well(1)),
     ];
     for place in 0..5 {
-        // A wrong value shows in a product as well.
-        let products = if place == 4 { ONE } else { &[] };
+        let what = format!("number {place} is wrong");
         let always = move |a| changed_at(place, inverse_due(a));
-        let for_zero = move |a| if a == 0 { always(a) } else { inverse_due(a) };
-        let (what, edge) = (format!("number {place} is wrong"), &products[..products.len() / 2]);
-        rows.extend([
-            wrong(format!("{what} for 0"), inverting(for_zero), &[ZERO, &INVERSE[..1], edge])
-                .smallest(INVERSE[0], "0"),
-            wrong(what, inverting(always), &[ZERO, INVERSE, products, CASE_C]),
-        ]);
+        let library = writing(move |a, answer| into_five(answer, || always(a)));
+        rows.extend([for_zero(&what, always(0)), wrong(what, library, &[ZERO_INTO_FIVE, FIVE])]);
     }
     rows
 }
@@ -145,18 +166,14 @@ fn wrong_lists() -> Vec<Row<Field>> {
             }
         })
     };
-    let zero_for_none = writing(|a, answer| {
-        let due = inverse_due(a);
-        into_five(answer, || Answer { value: due.value.or(Some(0)), ..due });
-    });
+    let zeros = writing(|_, answer| answer.fill(0));
     let mut rows = vec![
         wrong("a longer list is written to", written_if(|length| length >= 5), &[OTHERS])
             .smallest(OTHERS[0], "0; answer of length 6, "),
         wrong("a shorter list is written to", written_if(|length| length <= 5), &[OTHERS])
             .smallest(OTHERS[0], "0; answer of length 1, "),
-        wrong("zeros everywhere", writing(|_, answer| answer.fill(0)), &[OTHERS, FIVE]),
-        wrong("nothing is ever written", writing(|_, _| ()), &[FIVE]),
-        wrong("zero for no value", zero_for_none, &[&FIVE[..1]]),
+        wrong("zeros everywhere", zeros, &[OTHERS, ZERO_INTO_FIVE, FIVE]),
+        wrong("nothing is ever written", writing(|_, _| ()), &[ZERO_INTO_FIVE, FIVE]),
     ];
     for place in 0..5 {
         let leaving = writing(move |a, answer| {
@@ -164,14 +181,15 @@ fn wrong_lists() -> Vec<Row<Field>> {
             into_five(answer, || inverse_due(a));
             before.into_iter().for_each(|left| answer[place] = left);
         });
-        rows.push(wrong(format!("number {place} is left unwritten"), leaving, &[FIVE]));
+        let what = format!("number {place} is left unwritten");
+        rows.push(wrong(what, leaving, &[ZERO_INTO_FIVE, FIVE]));
     }
     rows
 }
 
 #[test]
 fn wrong_libraries_differ_as_they_should() {
-    let rows = [wrong_sums(), wrong_products(), wrong_inverses(), wrong_lists()];
+    let rows = [wrong_sums(), wrong_products(), wrong_inverses(), wrong_answers(), wrong_lists()];
     let rows: Vec<Row<Field>> = rows.into_iter().flatten().collect();
     hold_table(&right(), &rows, |library| comparisons(library, FEW));
 }
