@@ -1,7 +1,8 @@
 //! The product beside the 64-step loop, the same method in Rust and carry-less multiply
-//! hardware; the inverse as a number of squarings.
+//! hardware; the inverse beside the same, and as a number of products; squaring by spreading bits.
 
-use crate::clock::{least, table, Work};
+use crate::arithmetic::{Arithmetic, By, Windowed};
+use crate::clock::{least, print_table, table, Work};
 use std::hint::black_box;
 
 const REDUCTION: u64 = 0x1b;
@@ -10,17 +11,64 @@ const CALLS: usize = 2_000;
 const TURNS: usize = 2_000;
 const INVERSES: usize = 50;
 
+/// Whether the library squares by spreading bits; if not, both sides square by their product.
+const SPREADS: bool = true;
+
 type Product = fn(u64, u64) -> u64;
 
 pub fn report() {
     println!("\nproduct, wanted at most 0.25 of the loop and at most 1.30 of the same method:");
     compare("each factor new", independent);
     compare("each product a factor of the next", chain);
-    let squaring =
-        least(&mut [work("squaring", razgwilh::product, squarings)], TURNS)[0] / CALLS as f64;
-    let inverse = least(&mut [inverse_work()], TURNS)[0] / INVERSES as f64;
-    println!("\ninverse, wanted at most 80 products:");
-    println!("  {inverse:.0} ns, as long as {:.1} squarings in a row", inverse / squaring);
+    report_inverse();
+    report_squaring();
+}
+
+fn report_inverse() {
+    println!(
+        "\ninverse, wanted at most 80 products and at most 1.30 of the same method;\nif squarings \
+         spread bits, wanted at most 0.59 of that with squarings by the product:"
+    );
+    let mut works = vec![
+        inverses("the library", razgwilh::inverse),
+        inverses("squarings by the library's product", |a| By(razgwilh::product).inverse(a)),
+        inverses("the same method in Rust", |a| Windowed.inverse(a)),
+        inverses("squarings by the product in Rust", |a| By(windowed).inverse(a)),
+    ];
+    if let Some(hardware) = hardware() {
+        let inverse = move |a| By(hardware).inverse(a);
+        works.push(inverses("carry-less multiply hardware in Rust", inverse));
+    }
+    table(works, TURNS, "ns", INVERSES as f64);
+}
+
+/// The library lends no squaring: its time is what an inverse takes beside its products.
+fn report_squaring() {
+    println!("\nsquaring, if it spreads bits, wanted at most 0.55 of a product:");
+    let mut works = [
+        inverses("inverse", razgwilh::inverse),
+        work("product", razgwilh::product, chain),
+        work("product by itself", razgwilh::product, squarings),
+        work("spreading", |a, _| spread_square(a), squarings),
+        work("windowed", windowed, squarings),
+    ];
+    let mut times = least(&mut works, TURNS);
+    times[0] /= INVERSES as f64;
+    times[1..].iter_mut().for_each(|time| *time /= CALLS as f64);
+    let [inverse, product, by_itself, spreading, windowed] = times[..] else {
+        unreachable!("a time for each work")
+    };
+    println!(
+        "  the library, whose inverse takes as long as {:.1} products in a row, {:.1} of each \
+         factor by itself:",
+        inverse / product,
+        inverse / by_itself
+    );
+    let squaring = (inverse - 8.0 * product) / 63.0;
+    let library = [("squaring in the inverse", squaring), ("the product", by_itself)];
+    print_table(&library, "ns", 1.0);
+    println!("  in Rust:");
+    print_table(&[("spreading bits", spreading), ("the product", windowed)], "ns", 1.0);
 }
 
 /// The library's time over each method's time, with the calls arranged by `calls`.
@@ -61,10 +109,10 @@ fn squarings(product: Product) -> u64 {
     (0..CALLS).fold(black_box(0x0123_4567_89ab_cdef), |x, _| product(x, x))
 }
 
-fn inverse_work() -> Work<'static> {
-    let inverse = |x, i| razgwilh::inverse(x ^ i << 32).unwrap_or(1);
-    let run = move || (1..=INVERSES as u64).fold(black_box(2), inverse);
-    Work { name: "inverse", run: Box::new(run) }
+/// Each inverse is inverted next, with other bits.
+fn inverses(name: &'static str, inverse: impl Fn(u64) -> u64 + 'static) -> Work<'static> {
+    let run = move || (1..=INVERSES as u64).fold(black_box(2), |x, i| inverse(x ^ i << 32));
+    Work { name, run: Box::new(run) }
 }
 
 /// Doubles and adds, a bit at a time.
@@ -143,10 +191,39 @@ pub fn reduced(high: u64, low: u64) -> u64 {
     low ^ h ^ (h << 1) ^ (h << 3) ^ (h << 4)
 }
 
-/// The library's method: the power with exponent 2^64 - 2.
-pub fn inverse(product: impl Fn(u64, u64) -> u64, a: u64) -> u64 {
+/// The library's squaring.
+#[inline(always)]
+pub fn square(a: u64) -> u64 {
+    if SPREADS {
+        spread_square(a)
+    } else {
+        windowed(a, a)
+    }
+}
+
+/// The bits of a go to the even places of the square, which is then reduced.
+#[inline(always)]
+fn spread_square(a: u64) -> u64 {
+    reduced(spread(a >> 32), spread(a & 0xffff_ffff))
+}
+
+/// Bit i of 32 goes to place 2 i: halves, quarters and so on move apart.
+#[inline(always)]
+fn spread(a: u64) -> u64 {
+    let a = (a ^ a << 16) & 0x0000_ffff_0000_ffff;
+    let a = (a ^ a << 8) & 0x00ff_00ff_00ff_00ff;
+    let a = (a ^ a << 4) & 0x0f0f_0f0f_0f0f_0f0f;
+    let a = (a ^ a << 2) & 0x3333_3333_3333_3333;
+    (a ^ a << 1) & 0x5555_5555_5555_5555
+}
+
+/// The library's method: the power with exponent 2^64 - 2, by 63 squarings and 8 products.
+#[inline(always)]
+pub fn inverse(arithmetic: impl Arithmetic, a: u64) -> u64 {
+    // a^(2^n).
+    let squared = |a, n| (0..n).fold(a, |x, _| arithmetic.square(x));
     // a^(2^n) · b.
-    let raised = |a, n, b| product((0..n).fold(a, |x, _| product(x, x)), b);
+    let raised = |a, n, b| arithmetic.product(squared(a, n), b);
     let ones_2 = raised(a, 1, a);
     let ones_3 = raised(ones_2, 1, a);
     let ones_6 = raised(ones_3, 3, ones_3);
@@ -155,7 +232,7 @@ pub fn inverse(product: impl Fn(u64, u64) -> u64, a: u64) -> u64 {
     let ones_30 = raised(ones_15, 15, ones_15);
     let ones_60 = raised(ones_30, 30, ones_30);
     let ones_63 = raised(ones_60, 3, ones_3);
-    product(ones_63, ones_63)
+    squared(ones_63, 1)
 }
 
 #[cfg(target_arch = "x86_64")]

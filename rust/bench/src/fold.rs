@@ -69,12 +69,12 @@ pub fn fill_values(arithmetic: impl Arithmetic, elements: &[u64], given: Fold, v
     }
 }
 
-/// The inverses of at most three elements, and zeros.
+/// The inverses of at most three elements, inverted at once, and zeros.
 pub fn inverses_of(arithmetic: impl Arithmetic, elements: &[u64]) -> [u64; 3] {
     let mut inverses = [0; 3];
-    for (inverse, e) in inverses.iter_mut().zip(elements) {
-        *inverse = arithmetic.inverse(*e);
-    }
+    let list = &mut inverses[..elements.len()];
+    list.copy_from_slice(elements);
+    arithmetic.invert(list);
     inverses
 }
 

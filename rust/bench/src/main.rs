@@ -7,6 +7,7 @@ mod codes;
 mod coset;
 mod field;
 mod fold;
+mod inversion;
 mod multiplier;
 mod protocol;
 mod transform;
@@ -17,6 +18,7 @@ fn main() {
          built for release"
     );
     field::report();
+    inversion::report();
     codes::report();
     fold::report();
     protocol::report();

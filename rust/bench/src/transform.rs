@@ -39,19 +39,21 @@ pub fn interpolate(
 
 /// The basis with the elements e of the maps X · (X - e) whose compositions are the subspace
 /// polynomials, and their inverses; zeros follow both.
-struct Maps<'a> {
+pub struct Maps<'a> {
     basis: &'a [u64],
     elements: [u64; 20],
     inverses: [u64; 20],
 }
 
 impl Maps<'_> {
-    fn of(arithmetic: impl Arithmetic, basis: &[u64]) -> Maps<'_> {
-        let (mut elements, mut inverses) = ([0; 20], [0; 20]);
+    /// All elements are inverted at once.
+    pub fn of(arithmetic: impl Arithmetic, basis: &[u64]) -> Maps<'_> {
+        let mut elements = [0; 20];
         for t in 0..basis.len() {
             elements[t] = composed_maps(arithmetic, &elements[..t], basis[t]);
-            inverses[t] = arithmetic.inverse(elements[t]);
         }
+        let mut inverses = elements;
+        arithmetic.invert(&mut inverses[..basis.len()]);
         Maps { basis, elements, inverses }
     }
 

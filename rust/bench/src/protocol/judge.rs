@@ -4,7 +4,7 @@ use super::apart::check_apart;
 use super::inputs::{Inputs, RATE};
 use super::layers::{check_bases, layer_start};
 use super::prover::proved;
-use crate::arithmetic::{counted, Arithmetic, Counts};
+use crate::arithmetic::{counted, Arithmetic, Counts, OneByOne};
 use crate::beside::{checked, compare, Operation};
 use crate::codes::evaluate;
 use crate::coset::{composed_maps, point, step_elements, LayerCoset};
@@ -58,6 +58,7 @@ fn print_counts(proof: Proof) {
         }
     });
     print_round_counts(proof, &once, &queried);
+    print_set_up_counts(&run);
     let each = |count: u64| count as f64 / proof.queries.len() as f64;
     let Counts { sums, products, inverses, .. } = once;
     println!(
@@ -65,6 +66,22 @@ fn print_counts(proof: Proof) {
          products and {inverses} inverses:",
         each(queried.sums),
         each(queried.products)
+    );
+}
+
+/// What the set-up gains by inverting the elements of a step at once.
+fn print_set_up_counts(run: &Run) {
+    let at_once = counted(|arithmetic| set_up(arithmetic, run)).with_inverses();
+    let one_by_one = counted(|arithmetic| set_up(OneByOne(arithmetic), run)).with_inverses();
+    println!(
+        "    set-up {} inverses, with theirs {} products and {} squarings; one by one {}, {} and \
+         {};",
+        at_once.inverses,
+        at_once.products,
+        at_once.squares,
+        one_by_one.inverses,
+        one_by_one.products,
+        one_by_one.squares
     );
 }
 
