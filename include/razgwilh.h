@@ -245,8 +245,8 @@ RZ_MUST_USE
 static inline struct rz_answer rz_inverse_answer(uint64_t a);
 
 /* Each element of the list becomes its inverse, in its place; a 0 stays 0. The list may have any
- * length, and nothing is refused. In a long list an element takes a tenth of the time of an inverse
- * by itself. */
+ * length, and nothing is refused. In a long list an element takes a tenth of the time of an
+ * inverse by itself. */
 static inline void rz_invert_list(struct rz_output list);
 
 /* Writes the polynomial's values at all 2^k points, in point order, into `values`; k is the length
@@ -447,9 +447,9 @@ static inline uint64_t rz_sheet_into(const uint8_t *bytes, size_t length, uint8_
  * They are for those who bind another language; a C program calls those of part 6. rz_judge does
  * what is said of rz_judge_answer, rz_prove what is said of rz_prove_answer, and so on, with these
  * differences: the answer's five numbers, in the order of part 2, are written into the list
- * `answer`, and no pointer may be null, even where the list is empty. rz_sheet and rz_invert, which
- * answer no such numbers, do what is said of rz_sheet_into and rz_invert_list with the second
- * difference alone.
+ * `answer`, and no pointer may be null, even where the list is empty. rz_sheet and rz_invert,
+ * which answer no such numbers, do what is said of rz_sheet_into and rz_invert_list with the
+ * second difference alone.
  *
  * WARNING. Where `answer_length` is not RZ_ANSWER_LENGTH, nothing at all is written or done: the
  * list `answer` is left alone. A list of zeros then reads as accepted:

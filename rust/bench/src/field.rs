@@ -11,9 +11,6 @@ const CALLS: usize = 2_000;
 const TURNS: usize = 2_000;
 const INVERSES: usize = 50;
 
-/// Whether the library squares by spreading bits; if not, both sides square by their product.
-const SPREADS: bool = true;
-
 type Product = fn(u64, u64) -> u64;
 
 pub fn report() {
@@ -26,8 +23,8 @@ pub fn report() {
 
 fn report_inverse() {
     println!(
-        "\ninverse, wanted at most 80 products and at most 1.30 of the same method;\nif squarings \
-         spread bits, wanted at most 0.59 of that with squarings by the product:"
+        "\ninverse, wanted at most 80 products, at most 1.30 of the same method and at most 0.59 \
+         of that with squarings by the product:"
     );
     let mut works = vec![
         inverses("the library", razgwilh::inverse),
@@ -44,12 +41,12 @@ fn report_inverse() {
 
 /// The library lends no squaring: its time is what an inverse takes beside its products.
 fn report_squaring() {
-    println!("\nsquaring, if it spreads bits, wanted at most 0.55 of a product:");
+    println!("\nsquaring, which spreads bits, wanted at most 0.55 of a product:");
     let mut works = [
         inverses("inverse", razgwilh::inverse),
         work("product", razgwilh::product, chain),
         work("product by itself", razgwilh::product, squarings),
-        work("spreading", |a, _| spread_square(a), squarings),
+        work("spreading", |a, _| square(a), squarings),
         work("windowed", windowed, squarings),
     ];
     let mut times = least(&mut works, TURNS);
@@ -191,19 +188,9 @@ pub fn reduced(high: u64, low: u64) -> u64 {
     low ^ h ^ (h << 1) ^ (h << 3) ^ (h << 4)
 }
 
-/// The library's squaring.
-#[inline(always)]
-pub fn square(a: u64) -> u64 {
-    if SPREADS {
-        spread_square(a)
-    } else {
-        windowed(a, a)
-    }
-}
-
 /// The bits of a go to the even places of the square, which is then reduced.
 #[inline(always)]
-fn spread_square(a: u64) -> u64 {
+pub fn square(a: u64) -> u64 {
     reduced(spread(a >> 32), spread(a & 0xffff_ffff))
 }
 
