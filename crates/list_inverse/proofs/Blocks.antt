@@ -3,9 +3,8 @@
 use mathlib.Core.Path.{_≡_, refl, sym, ap, ap₂, _∙_, subst}
 use mathlib.Core.Logic.{_≢_, _⊎_, inl, inr}
 use mathlib.Core.List.{List, [], _∷_, map}
-use Prim.Native.Nat.{ℕ, suc, _+_, _-_, _^_, _≤_, _<_}
+use Prim.Native.Nat.{ℕ, suc, _^_, _≤_, _<_}
 use native.Mathlib.Nat.{eq-or-lt-of-le}
-use native.Mathlib.Numerals.{add-one}
 use native.Mathlib.Omega.{arith}
 use lib.ListN.{length, getD, set, length-map, length-set}
 use lib.Seq.{ext-getD, getD-set-same, getD-set-other}
@@ -29,19 +28,6 @@ single (x ∷ y ∷ block) value h e = absurd (omega arith)
 pub product-start : (elements : List ℕ) → 1 ≡ nonzeroProduct elements 0
 unfolding nonzeroProduct
 product-start elements = refl
-
--- one entry more is that of f
-pub entries-next : (held : List ℕ) (f : ℕ → ℕ) (n value : ℕ) → n < length held
-    → ((i : ℕ) → i < n → getD held i 0 ≡ f i) → value ≡ f n → (i : ℕ) → i < n + 1 → getD (set held n value) i 0 ≡ f i
-entries-next held f n value h before e i l = by (eq-or-lt-of-le at-most)
-  where
-    at-most : i ≤ n
-    at-most = omega (arith, add-one n)
-
-    by : (i ≡ n) ⊎ (i < n) → getD (set held n value) i 0 ≡ f i
-    by (inl same) =
-        ap (λ (m : ℕ). getD (set held n value) m 0) same ∙ getD-set-same held n value 0 h ∙ e ∙ ap f (sym same)
-    by (inr earlier) = getD-set-other held n i value 0 (λ same. omega arith) ∙ before i earlier
 
 -- ---- from the last place
 

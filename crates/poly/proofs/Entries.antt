@@ -1,10 +1,14 @@
 -- What holds of every entry of a list holds of its parts, and conversely; images of lists;
 -- the entries of a repeated value. Assumes nothing.
-use mathlib.Core.Path.{_≡_, refl, ap, ap₂}
+use mathlib.Core.Path.{_≡_, refl, sym, ap, ap₂, _∙_}
+use mathlib.Core.Logic.{_⊎_, inl, inr}
 use mathlib.Core.List.{List, [], _∷_, _++_, map}
-use Prim.Native.Nat.{ℕ, zero, suc, _<_}
+use Prim.Native.Nat.{ℕ, zero, suc, _+_, _≤_, _<_}
+use native.Mathlib.Nat.{eq-or-lt-of-le}
+use native.Mathlib.Numerals.{add-one}
 use native.Mathlib.Omega.{arith}
-use lib.ListN.{length, take, drop, getD, replicate}
+use lib.ListN.{length, take, drop, getD, set, replicate}
+use lib.Seq.{getD-set-same, getD-set-other}
 use Rattle.poly.specs.Polynomial.{All}
 
 module _ {A : Type 0} (P : A → Type 0) where
@@ -65,3 +69,18 @@ pub getD-replicated : {A : Type 0} (n i : ℕ) (a : A) → getD (replicate n a) 
 getD-replicated zero i a = refl
 getD-replicated (suc n) zero a = refl
 getD-replicated (suc n) (suc i) a = getD-replicated n i a
+
+-- ---- a list that is being written from the front
+
+-- one entry more is that of f
+pub entries-next : {A : Type 0} (d : A) (held : List A) (f : ℕ → A) (n : ℕ) (value : A) → n < length held
+    → ((i : ℕ) → i < n → getD held i d ≡ f i) → value ≡ f n → (i : ℕ) → i < n + 1 → getD (set held n value) i d ≡ f i
+entries-next {A = A} d held f n value h before e i l = by (eq-or-lt-of-le at-most)
+  where
+    at-most : i ≤ n
+    at-most = omega (arith, add-one n)
+
+    by : (i ≡ n) ⊎ (i < n) → getD (set held n value) i d ≡ f i
+    by (inl same) =
+        ap (λ (m : ℕ). getD (set held n value) m d) same ∙ getD-set-same held n value d h ∙ e ∙ ap f (sym same)
+    by (inr earlier) = getD-set-other held n i value d (λ same. omega arith) ∙ before i earlier

@@ -1,16 +1,12 @@
 -- A round by value: equal where its parts are; and a table that is being filled with rounds. Assumes nothing.
-use mathlib.Core.Path.{_≡_, refl, sym, ap, ap₂, _∙_}
-use mathlib.Core.Logic.{_⊎_, inl, inr}
+use mathlib.Core.Path.{_≡_, refl, ap, ap₂, _∙_}
 use mathlib.Core.List.{List, map}
-use Prim.Native.Nat.{ℕ, _+_, _≤_, _<_}
-use native.Mathlib.Nat.{eq-or-lt-of-le}
-use native.Mathlib.Numerals.{add-one}
-use native.Mathlib.Omega.{arith}
-use lib.ListN.{length, getD, take, set}
-use lib.Seq.{getD-set-same, getD-set-other}
+use Prim.Native.Nat.{ℕ, _+_, _<_}
+use lib.ListN.{length, take, set}
 use Rattle.gf64.specs.Field.{inverse}
 use Rattle.poly.specs.Carrier.{gf64}
 use Rattle.poly.specs.Polynomial.{padded}
+use Rattle.poly.proofs.Entries.{entries-next}
 use Rattle.coset.specs.Coset.{points}
 use Rattle.coset.specs.Steps.{stepElements}
 use Rattle.fri.specs.Layout.{layerStart}
@@ -44,18 +40,7 @@ round-equal step basis challenge start next elements inverses span e i s =
 
 pub holds-next : (table : List Round) (round : ℕ → Round) (n : ℕ) (value : Round) → n < length table
     → Holds table round n → value ≡ round n → Holds (set table n value) round (n + 1)
-holds-next table round n value h held e i l = by (eq-or-lt-of-le at-most)
-  where
-    at-most : i ≤ n
-    at-most = omega (arith, add-one n)
-
-    by : (i ≡ n) ⊎ (i < n) → getD (set table n value) i noRound ≡ round i
-    by (inl same) =
-        ap (λ (m : ℕ). getD (set table n value) m noRound) same
-        ∙ getD-set-same table n value noRound h
-        ∙ e
-        ∙ ap round (sym same)
-    by (inr before) = getD-set-other table n i value noRound (λ same. omega arith) ∙ held i before
+holds-next = entries-next noRound
 
 pub start-of-word : (k : ℕ) (steps : List ℕ) → 0 ≡ layerStart k steps 0
 unfolding layerStart

@@ -1,6 +1,6 @@
 -- The maps z_n over an independent basis: constant on the cosets of the first n elements, one more behind element n,
 -- and z_n^2 + z_n is a multiple of z_(n+1). Assumes nothing.
-use mathlib.Core.Path.{_≡_, refl, sym, ap, ap₂, _∙_, subst}
+use mathlib.Core.Path.{_≡_, refl, sym, ap, ap₂, _∙_}
 use mathlib.Core.Logic.{_≢_}
 use mathlib.Core.List.{List, [], _∷_, _++_, map}
 use Prim.Native.Nat.{ℕ, zero, suc, _/_, _^_, _<_, _≤_}

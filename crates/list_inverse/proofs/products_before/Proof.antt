@@ -1,12 +1,13 @@
 use mathlib.Core.Path.{_≡_, refl, sym, ap, _∙_}
 use mathlib.Core.Logic.{⊎-elim}
-use Prim.Native.Nat.{ℕ, suc, _-_, _≤_, _<_}
+use Prim.Native.Nat.{ℕ, _-_, _≤_, _<_}
 use native.Mathlib.Numerals.{add-one}
 use lib.ListN.{length, getD, length-set}
 use Rattle.gf64.specs.Field.{product}
+use Rattle.poly.proofs.Entries.{entries-next}
 use Rattle.list_inverse.specs.Products.{nonzeroProduct}
 use Rattle.list_inverse.proofs.Products.{past-zero, past-nonzero}
-use Rattle.list_inverse.proofs.Blocks.{product-start, entries-next}
+use Rattle.list_inverse.proofs.Blocks.{product-start}
 use borrow.Author.Needs.{needs}
 use native.Mathlib.Omega.{arith}
 use Rattle.list_inverse.proofs.products_before.Statement.{statement}
@@ -59,7 +60,7 @@ loop-again c =
           ∙ sym (past-nonzero block (l .i) (k .0 .taken)) ∙ one-more)
           (λ k. k .1 ∙ l .inv .2 ∙ sym (past-zero block (l .i) (k .0 .left)) ∙ one-more)
           (c .if1 .came),
-      entries-next (l .before) (nonzeroProduct block) (l .i) (l .product) (omega (arith, start .pre, l .inv .1))
+      entries-next 0 (l .before) (nonzeroProduct block) (l .i) (l .product) (omega (arith, start .pre, l .inv .1))
           (l .inv .3) (l .inv .2),
     )
 

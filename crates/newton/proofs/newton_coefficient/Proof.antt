@@ -107,7 +107,8 @@ inverse-of-nonzero-requires c κs =
     let l = at .loop in
     not-passed (start .args .offset .0) (start .args .basis .now) (l .j) (length (start .args .known .now))
     (start .args .z .0) (l .vanishing .0) (search needs) (search needs)
-    (λ i. omega (arith, at .before .before .before .shared-slice-known .given i)) (omega arith) (start .pre .2) (l .inv .2)
+    (λ i. omega (arith, at .before .before .before .shared-slice-known .given i)) (omega arith) (start .pre .2)
+    (l .inv .2)
 
 product-requires-3 : tie.Need-product-requires-3 Inv-loop μ-loop
 product-requires-3 c κs = search needs
