@@ -5,7 +5,7 @@ use mathlib.Core.Logic.{_↔_}
 use mathlib.Core.Bool.{true}
 use mathlib.Core.List.{List, [], _∷_, _++_, map, append-nil}
 use Prim.Native.Nat.{ℕ, _+_, _*_, _-_, _/_, _^_, _<_, _≤_}
-use native.Mathlib.Nat.{div-lt-iff-lt-mul, le-of-eq}
+use native.Mathlib.Nat.{div-lt-iff-lt-mul, le-of-eq, le-refl}
 use native.Mathlib.Omega.{arith}
 use lib.Pow.{pow-pos, pow-add, high}
 use lib.Dec.{T, eqb, eqb→eq}
@@ -175,7 +175,18 @@ image-only step offset basis i j ho hb d h hi hj e =
 
 -- ---- as the code gets them
 
--- the elements in an array of three
+-- the elements of a whole basis in the front of an array
+pub elements-padded : (n : ℕ) (basis held : List ℕ)
+    → held ≡ stepElements (length basis) basis ++ drop (length basis) (replicate n 0)
+    → held ≡ padded gf64 n (stepElements (length basis) basis)
+elements-padded n basis held e =
+    let elements = stepElements (length basis) basis in
+    e
+    ∙ ap (λ (m : ℕ). elements ++ drop m (replicate n 0))
+    (sym (length-elements (length basis) basis (le-refl (length basis))))
+    ∙ padded-front n elements
+
+-- the elements of a step in an array of three
 pub elements-taken : (step : ℕ) (basis elements : List ℕ) → step ≤ length basis
     → elements ≡ padded gf64 3 (stepElements step basis)
     → take step elements ≡ stepElements step basis

@@ -81,12 +81,7 @@ fn step_elements(basis: &[u64]) -> [u64; 20]
     ensures { λ r. ⌜ r ≡ padded gf64 20 (stepElements (length (now (basis .entry))) (now (basis .entry))) ⌝ }
 {
     let mut elements = [0u64; 20];
-    let mut t: usize = 0;
-    while t < basis.len() {
-        let b = basis[t];
-        elements[t] = next_coset::composed_maps(&elements[..t], Element(b)).0;
-        t += 1;
-    }
+    next_coset::fill_elements(basis, &mut elements);
     elements
 }
 

@@ -1,5 +1,5 @@
 -- Newton's form over the points of a coset, one coefficient after the other. Assumes nothing.
-use mathlib.Core.Path.{_≡_, refl, sym, ap, ap₂, _∙_, subst}
+use mathlib.Core.Path.{_≡_, sym, ap, ap₂, _∙_, subst}
 use mathlib.Core.Logic.{_≢_}
 use mathlib.Core.List.{List, [], _∷_, _++_}
 use Prim.Native.Nat.{ℕ, zero, suc, _+_, _^_, _≤_, _<_}
@@ -16,7 +16,7 @@ use Rattle.poly.specs.Polynomial.{All, Distinct}
 use Rattle.poly.specs.Newton.{newtonValue, vanishing, newtonCoefficient, newtonCoefficients}
 use Rattle.poly.proofs.AtField.{gf64-laws}
 use Rattle.poly.proofs.Entries.{all-at, all-take}
-use Rattle.poly.proofs.Filling.{filled}
+use Rattle.poly.proofs.Filling.{filled, take-filled}
 use Rattle.poly.proofs.Newton.{newton-split, vanishing-last, newtonCoefficients-getD, length-newtonCoefficients}
 use Rattle.poly.proofs.Newton.{vanishing-not-zero}
 use Rattle.coset.specs.Coset.{points}
@@ -75,17 +75,6 @@ coefficient-end points known j z y v w l m ev ew =
 
 -- ---- the list of coefficients
 
-take-filled : (target held : List ℕ) (i : ℕ) → i ≤ length held → length target ≡ length held
-    → take i (filled target held i) ≡ take i target
-unfolding filled
-take-filled [] [] zero h e = refl
-take-filled [] [] (suc i) h e = refl
-take-filled [] (b ∷ held) i h e = absurd (omega arith)
-take-filled (a ∷ target) [] i h e = absurd (omega arith)
-take-filled (a ∷ target) (b ∷ held) zero h e = refl
-take-filled (a ∷ target) (b ∷ held) (suc i) h e = ap {B = List ℕ} (λ l. a ∷ l)
-    (take-filled target held i (omega arith) (omega arith))
-
 module _ (points word held now : List ℕ) (i z y : ℕ) (same : length points ≡ length word)
     (as-many : length held ≡ length points)
     (inside : i < length held) (at : z ≡ getD points i 0) (value : y ≡ getD word i 0)
@@ -94,7 +83,7 @@ module _ (points word held now : List ℕ) (i z y : ℕ) (same : length points �
   target-length = length-newtonCoefficients gf64 points word same ∙ sym as-many
 
   known : take i now ≡ take i (newtonCoefficients gf64 points word)
-  known = ap (take i) inv ∙ take-filled (newtonCoefficients gf64 points word) held i (le-of-lt inside) target-length
+  known = ap (take i) inv ∙ take-filled (newtonCoefficients gf64 points word) held i (omega (arith, target-length))
 
   known-length : length (take i now) ≡ i
   known-length = ap length known ∙ length-take-le i (newtonCoefficients gf64 points word) (omega (arith, target-length))

@@ -23,18 +23,29 @@ pub fn composed_maps(elements: &[u64], x: Element) -> Element
     y
 }
 
-// The elements e of the maps X · (X - e) whose composition is the subspace polynomial of a step, and zeros.
+// The elements e of the maps X · (X - e) whose composition is the subspace polynomial of the whole basis, into the
+// front of a list.
+pub fn fill_elements(basis: &[u64], elements: &mut [u64])
+    requires { ⌜ length (now basis) ≤ length (now elements) ⌝ }
+    ensures { λ _.
+        let k = length (now (basis .entry)) in
+        ⌜ now (elements .exit) ≡ stepElements k (now (basis .entry)) ++ drop k (now (elements .entry)) ⌝ }
+{
+    let mut t: usize = 0;
+    while t < basis.len() {
+        let b = basis[t];
+        elements[t] = composed_maps(&elements[..t], Element(b)).0;
+        t += 1;
+    }
+}
+
+// Those of a step, and zeros.
 pub fn step_elements(basis: &[u64], step: usize) -> [u64; 3]
     requires { ⌜ (step ≤ 3) × (step ≤ length (now basis)) ⌝ }
     ensures { λ r. ⌜ r ≡ padded gf64 3 (stepElements step (now (basis .entry))) ⌝ }
 {
     let mut elements = [0u64; 3];
-    let mut t: usize = 0;
-    while t < step {
-        let b = basis[t];
-        elements[t] = composed_maps(&elements[..t], Element(b)).0;
-        t += 1;
-    }
+    fill_elements(&basis[..step], &mut elements);
     elements
 }
 

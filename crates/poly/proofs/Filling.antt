@@ -40,6 +40,11 @@ pub filled-next : (target held : List ℕ) (j v : ℕ) → j < length held → l
 filled-next target held j v h e s =
     ap (set (filled target held j) j) s ∙ filled-suc target held j h e ∙ ap (filled target held) (sym (add-one j))
 
+-- what is filled is the target's
+pub take-filled : (target held : List ℕ) (j : ℕ) → j ≤ length target → take j (filled target held j) ≡ take j target
+unfolding filled
+take-filled target held j h = take-at (take j target) (drop j held) j (length-take-le j target h)
+
 -- what is not filled yet is as it was
 pub filled-rest : (target held : List ℕ) (j i : ℕ) → j ≤ i → length target ≡ length held
     → getD (filled target held j) i 0 ≡ getD held i 0
@@ -163,15 +168,6 @@ padded-next n p j v h l e =
     filled-next (padded gf64 n p) (replicate n 0) j v (omega (arith, length-replicate {A = ℕ} n 0))
     (length-padded gf64 n p l ∙ sym (length-replicate n 0)) (e ∙ sym (getD-padded n p j))
 
--- its first j entries
-pub take-filled : (n : ℕ) (p : List ℕ) (j : ℕ) → j ≤ length p → length p ≤ n
-    → take j (filled (padded gf64 n p) (replicate n 0) j) ≡ take j p
-unfolding filled padded
-take-filled n p j h l =
-    take-at (take j (padded gf64 n p)) (drop j (replicate n 0)) j
-    (length-take-le j (padded gf64 n p) (omega (arith, length-padded gf64 n p l)))
-    ∙ take-append-le j p (replicate (n - length p) 0) h
-
 drop-zeros : (m n l : ℕ) → n - m ≡ l → drop m (replicate {A = ℕ} n 0) ≡ replicate l 0
 drop-zeros zero n l e = let same : n ≡ l = omega arith in ap (λ (x : ℕ). replicate x 0) same
 drop-zeros (suc m) zero l e = let none : 0 ≡ l = omega arith in ap (λ (x : ℕ). replicate x 0) none
@@ -200,6 +196,12 @@ pub front-next : (front held : List ℕ) (i v : ℕ) → i < length front → le
 front-next front held i v h l e =
     filled-next (front ++ drop (length front) held) held i v (omega arith) (length-front front held l)
     (e ∙ sym (List·getD-append front (drop (length front) held) 0 i h))
+
+pub front-taken : (front held : List ℕ) (i : ℕ) → i ≤ length front → length front ≤ length held
+    → take i (filled (front ++ drop (length front) held) held i) ≡ take i front
+front-taken front held i h l =
+    take-filled (front ++ drop (length front) held) held i (omega (arith, length-front front held l))
+    ∙ take-append-le i front (drop (length front) held) h
 
 pub front-done : (front held : List ℕ) (i : ℕ) → length front ≤ i → length front ≤ length held
     → filled (front ++ drop (length front) held) held i ≡ front ++ drop (length front) held
