@@ -7,7 +7,7 @@ pub struct Answer {
     pub number: u64,
     /// A section, a basis place, a query, a degree or a list, as the number has it.
     pub place: Option<u64>,
-    /// The round, with numbers 11 and 16.
+    /// The round, with number 11.
     pub round: Option<u64>,
     /// How many entries a judge read.
     pub reads: u64,
@@ -50,13 +50,12 @@ pub const DEGREE_TOO_HIGH: u64 = 12;
 pub const WRONG_LENGTH: u64 = 13;
 /// There are more bytes than the program takes.
 pub const INPUT_TOO_LONG: u64 = 14;
-/// The basis of a later layer is dependent.
-pub const DEPENDENT_LATER_BASIS: u64 = 16;
 /// Two queries share a first-layer coset.
 pub const COSET_SHARED: u64 = 17;
 
-/// Numbers that had a cause once and are not used again: 15 was the inverse of zero.
-pub const RETIRED: [u64; 1] = [15];
+/// Numbers that had a cause once and are not used again: 15 was the inverse of zero, and 16 was
+/// that a later layer's basis is dependent.
+pub const RETIRED: [u64; 2] = [15, 16];
 
 /// Whether a number has a cause.
 pub fn has_cause(number: u64) -> bool {
@@ -93,11 +92,6 @@ pub fn refused_at(number: u64, place: u64) -> Answer {
     Answer { place: Some(place), ..refused(number) }
 }
 
-/// The answer that carries the number of its cause and a round.
-pub fn refused_in_round(number: u64, round: u64) -> Answer {
-    Answer { round: Some(round), ..refused(number) }
-}
-
 /// The answer of a judge that a round check fails for.
 pub fn failed(query: u64, round: u64, reads: u64) -> Answer {
     Answer { place: Some(query), round: Some(round), reads, ..refused(ROUND_CHECK_FAILS) }
@@ -120,7 +114,13 @@ mod tests {
 
     #[test]
     #[should_panic(expected = "number 15 is retired")]
-    fn nothing_is_refused_with_a_retired_number() {
+    fn nothing_is_refused_with_15() {
         refused_at(15, 0);
+    }
+
+    #[test]
+    #[should_panic(expected = "number 16 is retired")]
+    fn nothing_is_refused_with_16() {
+        refused(16);
     }
 }

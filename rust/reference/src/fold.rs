@@ -5,10 +5,7 @@
 //! challenge. Nothing here uses that q adds up, or that the points of one coset lie as those of
 //! another do: the less a method resembles the library's the more an agreement says.
 
-use crate::answer::{
-    refused, refused_in_round, Answer, DEPENDENT_LATER_BASIS, K_OUT_OF_RANGE, K_TOO_SMALL,
-    STEP_OUT_OF_RANGE,
-};
+use crate::answer::{refused, Answer, K_OUT_OF_RANGE, K_TOO_SMALL, STEP_OUT_OF_RANGE};
 use crate::coset::{first_dependent, point, points};
 use crate::polynomial::{interpolant, value, vanishing};
 use crate::refusal::{
@@ -22,9 +19,6 @@ pub const DIMENSIONS: RangeInclusive<usize> = 2..=20;
 
 /// The steps that are folded with.
 pub const STEPS: RangeInclusive<usize> = 1..=3;
-
-/// The round of a lone fold.
-const ROUND: u64 = 0;
 
 /// What is given to a fold.
 #[derive(Clone, Copy, Debug)]
@@ -71,7 +65,7 @@ pub fn entry(given: Fold, j: usize) -> u64 {
 pub fn next_coset(given: Fold, values: usize, next_basis: usize) -> Result<Coset, Answer> {
     may_fold(given, values, next_basis)?;
     let next = following(given.step, given.offset, given.basis);
-    later_independent(&next.basis, ROUND)?;
+    assert_later_independent(std::slice::from_ref(&next));
     Ok(next)
 }
 
@@ -83,6 +77,16 @@ pub fn following(step: usize, offset: u64, basis: &[u64]) -> Coset {
     Coset {
         offset: value(&q, offset),
         basis: others.iter().map(|&element| value(&q, element)).collect(),
+    }
+}
+
+/// The cosets of layers 1, 2 and so on have independent bases wherever that of layer 0 is
+/// independent, since q is zero on the span alone. So 16, a later layer's basis is dependent, is
+/// retired; but a basis for which that does not hold must not go unseen.
+pub fn assert_later_independent(later: &[Coset]) {
+    for (layer, Coset { basis, .. }) in (1..).zip(later) {
+        let dependent = first_dependent(basis).is_some();
+        assert!(!dependent, "the basis of layer {layer} is dependent: {basis:x?}");
     }
 }
 
@@ -98,7 +102,7 @@ fn vanishing_on_span(spanning: &[u64]) -> Vec<u64> {
 
 // Refusals. Each function stops at the first cause, in the paper's order.
 
-/// All causes but the last, for which there must be a next basis.
+/// All causes.
 pub fn may_fold(given: Fold, values: usize, next_basis: usize) -> Result<(), Answer> {
     right_parameters(given.k, given.step)?;
     let left = given.k - given.step;
@@ -115,13 +119,6 @@ fn right_parameters(k: usize, step: usize) -> Result<(), Answer> {
     required(k >= step, refused(K_TOO_SMALL))
 }
 
-/// No independent basis leads to a refusal here, since q is zero on the span alone; the paper
-/// has the cause all the same.
-pub fn later_independent(basis: &[u64], round: u64) -> Result<(), Answer> {
-    let refusal = refused_in_round(DEPENDENT_LATER_BASIS, round);
-    required(first_dependent(basis).is_none(), refusal)
-}
-
 #[cfg(test)]
 mod tests {
     use super::*;
@@ -130,5 +127,13 @@ mod tests {
     #[test]
     fn case_d() {
         assert_eq!(following(1, 8, &[1, 2]), Coset { offset: 0x48, basis: vec![6] });
+    }
+
+    /// No basis leads to it, so that it is shown of cosets alone.
+    #[test]
+    #[should_panic(expected = "the basis of layer 2 is dependent: [5, 1b, 1e]")]
+    fn a_dependent_later_basis_does_not_go_unseen() {
+        let bases = [vec![6, 0x14], vec![5, 0x1b, 0x1e], vec![0]];
+        assert_later_independent(&bases.map(|basis| Coset { offset: 0, basis }));
     }
 }

@@ -21,6 +21,7 @@ fn main() -> ExitCode {
         compare::field::lists::comparisons(&lists, &compare::field::lists::FULL),
         compare::reed_solomon::comparisons(&Razgwilh, &compare::reed_solomon::FULL),
         compare::fold::comparisons(&Razgwilh, &compare::fold::FULL),
+        compare::fold::bases::comparisons(&Razgwilh, &compare::fold::bases::FULL),
         compare::protocol::comparisons(&Razgwilh, &compare::protocol::FULL),
         compare::write::comparisons(&Razgwilh, &compare::write::FULL),
         transcripts.comparisons,

@@ -9,7 +9,7 @@ use crate::answer::{
     QUERY_OUT_OF_RANGE, WRONG_QUERY_COUNT,
 };
 use crate::coset::{point, points};
-use crate::fold::{self, following, later_independent, Coset, Fold};
+use crate::fold::{self, assert_later_independent, following, Coset, Fold};
 use crate::parameters::Parameters;
 use crate::polynomial::{interpolant, value};
 use crate::refusal::{
@@ -53,6 +53,11 @@ impl Run {
         Run { store: joined(&honest_layers(&self)), last: honest_last(&self), ..self }
     }
 
+    /// The coset of layer 0.
+    pub fn coset(&self) -> Coset {
+        Coset { offset: self.offset, basis: self.basis.clone() }
+    }
+
     /// Layer i, below r, as it was sent, where the store has the right length.
     pub fn layer(&self, i: u64) -> &[u64] {
         if i == 0 {
@@ -68,8 +73,7 @@ impl Run {
 
 /// The cosets of layers 0 to r.
 pub fn cosets(run: &Run) -> Vec<Coset> {
-    let first = Coset { offset: run.offset, basis: run.basis.clone() };
-    cosets_from(run.parameters, &first)
+    cosets_from(run.parameters, &run.coset())
 }
 
 /// The cosets of layers 0 to r, from that of layer 0.
@@ -274,7 +278,7 @@ impl Sent<'_> {
 /// All causes that a prover and a judge share.
 pub fn may_take(run: &Run) -> Result<(), Answer> {
     right_lists(run)?;
-    right_bases(run)
+    right_basis(run.parameters, &run.coset())
 }
 
 /// All causes but a round check.
@@ -300,17 +304,10 @@ pub fn right_lists(run: &Run) -> Result<(), Answer> {
     Ok(())
 }
 
-/// The basis and all later ones, where the lists have the right lengths.
-pub fn right_bases(run: &Run) -> Result<(), Answer> {
-    independent(&run.basis)?;
-    later_layers_independent(&cosets(run))
-}
-
-/// Round i leads to the basis of layer i + 1. The cosets are those of layers 0 to r.
-pub fn later_layers_independent(cosets: &[Coset]) -> Result<(), Answer> {
-    for (round, later) in (0..).zip(&cosets[1..]) {
-        later_independent(&later.basis, round)?;
-    }
+/// The basis of layer 0, where it has the right length. Those of later layers are then right.
+pub fn right_basis(parameters: Parameters, first: &Coset) -> Result<(), Answer> {
+    independent(&first.basis)?;
+    assert_later_independent(&cosets_from(parameters, first)[1..]);
     Ok(())
 }
 

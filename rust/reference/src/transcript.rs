@@ -10,10 +10,9 @@ use crate::answer::{
 use crate::fold::Coset;
 use crate::parameters::Parameters;
 use crate::protocol::{
-    self, cosets_from, later_layers_independent, right_bases, right_indices, right_lists,
-    right_queries, right_query_count, Run,
+    self, right_basis, right_indices, right_lists, right_queries, right_query_count, Run,
 };
-use crate::refusal::{independent, required, right_length, LIST_OF_THE_BYTES};
+use crate::refusal::{required, right_length, LIST_OF_THE_BYTES};
 use std::slice::Iter;
 
 // Writing, right transcripts and others.
@@ -88,7 +87,7 @@ pub fn may_write(run: &Run, queries: &[u64], bytes: usize) -> Result<(), Answer>
     right_lists(run)?;
     let due = length(run.parameters, queries.len() as u64);
     right_length(LIST_OF_THE_BYTES, bytes as u64 == due)?;
-    right_bases(run)?;
+    right_basis(run.parameters, &run.coset())?;
     right_queries(run.parameters, queries)
 }
 
@@ -142,10 +141,8 @@ fn parameters(reader: &mut Reader) -> Result<Parameters, Answer> {
 /// The offset stands before the basis.
 fn coset(reader: &mut Reader, parameters: Parameters) -> Result<Coset, Answer> {
     let mut basis = reader.section_of(1 + parameters.k)?;
-    let offset = basis.remove(0);
-    independent(&basis)?;
-    let coset = Coset { offset, basis };
-    later_layers_independent(&cosets_from(parameters, &coset))?;
+    let coset = Coset { offset: basis.remove(0), basis };
+    right_basis(parameters, &coset)?;
     Ok(coset)
 }
 

@@ -2,7 +2,9 @@
 //! have.
 
 use crate::coset::{first_dependent, point};
+use crate::field;
 use crate::random::Random;
+use std::iter::successors;
 use std::ops::RangeInclusive;
 
 // Each is of one of a few sorts, in turn.
@@ -67,6 +69,21 @@ pub fn challenge(random: &mut Random, step: usize, offset: u64, basis: &[u64], t
         5 => point(0, &basis[..step], random.number()),
         _ => point(offset ^ (1 << random.below(64)), basis, random.number()),
     }
+}
+
+// Bases that stand in a special relation to the field. They need not be independent.
+
+/// The element and its multiples by powers of the factor.
+pub fn multiples_by_powers(element: u64, factor: u64, k: usize) -> Vec<u64> {
+    successors(Some(element), |&last| Some(field::product(last, factor))).take(k).collect()
+}
+
+/// Cantor's basis: 1, and then elements for which x^2 + x is the one before. From any element on,
+/// 64 such steps lead to zero, and the last before it is 1 for half of the elements.
+pub fn cantors(element: u64, k: usize) -> Vec<u64> {
+    let step = |&x: &u64| Some(field::sum(field::product(x, x), x));
+    let steps: Vec<u64> = successors(Some(element), step).take(64).collect();
+    steps.into_iter().rev().take(k).collect()
 }
 
 // Wrong lengths.

@@ -1,5 +1,6 @@
 //! The comparisons of the fold.
 
+pub mod bases;
 mod properties;
 
 use super::call::*;
@@ -87,11 +88,16 @@ fn due(call: &Call, outputs: &mut Outputs) -> Answer {
 
 fn right(random: &mut Random, k: u64, step: u64, turn: usize) -> Call {
     let basis = basis(random, k as usize, turn);
+    over_basis(random, step, basis, turn)
+}
+
+/// Right where the basis is independent.
+fn over_basis(random: &mut Random, step: u64, basis: Vec<u64>, turn: usize) -> Call {
     let offset = offset(random, &basis, turn);
     let word = word(random, step, offset, &basis, turn);
     let challenge = challenge(random, step as usize, offset, &basis, turn);
     let fill = FILLS[random.below(2)];
-    call_of([k, step], offset, basis, word, challenge).with_fill(fill)
+    call_of([basis.len() as u64, step], offset, basis, word, challenge).with_fill(fill)
 }
 
 /// A call with lent lists of the right lengths.
@@ -207,7 +213,7 @@ pub const FULL: Amounts = Amounts {
     },
 };
 
-/// Runs all comparisons of this file and of the one under it.
+/// Runs all comparisons of this file and of `properties`. Those of `bases` are run apart.
 pub fn comparisons(library: &dyn Library, amounts: &Amounts) -> Vec<Comparison> {
     let mut all = Vec::new();
     for (name, step, dimensions) in [
@@ -223,7 +229,7 @@ pub fn comparisons(library: &dyn Library, amounts: &Amounts) -> Vec<Comparison> 
         all.push(raw_calls(library, name, inputs));
     }
     all.push(raw_calls(library, WHOLE, large_calls(WHOLE, amounts.whole)));
-    all.push(sampled_folds(library, amounts.sampled));
+    all.push(sampled_folds(library, SAMPLED, large_calls(SAMPLED, amounts.sampled)));
     all.push(raw_calls(library, ALL_ONES, all_to_all_ones(&amounts.all_ones)));
     all.extend(properties::comparisons(library, amounts));
     all.extend(refused::comparisons(library, &FOLD, &amounts.refused));
@@ -268,10 +274,14 @@ impl Library for Sampled {
     }
 }
 
-fn sampled_folds(library: &dyn Library, dimensions: &[u64]) -> Comparison {
+fn sampled_folds(
+    library: &dyn Library,
+    name: &'static str,
+    calls: impl Iterator<Item = Call>,
+) -> Comparison {
     compare(
-        SAMPLED,
-        large_calls(SAMPLED, dimensions),
+        name,
+        calls,
         REFERENCE_AND_LIBRARY,
         |call| after_raw(&Sampled, call),
         |call| {

@@ -49,8 +49,9 @@ mod tests {
     fn wrong_libraries_differ_as_they_should() {
         let rows = [
             wrong("15 has a cause", |n| right(if n == 15 { 14 } else { n }).map(|_| n), "f"),
-            wrong("15 has the cause of 16", |n| right(n + u64::from(n == 15)), "f"),
-            wrong("16 is retired too", |n| right(n).filter(|_| n != 16), "10"),
+            wrong("16 has a cause", |n| right(if n == 16 { 14 } else { n }).map(|_| n), "10"),
+            wrong("16 has the cause of 17", |n| right(n + u64::from(n == 16)), "10"),
+            wrong("17 is retired too", |n| right(n).filter(|_| n != 17), "11"),
             wrong("0 has a cause", |n| right(n.max(1)).map(|_| n), "0"),
             wrong("18 has a cause", |n| right(n - u64::from(n == 18)), "12"),
             wrong("cut to 32 bits", |n| right(u64::from(n as u32)), "100000001"),

@@ -329,6 +329,12 @@ pub fn changed_at(place: usize, mut answer: Answer) -> Answer {
     answer
 }
 
+/// How a lone fold gave 16, a later layer's basis is dependent, which is retired: nothing in the
+/// reference refuses with it.
+pub fn with_16() -> Answer {
+    Answer { number: 16, round: Some(0), ..done() }
+}
+
 // Dependent bases.
 
 /// The refusal of a dependent basis.

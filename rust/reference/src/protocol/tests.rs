@@ -1,7 +1,6 @@
 //! Table A, the reads that the paper has formulas for, and the order of the refusals.
 
 use super::*;
-use crate::answer::refused_in_round;
 use crate::cases::{judgings, of_case_f, of_case_j, of_case_k};
 use crate::parameters::all_up_to;
 use crate::queries::apart;
@@ -125,17 +124,4 @@ fn the_first_query_in_the_coset_of_an_earlier_one_is_named() {
     assert_eq!(place(&[0, 5, 1, 6]), shared(2));
     assert_eq!(place(&[15, 0, 4, 8, 12]), shared(4));
     assert_eq!(place(&[0, 1, 2, 3]), shared(1));
-}
-
-/// No basis leads to it, so that it is shown of cosets alone.
-#[test]
-fn a_dependent_later_basis_has_its_round() {
-    let of = |bases: &[&[u64]]| {
-        let coset = |basis: &&[u64]| Coset { offset: 0, basis: basis.to_vec() };
-        later_layers_independent(&bases.iter().map(coset).collect::<Vec<_>>())
-    };
-    let [first, second, dependent]: [&[u64]; 3] = [&[1, 2, 4], &[6, 0x14], &[5, 5]];
-    assert_eq!(of(&[first, second]), Ok(()));
-    assert_eq!(of(&[first, dependent]), Err(refused_in_round(16, 0)));
-    assert_eq!(of(&[first, second, dependent]), Err(refused_in_round(16, 1)));
 }

@@ -1,11 +1,11 @@
 use super::*;
-use crate::answer::{done, refused, refused_in_round, NONE};
+use crate::answer::{done, refused, NONE};
 use crate::compare::operation::Reference;
 use crate::compare::reed_solomon::{ENCODE, INTERPOLATE};
 use crate::compare::wrong::{
     alike, and_then, answering, changing, dependent, differing, first_of_all, hold_table,
     lower_halves, not_writing, raw_alone, refusing, right_library, row, shared_rows, taking,
-    when_refused, with_points_from_0, Others, Row, Wrong,
+    when_refused, with_16, with_points_from_0, Others, Row, Wrong,
 };
 use crate::coset::point;
 use crate::polynomial::interpolant;
@@ -176,6 +176,14 @@ fn wrong_image(call: &Call, x: u64) -> u64 {
     spanning.fold(1, |product, b| field::product(product, x ^ b))
 }
 
+/// The next basis is the rest of the old one.
+pub(super) fn keeping_the_basis() -> Wrong {
+    and_then(|call, outputs| {
+        let [_, next_basis] = outputs.lists();
+        next_basis.copy_from_slice(&call[Basis][call[Step] as usize..])
+    })
+}
+
 fn wrong_cosets() -> Vec<Row<Wrong>> {
     let vanishing_at_the_basis = alike(|call, outputs| {
         let answer = Reference.safe(call, outputs);
@@ -188,10 +196,6 @@ fn wrong_cosets() -> Vec<Row<Wrong>> {
             *next = wrong_image(call, b);
         }
         went_well(wrong_image(call, call[Offset]))
-    });
-    let keeping_the_basis = and_then(|call, outputs| {
-        let [_, next_basis] = outputs.lists();
-        next_basis.copy_from_slice(&call[Basis][call[Step] as usize..])
     });
     let none_for_all_ones = answering(|_, answer| {
         let value = answer.value.filter(|&value| value != NONE);
@@ -208,7 +212,7 @@ fn wrong_cosets() -> Vec<Row<Wrong>> {
             .differs(&[RIGHT, IN_TWO, &[SAFE, CASE_D]].concat()),
         row("the next offset is the offset", with_next_offset(|call| call[Offset]))
             .differs(&[RIGHT, IN_TWO, &[SAFE, CASE_D]].concat()),
-        row("the next basis is the rest of the old one", keeping_the_basis)
+        row("the next basis is the rest of the old one", keeping_the_basis())
             .differs(&[RIGHT, CASES, &[LOW_DEGREES]].concat())
             .agrees(&[AT_POINTS, SUMS]),
         row("q vanishes at the basis elements alone", vanishing_at_the_basis)
@@ -271,8 +275,8 @@ fn wrong_ranges() -> Vec<Row<Wrong>> {
     let taking = |k| taking(4, move |call| call.k() == k);
     vec![
         row("only the spanning elements are tested", testing_the_first(done())).differs(DEPENDENT),
-        row("the next basis is tested instead", testing_the_first(refused_in_round(16, 0)))
-            .differs(DEPENDENT),
+        // With 16, a later layer's basis is dependent, which is retired.
+        row("the next basis is tested instead", testing_the_first(with_16())).differs(DEPENDENT),
         row("dimension 0 is taken", taking(0)).differs(&[DAMAGED]),
         row("dimension 1 is taken", taking(1)).differs(&[DAMAGED, K_OUT, SEVERAL]),
         row("dimension 21 is taken", taking(21)).differs(&[SAFE]).smallest(

@@ -2,6 +2,7 @@
 //! powers of two.
 
 use super::*;
+use crate::compare::cosets::{cantors, multiples_by_powers};
 use crate::coset::first_dependent;
 use crate::field;
 use std::collections::BTreeSet;
@@ -70,11 +71,6 @@ fn special_basis(random: &mut Random, k: usize, turn: usize) -> Vec<u64> {
     }
 }
 
-fn multiples_by_powers(element: u64, factor: u64, k: usize) -> Vec<u64> {
-    let powers = std::iter::successors(Some(element), |&last| Some(field::product(last, factor)));
-    powers.take(k).collect()
-}
-
 /// An element and its multiple by one of the field of four elements, for as many as are needed.
 fn multiples_in_pairs(random: &mut Random, k: usize) -> Vec<u64> {
     let factor = in_subfield(random.number(), 2);
@@ -93,14 +89,6 @@ fn with_one_multiple(random: &mut Random, k: usize) -> Vec<u64> {
         basis[place] = field::product(basis[other], factors[random.below(4)]);
     }
     basis
-}
-
-/// Cantor's basis: 1, and then elements for which x^2 + x is the one before. From any element on,
-/// 64 such steps lead to zero, and the last before it is 1 for half of the elements.
-fn cantors(element: u64, k: usize) -> Vec<u64> {
-    let step = |&x: &u64| Some(field::sum(field::product(x, x), x));
-    let steps: Vec<u64> = std::iter::successors(Some(element), step).take(64).collect();
-    steps.into_iter().rev().take(k).collect()
 }
 
 /// The element times all its conjugates over the field of 2^bits elements, which lies in there.

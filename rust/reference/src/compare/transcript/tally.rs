@@ -1,18 +1,19 @@
 //! How many byte strings there were, and how many of each number.
 
 use super::Bytes;
+use crate::answer::{has_cause, COSET_SHARED};
 use crate::transcript::{judge, judge_of_program};
-use std::collections::HashSet;
+use std::collections::{BTreeMap, HashSet};
 
-/// The numbers from 0, accepted, to the highest that the papers have.
-const NUMBERS: usize = 18;
+/// How often each number was due.
+type Counts = BTreeMap<u64, usize>;
 
 /// All byte strings so far, and how often each number was due from the library and from the
 /// program.
 #[derive(Default)]
 pub struct Tally {
     met: HashSet<Bytes>,
-    due: [[usize; NUMBERS]; 2],
+    due: [Counts; 2],
 }
 
 impl Tally {
@@ -21,24 +22,27 @@ impl Tally {
         inputs.retain(|input| self.met.insert(input.clone()));
         let [library, program] = &mut self.due;
         for bytes in &inputs {
-            library[judge(bytes).number as usize] += 1;
-            program[judge_of_program(bytes).number as usize] += 1;
+            *library.entry(judge(bytes).number).or_default() += 1;
+            *program.entry(judge_of_program(bytes).number).or_default() += 1;
         }
         inputs
     }
 
     /// What the byte strings were given for stands before them.
     pub fn text(&self, what: &str) -> String {
-        let [library, program] = self.due;
+        let [library, program] = &self.due;
         let count = self.met.len();
         let title = format!("{what}: {count} byte strings, no two of them equal\n");
-        let numbers = line("number", std::array::from_fn(|number| number));
-        [title, numbers, line("library", library), line("program", program)].concat()
+        let numbers = line("number", |number| number as usize);
+        let of = |name, counts: &Counts| line(name, |n| counts.get(&n).copied().unwrap_or(0));
+        [title, numbers, of("library", library), of("program", program)].concat()
     }
 }
 
-fn line(name: &str, row: [usize; NUMBERS]) -> String {
-    let cells: String = row.iter().map(|cell| format!("{cell:6}")).collect();
+/// A cell for 0, accepted, and for each number that has a cause.
+fn line(name: &str, cell: impl Fn(u64) -> usize) -> String {
+    let numbers = (0..=COSET_SHARED).filter(|&number| number == 0 || has_cause(number));
+    let cells: String = numbers.map(|number| format!("{:6}", cell(number))).collect();
     format!("  {name:7}{cells}\n")
 }
 
@@ -57,9 +61,9 @@ mod tests {
         let due = [
             "transcripts: 4 byte strings, no two of them equal",
             "  number      0     1     2     3     4     5     6     7     8     9    10    11    \
-             12    13    14    15    16    17",
-            &format!("  library     0     1     3{}", zeros(15)),
-            &format!("  program     0     1     2{}     1{}", zeros(11), zeros(3)),
+             12    13    14    17",
+            &format!("  library     0     1     3{}", zeros(13)),
+            &format!("  program     0     1     2{}     1{}", zeros(11), zeros(1)),
             "",
         ];
         assert_eq!(tally.text("transcripts"), due.join("\n"));
