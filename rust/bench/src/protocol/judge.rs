@@ -2,10 +2,11 @@
 
 use super::apart::check_apart;
 use super::inputs::{Inputs, RATE};
-use super::layers::{check_bases, layer_start};
+use super::layers::{check_basis, layer_start};
 use super::prover::proved;
 use crate::arithmetic::{counted, Arithmetic, Counts, OneByOne};
-use crate::beside::{checked, compare, Operation};
+use crate::beside::{checked, compare, work, Operation};
+use crate::clock::least;
 use crate::codes::evaluate;
 use crate::coset::{composed_maps, point, step_elements, LayerCoset};
 use crate::fold::{inverses_of, span_of, Coset};
@@ -32,7 +33,27 @@ pub fn report(inputs: &Inputs) {
         check(proof);
         print_counts(proof);
         compare(proof, TURNS, "µs", 1e3);
+        print_share_of_the_set_up(proof);
     }
+}
+
+/// How long the library takes for what it does once a judging, its checks and the set-up of the
+/// layers: what it takes with one query, less what each of a few more adds.
+fn print_share_of_the_set_up(proof: Proof) {
+    const MORE: usize = 32;
+    let with = |count| Proof { queries: &proof.queries[..count], ..proof };
+    let all = proof.queries.len();
+    let mut works =
+        [1, 1 + MORE, all].map(|count| work(with(count), ("judge", Operation::by_library)));
+    let times = least(&mut works, TURNS);
+    let once = times[0] - (times[1] - times[0]) / MORE as f64;
+    println!(
+        "    set-up and checks of the library {:.1} µs: {:.2} of a judging with one query, {:.3} \
+         with {all}",
+        once / 1e3,
+        once / times[0],
+        once / times[2]
+    );
 }
 
 /// The answers to what was proved, and to a store with another entry where the last query finds
@@ -48,7 +69,7 @@ fn check(proof: Proof) {
 fn print_counts(proof: Proof) {
     let run = proof.run;
     let once = counted(|arithmetic| {
-        check_bases(arithmetic, &run);
+        check_basis(arithmetic, &run);
         set_up(arithmetic, &run)
     });
     let queried = counted(|arithmetic| {
@@ -117,7 +138,7 @@ impl Operation for Proof<'_> {
 
     #[inline(always)]
     fn by(self, arithmetic: impl Arithmetic, (): &mut ()) -> Self::Answer {
-        check_bases(arithmetic, &self.run);
+        check_basis(arithmetic, &self.run);
         check_apart(self.queries, self.run.step)?;
         let rounds = set_up(arithmetic, &self.run);
         let mut cosets = 0;

@@ -1,7 +1,7 @@
 //! The prover beside the same method in Rust.
 
 use super::inputs::{Inputs, RATE};
-use super::layers::{check_bases, dimension, layer_start};
+use super::layers::{check_basis, dimension, layer_start};
 use crate::arithmetic::{counted, Arithmetic};
 use crate::beside::{checked, compare, Operation};
 use crate::codes::interpolate_in_place;
@@ -62,7 +62,7 @@ impl Operation for Run<'_> {
 
     #[inline(always)]
     fn by(self, arithmetic: impl Arithmetic, (store, last): &mut Self::Room) -> Self::Answer {
-        check_bases(arithmetic, &self);
+        check_basis(arithmetic, &self);
         let mut room = [0; 256];
         let room = &mut room[..1 << dimension(&self, self.challenges.len())];
         let coset = fold_layers(arithmetic, &self, store, room);

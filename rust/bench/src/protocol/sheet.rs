@@ -4,7 +4,7 @@
 use super::apart::check_apart;
 use super::inputs::{Inputs, RATE};
 use super::judge::{ended_round, set_up, Proof, TURNS};
-use super::layers::check_bases;
+use super::layers::check_basis;
 use super::transcript::{judging, with_proofs, Transcript};
 use crate::arithmetic::Arithmetic;
 use crate::beside::{checked, works, Operation};
@@ -62,7 +62,7 @@ impl Operation for Sheet<'_> {
     #[inline(always)]
     fn by(self, arithmetic: impl Arithmetic, out: &mut Vec<u8>) -> Self::Answer {
         let proof = &self.proof;
-        check_bases(arithmetic, &proof.run);
+        check_basis(arithmetic, &proof.run);
         check_apart(proof.queries, proof.run.step)?;
         let rounds = set_up(arithmetic, &proof.run);
         let by_query = out.chunks_exact_mut(LINE * rounds.len());

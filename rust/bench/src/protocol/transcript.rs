@@ -4,7 +4,7 @@
 use super::apart::check_apart;
 use super::inputs::{Inputs, RATE};
 use super::judge::{Proof, TURNS};
-use super::layers::{check_bases, dimension, layer_start};
+use super::layers::{check_basis, dimension, layer_start};
 use super::prover::proved;
 use crate::arithmetic::{Arithmetic, Windowed};
 use crate::beside::{work, Operation};
@@ -90,7 +90,7 @@ impl Transcript<'_> {
 }
 
 /// The library's method: the checks, then section after section, entry by entry. Of the checks
-/// only those of the bases and that the queries lie apart are made; the others compare some three
+/// only that of the basis and that the queries lie apart are made; the others compare some three
 /// hundred numbers.
 impl Operation for Transcript<'_> {
     type Room = Vec<u8>;
@@ -106,7 +106,7 @@ impl Operation for Transcript<'_> {
     }
 
     fn by(self, arithmetic: impl Arithmetic, bytes: &mut Vec<u8>) -> Self::Answer {
-        check_bases(arithmetic, &self.0.run);
+        check_basis(arithmetic, &self.0.run);
         check_apart(self.0.queries, self.0.run.step)?;
         write(&self.0, bytes);
         Ok(())
