@@ -24,9 +24,9 @@
 #include <stddef.h>
 #include <stdint.h>
 
-#define RZ_VERSION "0.7.0"
+#define RZ_VERSION "0.8.0"
 #define RZ_VERSION_MAJOR 0
-#define RZ_VERSION_MINOR 7
+#define RZ_VERSION_MINOR 8
 #define RZ_VERSION_PATCH 0
 
 #ifdef __cplusplus
@@ -49,7 +49,7 @@ extern "C" {
  *   number  0 when it went well, else that of the cause; RZ_NONE where nothing was done
  *   place   the section (numbers 1, 2), basis place (8), query (10, 11, 17), degree (12) or list
  *           (13); for the layer lookup, a start
- *   round   for numbers 11 and 16
+ *   round   for number 11
  *   reads   how many entries a judge read: 0 where none were, and for every other function
  *   value   what the function gives, where it gives something and number is 0; for the prover, the
  *           degree on number 12
@@ -90,7 +90,8 @@ static inline int rz_done(struct rz_answer answer);
  *
  * Each with its cause, in the words of docs/NUMBERS.md, which says what an operator does next. A
  * number, once given, keeps its cause for good. Retired, and not used again: 15, the inverse of
- * zero, which versions up to 0.6 gave. Beside RZ_NONE there are no others. */
+ * zero, which versions up to 0.6 gave; 16, a later layer's basis is dependent, for which versions
+ * up to 0.7 checked and which never came about. Beside RZ_NONE there are no others. */
 enum rz_number {
     RZ_ACCEPTED = 0,
     /* the bytes end in a count or its entries */
@@ -123,8 +124,6 @@ enum rz_number {
     /* the program's input has over 65,536 bytes; the program `judge` alone gives it, and no
      * function of this header */
     RZ_INPUT_TOO_LONG = 14,
-    /* a later layer's basis is dependent; it is checked for, and proved never to come about */
-    RZ_LATER_BASIS_DEPENDENT = 16,
     /* two queries share a first-layer coset */
     RZ_COSET_SHARED = 17
 };
@@ -211,15 +210,15 @@ uint64_t rz_transcript_length(size_t k, size_t rate, size_t step, size_t queries
  *   rz_invert_list               8,388,608    64   1,024
  *   rz_encode_answer            16,777,376    64   6,400
  *   rz_interpolate_answer       16,777,376    64   5,632
- *   rz_fold_answer              12,583,224    64   3,584
+ *   rz_fold_answer              12,583,224    64   2,816
  *   rz_rounds                            0     0     256
  *   rz_store_length                      0     0     256
  *   rz_last_length                       0     0     256
  *   rz_transcript_length                 0     0     256
- *   rz_prove_answer             16,777,504   256   6,656
+ *   rz_prove_answer             16,777,504   256   6,144
  *   rz_layer_answer              8,388,576     0     512
  *   rz_judge_answer             16,779,552   266   8,192
- *   rz_write_transcript_answer  33,559,232    64   3,328
+ *   rz_write_transcript_answer  33,559,232    64   1,280
  *   rz_judge_transcript_answer  16,779,680   266  12,800
  *   rz_sheet_into               17,052,064   266  13,824
  *
@@ -298,10 +297,8 @@ struct rz_fold_call {
  *              `next_basis`, other than k - step
  *   number 8   a basis element lies in the span of earlier ones, and its place is the first such
  *              place, from 0
- *   number 16  the next basis is dependent, which happens to no independent basis; no place,
- *              round 0
  * A refusal leaves `values` and `next_basis` as they were, and has no value. The answer has no
- * round but with number 16, and 0 reads. */
+ * round, and 0 reads. */
 RZ_MUST_USE
 static inline struct rz_answer rz_fold_answer(const struct rz_fold_call *call,
                                               struct rz_output values,
@@ -335,12 +332,10 @@ struct rz_run {
  *              `store`, other than rz_store_length; 5, `last`, other than d
  *   number 8   a basis element lies in the span of earlier ones, and its place is the first such
  *              place, from 0
- *   number 16  a later layer's basis is dependent, which happens to no independent basis; no
- *              place, and the round whose fold gives that layer
  *   number 12  layer r has degree d or more, and place and value are that degree; `store` then
  *              holds the layers, and `last` is as it was
- * All other refusals leave `store` and `last` as they were. No value but with number 12, no round
- * but with number 16, 0 reads. */
+ * All other refusals leave `store` and `last` as they were. No value but with number 12, no
+ * round, 0 reads. */
 RZ_MUST_USE
 static inline struct rz_answer rz_prove_answer(const struct rz_run *run, struct rz_output store,
                                                struct rz_output last);
@@ -357,7 +352,7 @@ static inline struct rz_answer rz_layer_answer(size_t k, size_t rate, size_t ste
  * challenge i of the coset of layer i that holds index j / 2^(step * i) must equal the entry of
  * layer i + 1 at index j / 2^(step * (i + 1)) or, in the last round, the last polynomial at the
  * point of layer r with that index; divisions are rounded down. Number 0 where all are equal.
- * Refused as rz_prove_answer is by 4, 5, 6, 7, 13, 8 and 16, then with
+ * Refused as rz_prove_answer is by 4, 5, 6, 7, 13 and 8, then with
  *   number 9   no query, or over 256; no place
  *   number 10  an entry of `queries` is 2^k or more, and its place is the first such position,
  *              from 0
@@ -368,7 +363,7 @@ static inline struct rz_answer rz_layer_answer(size_t k, size_t rate, size_t ste
  *              its position in `queries`, from 0, and round its round
  * reads: queries * r * 2^step where number is 0; t * r * 2^step + min(i + 2, r) * 2^step for
  * number 11 at position t and round i; else 0. No list is written. The answer has no value, and no
- * round but with numbers 11 and 16. */
+ * round but with number 11. */
 RZ_MUST_USE
 static inline struct rz_answer rz_judge_answer(const struct rz_run *run, struct rz_list queries,
                                                struct rz_list store, struct rz_list last);
@@ -388,8 +383,7 @@ static inline struct rz_answer rz_judge_answer(const struct rz_run *run, struct 
  * bytes is what rz_judge_answer says of the lists. Refused as rz_judge_answer is, but never with
  * number 11; number 13 has one list more, behind the others: 8, `bytes`, where `length` is other
  * than rz_transcript_length for as many queries as there are, be it none or over 256. A refusal
- * leaves every byte as it was. The answer has no value, no round but with number 16, and 0
- * reads. */
+ * leaves every byte as it was. The answer has no value, no round, and 0 reads. */
 RZ_MUST_USE
 static inline struct rz_answer rz_write_transcript_answer(const struct rz_run *run,
                                                           struct rz_list queries,
@@ -403,11 +397,11 @@ static inline struct rz_answer rz_write_transcript_answer(const struct rz_run *r
  *   number 2   its count is not the one due, and its place is the section; in section 4 instead
  *   number 9   its count is 0 or over 256; no place
  *   number 1   the bytes of its entries are not all there, and its place is the section
- * and by the values of its entries, as rz_judge_answer has them: 4, 5, 6 and 7 in section 1, 8 and
- * 16 in section 2, 10 and 17 in section 4. After the last section, with
+ * and by the values of its entries, as rz_judge_answer has them: 4, 5, 6 and 7 in section 1, 8 in
+ * section 2, 10 and 17 in section 4. After the last section, with
  *   number 3   bytes follow; no place
  * and last with number 11, as rz_judge_answer has it. The reads are those of rz_judge_answer. The
- * answer has no value, and no round but with numbers 11 and 16. */
+ * answer has no value, and no round but with number 11. */
 RZ_MUST_USE
 static inline struct rz_answer rz_judge_transcript_answer(const uint8_t *bytes, size_t length);
 

@@ -4,7 +4,7 @@ use Rattle.layout.proofs.Parts.{part-taken}
 use Rattle.c_answers.specs.Theorems.{FoldNumbers, RunNumbers}
 
 pub fold-numbers : FoldNumbers
-fold-numbers = record { done = refl; wrong-length = refl; later-basis = refl }
+fold-numbers = record { done = refl; wrong-length = refl }
 
 pub run-numbers : RunNumbers
 run-numbers =

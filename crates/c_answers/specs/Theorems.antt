@@ -4,8 +4,7 @@ use mathlib.Core.Path.{_≡_}
 use mathlib.Core.List.{List, [], _∷_}
 use Prim.Native.Nat.{ℕ}
 use lib.ListN.{length, take, drop}
-use Rattle.refusal.specs.declared.Cause.the-variants.{WrongLength, LaterBasisDependent, DegreeTooLarge, RoundCheckFails}
-use Rattle.refusal.specs.declared.Cause.the-variants.{CosetShared}
+use Rattle.refusal.specs.declared.Cause.the-variants.{WrongLength, DegreeTooLarge, RoundCheckFails, CosetShared}
 use Rattle.refusal.specs.declared.Outcome.the-variants as outcomes
 use Rattle.fold.specs.declared.Folded.the-variants.{NextOffset, Refused}
 use Rattle.fri.specs.declared.Answer.the-variants as answers
@@ -18,7 +17,6 @@ use Rattle.c_answers.specs.Answers.{answerOfVerdict}
 pub record FoldNumbers : Type 0 where
   pub done : numbersOf (answerOfFolded (NextOffset (record { 0 = 0x48 }))) ≡ 0 ∷ none ∷ none ∷ 0 ∷ 0x48 ∷ []
   pub wrong-length : numbersOf (answerOfFolded (Refused (WrongLength 7))) ≡ 13 ∷ 7 ∷ none ∷ 0 ∷ none ∷ []
-  pub later-basis : numbersOf (answerOfFolded (Refused (LaterBasisDependent 0))) ≡ 16 ∷ none ∷ 0 ∷ 0 ∷ none ∷ []
 
 -- prover, judge and lookup
 pub record RunNumbers : Type 0 where

@@ -262,8 +262,7 @@ k-coefficient =
 
 d-done : foldOutcome 2 1 (1 ∷ 2 ∷ []) (0 ∷ 0 ∷ 0 ∷ 0 ∷ []) (0 ∷ 0 ∷ []) (0 ∷ []) ≡ Done
 d-done =
-    accepted .done 2 1 (1 ∷ 2 ∷ []) (0 ∷ 0 ∷ 0 ∷ 0 ∷ []) (0 ∷ 0 ∷ []) (0 ∷ [])
-    (omega arith, (omega arith, record {})) .1
+    accepted .done 2 1 (1 ∷ 2 ∷ []) (0 ∷ 0 ∷ 0 ∷ 0 ∷ []) (0 ∷ 0 ∷ []) (0 ∷ []) .1
     ((omega arith, omega arith, omega arith, omega arith), omega arith, (refl, refl, refl, refl), independent)
 
 d-call : (foldAnswer 2 1 0x8 (1 ∷ 2 ∷ []) (0 ∷ 0 ∷ 0 ∷ 0 ∷ []) (0 ∷ 0 ∷ []) (0 ∷ []) ≡ NextOffset (record { 0 = 0x48 }))

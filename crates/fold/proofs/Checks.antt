@@ -14,13 +14,11 @@ use Rattle.refusal.specs.Checks.{refusedUnless, andThen, afterwards}
 use Rattle.refusal.proofs.Checks.{equal-of-test, le-of-test, passed-by, refused-by}
 use Rattle.refusal.proofs.Checks.{unless-done, then-done, within-of, done-holds, refused-holds}
 use Rattle.field.specs.declared.Element.{Element}
-use Rattle.coset.specs.Answers.{outcomeOfBasis}
-use Rattle.coset.specs.Span.{firstDependent, Independent}
+use Rattle.coset.specs.Answers.{basisOutcome}
+use Rattle.coset.specs.Span.{Independent}
 use Rattle.coset.proofs.Independence.{independent-of}
-use Rattle.coset.specs.Subspace.{nextBasis}
 use Rattle.fold.specs.declared.Folded.the-variants as answers
-use Rattle.fold.specs.Answers.{foldRangesOutcome, foldLengthsOutcome, outcomeOfNextBasis}
-use Rattle.fold.specs.Answers.{foldBasesOutcome, foldOutcome, foldedOf}
+use Rattle.fold.specs.Answers.{foldRangesOutcome, foldLengthsOutcome, foldOutcome, foldedOf}
 
 -- ---- ranges
 
@@ -153,14 +151,12 @@ pub passed : (k step : ℕ) (basis word values next : List ℕ) → foldOutcome 
     → Passed k step basis word values next
 passed k step basis word values next e =
     let lengths = foldLengthsOutcome k step (length basis) (length word) (length values) (length next) in
-    let first = then-done (foldRangesOutcome k step) (andThen lengths (foldBasesOutcome step basis)) e in
-    let second = then-done lengths (foldBasesOutcome step basis) (first .1) in
-    let third = then-done (outcomeOfBasis (firstDependent basis))
-    (outcomeOfNextBasis (firstDependent (nextBasis step basis))) (second .1) in
+    let first = then-done (foldRangesOutcome k step) (andThen lengths (basisOutcome basis)) e in
+    let second = then-done lengths (basisOutcome basis) (first .1) in
     record {
       ranges = in-range k step (first .0);
       lengths = fitting k step (length basis) (length word) (length values) (length next) (second .0);
-      independent = independent-of (firstDependent basis) (third .0);
+      independent = independent-of basis (second .1);
     }
 
 -- ---- the three clauses

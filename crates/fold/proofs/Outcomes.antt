@@ -1,36 +1,33 @@
 -- Which folds are done, and the numbers, places and rounds of the refusals. Assumes nothing.
 use mathlib.Core.Path.{_≡_, refl, sym, ap, _∙_, subst}
-use mathlib.Core.Logic.{_≢_, _↔_}
+use mathlib.Core.Logic.{_↔_, inl, inr}
 use mathlib.Core.Bool.{true, _&&_}
 use mathlib.Core.List.{List}
-use Prim.Native.Nat.{ℕ, _-_, _^_, _≤_, _<_}
+use Prim.Native.Nat.{ℕ, _-_, _^_, _≤_}
 use native.Mathlib.Omega.{arith}
 use lib.Dec.{leb, eqb}
 use lib.ListN.{length}
 use borrow.Author.Tests.{le-leb, lt-leb, eq-eqb, ne-eqb}
-use Rattle.gf64.specs.Field.{IsElement}
-use Rattle.poly.specs.Polynomial.{All}
 use Rattle.refusal.specs.declared.Cause.{Cause}
 use Rattle.refusal.specs.declared.Cause.the-variants.{DimensionOutOfRange, StepOutOfRange}
 use Rattle.refusal.specs.declared.Cause.the-variants.{DimensionTooSmall, WrongLength, BasisDependent}
 use Rattle.refusal.specs.declared.Outcome.{Outcome}
 use Rattle.refusal.specs.declared.Outcome.the-variants.{Done, Refused}
-use Rattle.refusal.specs.declared.Position.{Position}
-use Rattle.refusal.specs.declared.Position.the-variants.{At, Absent}
+use Rattle.refusal.specs.declared.Position.the-variants.{Absent}
 use Rattle.refusal.specs.Checks.{andThen, afterwards}
 use Rattle.refusal.specs.Numbers.{numberOf, placeOf, roundOf, numberOfOutcome}
 use Rattle.refusal.proofs.Checks.{within, outside, number-unless, number-then, then-passed, then-refused}
-use Rattle.coset.specs.Span.{firstDependent, Independent}
-use Rattle.coset.specs.Answers.{outcomeOfBasis}
+use Rattle.coset.specs.Span.{Independent}
+use Rattle.coset.specs.Answers.{outcomeOfBasis, basisOutcome}
 use Rattle.coset.specs.Subspace.{nextOffset, nextBasis}
-use Rattle.coset.proofs.Subspace.{next-independent}
-use Rattle.fold.specs.Answers.{foldRangesOutcome, foldLengthsOutcome, outcomeOfNextBasis, foldBasesOutcome}
+use Rattle.coset.proofs.Independence.{basis-number}
+use Rattle.fold.specs.Answers.{foldRangesOutcome, foldLengthsOutcome}
 use Rattle.fold.specs.Answers.{foldOutcome, foldedOf, foldAnswer, foldValuesAfter, nextBasisAfter}
 use Rattle.fold.specs.Answers.{numberOfFolded, placeOfFolded, roundOfFolded, valueOfFolded}
 use Rattle.fold.specs.declared.Folded.{Folded}
 use Rattle.fold.specs.declared.Folded.the-variants.{NextOffset}
 use Rattle.fold.specs.Fold.{folded}
-use Rattle.fold.specs.Theorems.{InRange, FoldFits, FoldTells, FoldAccepted, Refuses, FoldRefusals}
+use Rattle.fold.specs.Theorems.{InRange, FoldFits, FoldTells, FoldAccepted, Refuses, FoldNumber, FoldRefusals}
 use Rattle.fold.proofs.Checks as checks
 
 in-range-k : (k step : ℕ) → InRange k step → (leb 2 k && leb k 20) ≡ true
@@ -46,11 +43,8 @@ module _ (k step : ℕ) (basis word values next : List ℕ) where
   abbrev lengths : Outcome
   lengths = foldLengthsOutcome k step (length basis) (length word) (length values) (length next)
 
-  abbrev bases : Outcome
-  bases = foldBasesOutcome step basis
-
   ranges-refuse : (cause : Cause) → Refused cause ≡ foldRangesOutcome k step → Refused cause ≡ outcome
-  ranges-refuse cause e = then-refused (foldRangesOutcome k step) (andThen lengths bases) cause (sym e)
+  ranges-refuse cause e = then-refused (foldRangesOutcome k step) (andThen lengths (basisOutcome basis)) cause (sym e)
 
   module _ (r : InRange k step) (fits : step ≤ k) where
     ranges-passed : foldRangesOutcome k step ≡ Done
@@ -58,29 +52,22 @@ module _ (k step : ℕ) (basis word values next : List ℕ) where
 
     lengths-refuse : (cause : Cause) → Refused cause ≡ lengths → Refused cause ≡ outcome
     lengths-refuse cause e =
-        then-refused lengths bases cause (sym e)
-        ∙ then-passed (foldRangesOutcome k step) (andThen lengths bases) ranges-passed
+        then-refused lengths (basisOutcome basis) cause (sym e)
+        ∙ then-passed (foldRangesOutcome k step) (andThen lengths (basisOutcome basis)) ranges-passed
 
-    bases-decide : FoldFits k step basis word values next → bases ≡ outcome
-    bases-decide f =
-        then-passed lengths bases
+    basis-decides : FoldFits k step basis word values next → basisOutcome basis ≡ outcome
+    basis-decides f =
+        then-passed lengths (basisOutcome basis)
         (sym
         (checks.lengths-pass k step (length basis) (length word) (length values) (length next)
         (eq-eqb (length basis) k (f .0)) (eq-eqb (length word) (2 ^ k) (f .1))
         (eq-eqb (length values) (2 ^ (k - step)) (f .2)) (eq-eqb (length next) (k - step) (f .3))))
-        ∙ then-passed (foldRangesOutcome k step) (andThen lengths bases) ranges-passed
+        ∙ then-passed (foldRangesOutcome k step) (andThen lengths (basisOutcome basis)) ranges-passed
 
--- an independent basis passes, and number 16 does not come
-bases-pass : (step : ℕ) (basis : List ℕ) → All IsElement basis → Independent basis → foldBasesOutcome step basis ≡ Done
-bases-pass step basis h d =
-    sym (then-passed (outcomeOfBasis (firstDependent basis))
-    (outcomeOfNextBasis (firstDependent (nextBasis step basis))) (ap outcomeOfBasis d))
-    ∙ ap outcomeOfNextBasis (next-independent step basis h d)
-
-accepts : (k step : ℕ) (basis word values next : List ℕ) → All IsElement basis
+accepts : (k step : ℕ) (basis word values next : List ℕ)
     → (foldOutcome k step basis word values next ≡ Done)
     ↔ (InRange k step × (step ≤ k) × FoldFits k step basis word values next × Independent basis)
-accepts k step basis word values next h = (
+accepts k step basis word values next = (
   λ e.
       let p = checks.passed k step basis word values next e in
       let r = p .ranges in
@@ -90,21 +77,21 @@ accepts k step basis word values next h = (
         (l .list1-fits, l .list3-fits, l .list6-fits, l .list7-fits),
         p .independent,
       ),
-  λ a. sym (bases-decide k step basis word values next (a .0) (a .1) (a .2)) ∙ bases-pass step basis h (a .3),
+  λ a. sym (basis-decides k step basis word values next (a .0) (a .1) (a .2)) ∙ ap outcomeOfBasis (a .3),
 )
 
--- a refusal carries its cause's number, place and round and no value, and leaves both lists
-refuses : (k step : ℕ) (basis word values next : List ℕ) (cause : Cause)
+-- a refusal carries its cause's number and place, no round and no value, and leaves both lists
+refuses : (k step : ℕ) (basis word values next : List ℕ) (cause : Cause) → roundOf cause ≡ Absent
     → Refused cause ≡ foldOutcome k step basis word values next
-    → Refuses k step basis word values next (numberOf cause) (placeOf cause) (roundOf cause)
-refuses k step basis word values next cause e offset x =
+    → Refuses k step basis word values next (numberOf cause) (placeOf cause)
+refuses k step basis word values next cause n e offset x =
     subst
     (λ (o : Outcome).
-    FoldTells (foldedOf o (nextOffset step offset basis)) (numberOf cause) (placeOf cause) (roundOf cause)
+    FoldTells (foldedOf o (nextOffset step offset basis)) (numberOf cause) (placeOf cause) Absent
     × ((none : ℕ) → valueOfFolded (foldedOf o (nextOffset step offset basis)) none ≡ none)
     × (afterwards o (folded step offset basis word x) values ≡ values)
     × (afterwards o (nextBasis step basis) next ≡ next))
-    e ((refl, refl, refl), (λ none. refl), refl, refl)
+    e ((refl, refl, n), (λ none. refl), refl, refl)
 
 answers-done : (k step offset : ℕ) (basis word : List ℕ) (x : ℕ) (values next : List ℕ)
     → foldOutcome k step basis word values next ≡ Done
@@ -125,71 +112,45 @@ answers-done k step offset basis word x values next e = (
         ≡ NextOffset (record { 0 = nextOffset step offset basis })
     is-offset = ap (λ (o : Outcome). foldedOf o (nextOffset step offset basis)) e
 
-dependent-refused : (step : ℕ) (basis : List ℕ) (place : ℕ) → firstDependent basis ≡ At place
-    → Refused (BasisDependent place) ≡ foldBasesOutcome step basis
-dependent-refused step basis place e =
-    then-refused (outcomeOfBasis (firstDependent basis)) (outcomeOfNextBasis (firstDependent (nextBasis step basis)))
-    (BasisDependent place) (ap outcomeOfBasis e)
+-- ---- which numbers there are
 
--- ---- no call is refused with number 16
+module _ (P : ℕ → Type 0) (p0 : P 0) (p4 : P 4) (p6 : P 6) (p7 : P 7) (p8 : P 8) (p13 : P 13) where
+  ranges-number : (k step : ℕ) → P (numberOfOutcome (foldRangesOutcome k step))
+  ranges-number k step =
+      number-unless P (leb 2 k && leb k 20) DimensionOutOfRange (checks.stepChecked k step) p4
+      (number-unless P (leb 1 step && leb step 3) StepOutOfRange (checks.smallEnough k step) p6
+      (number-unless P (leb step k) DimensionTooSmall Done p7 p0))
 
--- the outcome is one of the others: a refusal whose number is below 16, or done
-abbrev Other : Outcome → Type 0
-Other outcome = numberOfOutcome outcome < 16
+  lengths-number : (k step length1 length3 length6 length7 : ℕ)
+      → P (numberOfOutcome (foldLengthsOutcome k step length1 length3 length6 length7))
+  lengths-number k step length1 length3 length6 length7 =
+      number-unless P (eqb length1 k) (WrongLength 1) (checks.after1 k step length1 length3 length6 length7) p13
+      (number-unless P (eqb length3 (2 ^ k)) (WrongLength 3) (checks.after3 k step length1 length3 length6 length7) p13
+      (number-unless P (eqb length6 (2 ^ (k - step))) (WrongLength 6)
+      (checks.after6 k step length1 length3 length6 length7) p13
+      (number-unless P (eqb length7 (k - step)) (WrongLength 7) Done p13 p0)))
 
-other-bases : (step : ℕ) (basis : List ℕ) → All IsElement basis → Other (foldBasesOutcome step basis)
-other-bases step basis h = by (firstDependent basis) refl
-  where
-    by : (p : Position) → firstDependent basis ≡ p → numberOfOutcome (foldBasesOutcome step basis) < 16
-    by (At place) e =
-        subst (λ (o : Outcome). numberOfOutcome o < 16) (dependent-refused step basis place e) (omega arith)
-    by Absent e = subst (λ (o : Outcome). numberOfOutcome o < 16) (sym (bases-pass step basis h e)) (omega arith)
-
-other-all : (k step : ℕ) (basis word values next : List ℕ) → All IsElement basis
-    → Other (foldOutcome k step basis word values next)
-other-all k step basis word values next h =
-    number-then (λ n. n < 16) (foldRangesOutcome k step) (andThen lengths (foldBasesOutcome step basis)) ranges-other
-    (number-then (λ n. n < 16) lengths (foldBasesOutcome step basis) lengths-other (other-bases step basis h))
-  where
-    lengths : Outcome
-    lengths = foldLengthsOutcome k step (length basis) (length word) (length values) (length next)
-
-    ranges-other : Other (foldRangesOutcome k step)
-    ranges-other =
-        number-unless (λ n. n < 16) (leb 2 k && leb k 20) DimensionOutOfRange (checks.stepChecked k step) (omega arith)
-        (number-unless (λ n. n < 16) (leb 1 step && leb step 3) StepOutOfRange (checks.smallEnough k step) (omega arith)
-        (number-unless (λ n. n < 16) (leb step k) DimensionTooSmall Done (omega arith) (omega arith)))
-
-    after1 : Outcome
-    after1 = checks.after1 k step (length basis) (length word) (length values) (length next)
-
-    after3 : Outcome
-    after3 = checks.after3 k step (length basis) (length word) (length values) (length next)
-
-    after6 : Outcome
-    after6 = checks.after6 k step (length basis) (length word) (length values) (length next)
-
-    lengths-other : Other lengths
-    lengths-other =
-        number-unless (λ n. n < 16) (eqb (length basis) k) (WrongLength 1) after1 (omega arith)
-        (number-unless (λ n. n < 16) (eqb (length word) (2 ^ k)) (WrongLength 3) after3 (omega arith)
-        (number-unless (λ n. n < 16) (eqb (length values) (2 ^ (k - step))) (WrongLength 6) after6 (omega arith)
-        (number-unless (λ n. n < 16) (eqb (length next) (k - step)) (WrongLength 7) Done (omega arith) (omega arith))))
+  outcome-number : (k step : ℕ) (basis word values next : List ℕ)
+      → P (numberOfOutcome (foldOutcome k step basis word values next))
+  outcome-number k step basis word values next =
+      let lengths = foldLengthsOutcome k step (length basis) (length word) (length values) (length next) in
+      number-then P (foldRangesOutcome k step) (andThen lengths (basisOutcome basis)) (ranges-number k step)
+      (number-then P lengths (basisOutcome basis)
+      (lengths-number k step (length basis) (length word) (length values) (length next))
+      (basis-number P p0 p8 basis))
 
 same-number : (outcome : Outcome) (offset : ℕ) → numberOfFolded (foldedOf outcome offset) ≡ numberOfOutcome outcome
 same-number Done offset = refl
 same-number (Refused cause) offset = refl
 
-never : (k step offset : ℕ) (basis word values next : List ℕ) → All IsElement basis
-    → numberOfFolded (foldAnswer k step offset basis word values next) ≢ 16
-never k step offset basis word values next h e =
-    not-below
-    (subst (λ (n : ℕ). n < 16)
-    (sym (same-number (foldOutcome k step basis word values next) (nextOffset step offset basis)) ∙ e)
-    (other-all k step basis word values next h))
-  where
-    not-below : 16 < 16 → ⊥
-    not-below l = omega arith
+numbers : (k step offset : ℕ) (basis word values next : List ℕ)
+    → FoldNumber (numberOfFolded (foldAnswer k step offset basis word values next))
+numbers k step offset basis word values next =
+    subst FoldNumber
+    (sym (same-number (foldOutcome k step basis word values next) (nextOffset step offset basis)))
+    (outcome-number FoldNumber (inl refl) (inr (inl refl)) (inr (inr (inl (omega arith, omega arith))))
+    (inr (inr (inl (omega arith, omega arith)))) (inr (inr (inl (omega arith, omega arith)))) (inr (inr (inr refl)))
+    k step basis word values next)
 
 pub accepted : FoldAccepted
 accepted = record { done = accepts; answer = answers-done }
@@ -198,40 +159,40 @@ pub refusals : FoldRefusals
 refusals =
     record {
       dimension = λ k step basis word values next o.
-          refuses k step basis word values next DimensionOutOfRange
+          refuses k step basis word values next DimensionOutOfRange refl
           (ranges-refuse k step basis word values next DimensionOutOfRange
           (checks.dimension-refused k step (outside 2 20 k o)));
       step = λ k step basis word values next l u o.
-          refuses k step basis word values next StepOutOfRange
+          refuses k step basis word values next StepOutOfRange refl
           (ranges-refuse k step basis word values next StepOutOfRange
           (checks.step-refused k step (within 2 20 k l u) (outside 1 3 step o)));
       too-small = λ k step basis word values next r s.
-          refuses k step basis word values next DimensionTooSmall
+          refuses k step basis word values next DimensionTooSmall refl
           (ranges-refuse k step basis word values next DimensionTooSmall
           (checks.too-small-refused k step (in-range-k k step r) (in-range-step k step r) (lt-leb step k s)));
       list1 = λ k step basis word values next r s n.
-          refuses k step basis word values next (WrongLength 1)
+          refuses k step basis word values next (WrongLength 1) refl
           (lengths-refuse k step basis word values next r s (WrongLength 1)
           (checks.list1-refused k step (length basis) (length word) (length values) (length next)
           (ne-eqb (length basis) k n)));
       list3 = λ k step basis word values next r s a n.
-          refuses k step basis word values next (WrongLength 3)
+          refuses k step basis word values next (WrongLength 3) refl
           (lengths-refuse k step basis word values next r s (WrongLength 3)
           (checks.list3-refused k step (length basis) (length word) (length values) (length next)
           (eq-eqb (length basis) k a) (ne-eqb (length word) (2 ^ k) n)));
       list6 = λ k step basis word values next r s a b n.
-          refuses k step basis word values next (WrongLength 6)
+          refuses k step basis word values next (WrongLength 6) refl
           (lengths-refuse k step basis word values next r s (WrongLength 6)
           (checks.list6-refused k step (length basis) (length word) (length values) (length next)
           (eq-eqb (length basis) k a) (eq-eqb (length word) (2 ^ k) b) (ne-eqb (length values) (2 ^ (k - step)) n)));
       list7 = λ k step basis word values next r s a b v n.
-          refuses k step basis word values next (WrongLength 7)
+          refuses k step basis word values next (WrongLength 7) refl
           (lengths-refuse k step basis word values next r s (WrongLength 7)
           (checks.list7-refused k step (length basis) (length word) (length values) (length next)
           (eq-eqb (length basis) k a) (eq-eqb (length word) (2 ^ k) b)
           (eq-eqb (length values) (2 ^ (k - step)) v) (ne-eqb (length next) (k - step) n)));
       dependent = λ k step basis word values next place r s f e.
-          refuses k step basis word values next (BasisDependent place)
-          (dependent-refused step basis place e ∙ bases-decide k step basis word values next r s f);
-      never16 = never;
+          refuses k step basis word values next (BasisDependent place) refl
+          (ap outcomeOfBasis (sym e) ∙ basis-decides k step basis word values next r s f);
+      numbers = numbers;
     }

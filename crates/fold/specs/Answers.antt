@@ -13,8 +13,7 @@ use Rattle.refusal.specs.declared.Position.{Position}
 use Rattle.refusal.specs.declared.Position.the-variants.{Absent}
 use Rattle.refusal.specs.Checks.{refusedUnless, andThen, afterwards}
 use Rattle.refusal.specs.Numbers.{numberOf, placeOf, roundOf}
-use Rattle.coset.specs.Span.{firstDependent}
-use Rattle.coset.specs.Answers.{outcomeOfBasis, outcomeOfLaterBasis}
+use Rattle.coset.specs.Answers.{basisOutcome}
 use Rattle.coset.specs.Subspace.{nextOffset, nextBasis}
 use Rattle.fold.specs.declared.Folded.{Folded}
 use Rattle.fold.specs.declared.Folded.the-variants as answers
@@ -37,21 +36,12 @@ foldLengthsOutcome k step length1 length3 length6 length7 =
     (refusedUnless (eqb length7 (k - step)) (WrongLength 7)
     Done)))
 
--- a dependent next basis is refused (16), with the round whose fold gives it: a lone fold is round 0
-abbrev pub outcomeOfNextBasis : (dependent : Position) → Outcome
-outcomeOfNextBasis dependent = outcomeOfLaterBasis 0 dependent
-
--- the basis (8), then the next one
-abbrev pub foldBasesOutcome : (step : ℕ) (basis : List ℕ) → Outcome
-foldBasesOutcome step basis =
-    andThen (outcomeOfBasis (firstDependent basis)) (outcomeOfNextBasis (firstDependent (nextBasis step basis)))
-
--- all checks, in the order of document 01: 4, 6, 7, 13, 8, 16
+-- all checks, in the order of document 01: 4, 6, 7, 13, 8
 abbrev pub foldOutcome : (k step : ℕ) (basis word values next : List ℕ) → Outcome
 foldOutcome k step basis word values next =
     andThen (foldRangesOutcome k step)
     (andThen (foldLengthsOutcome k step (length basis) (length word) (length values) (length next))
-    (foldBasesOutcome step basis))
+    (basisOutcome basis))
 
 -- the next offset, or the refusal
 abbrev pub foldedOf : (outcome : Outcome) (offset : ℕ) → Folded

@@ -127,9 +127,9 @@ abbrev pub FoldTells : (answer : Folded) (number : ℕ) (place round : Position)
 FoldTells answer number place round =
     (numberOfFolded answer ≡ number) × (placeOfFolded answer ≡ place) × (roundOfFolded answer ≡ round)
 
--- which calls are done, and what they answer and leave; number 16 has no part in it
+-- which calls are done, and what they answer and leave
 pub record FoldAccepted : Type 0 where
-  pub done : (k step : ℕ) (basis word values next : List ℕ) → All IsElement basis
+  pub done : (k step : ℕ) (basis word values next : List ℕ)
       → (foldOutcome k step basis word values next ≡ Done)
       ↔ (InRange k step × (step ≤ k) × FoldFits k step basis word values next × Independent basis)
   pub answer : (k step offset : ℕ) (basis word : List ℕ) (x : ℕ) (values next : List ℕ)
@@ -141,35 +141,39 @@ pub record FoldAccepted : Type 0 where
       × (foldValuesAfter k step offset basis word x values next ≡ folded step offset basis word x)
       × (nextBasisAfter k step basis word values next ≡ nextBasis step basis)
 
--- a call is refused with this number, place and round and no value, and both lent lists are left as they were
-abbrev pub Refuses : (k step : ℕ) (basis word values next : List ℕ) (number : ℕ) (place round : Position) → Type 0
-Refuses k step basis word values next number place round =
+-- a call is refused with this number and place, no round and no value, and both lent lists are left as they were
+abbrev pub Refuses : (k step : ℕ) (basis word values next : List ℕ) (number : ℕ) (place : Position) → Type 0
+Refuses k step basis word values next number place =
     (offset x : ℕ)
-    → FoldTells (foldAnswer k step offset basis word values next) number place round
+    → FoldTells (foldAnswer k step offset basis word values next) number place Absent
     × ((none : ℕ) → valueOfFolded (foldAnswer k step offset basis word values next) none ≡ none)
     × (foldValuesAfter k step offset basis word x values next ≡ values)
     × (nextBasisAfter k step basis word values next ≡ next)
 
+-- the numbers of a lone fold: 0, 4, 6, 7, 8 and 13
+abbrev pub FoldNumber : (n : ℕ) → Type 0
+FoldNumber n = (n ≡ 0) ⊎ (n ≡ 4) ⊎ ((6 ≤ n) × (n ≤ 8)) ⊎ (n ≡ 13)
+
 -- the refusals by the first check that fails
 pub record FoldRefusals : Type 0 where
   pub dimension : (k step : ℕ) (basis word values next : List ℕ) → (k < 2) ⊎ (20 < k)
-      → Refuses k step basis word values next 4 Absent Absent
+      → Refuses k step basis word values next 4 Absent
   pub step : (k step : ℕ) (basis word values next : List ℕ) → 2 ≤ k → k ≤ 20 → (step < 1) ⊎ (3 < step)
-      → Refuses k step basis word values next 6 Absent Absent
+      → Refuses k step basis word values next 6 Absent
   pub too-small : (k step : ℕ) (basis word values next : List ℕ) → InRange k step → k < step
-      → Refuses k step basis word values next 7 Absent Absent
+      → Refuses k step basis word values next 7 Absent
   pub list1 : (k step : ℕ) (basis word values next : List ℕ) → InRange k step → step ≤ k → length basis ≢ k
-      → Refuses k step basis word values next 13 (At 1) Absent
+      → Refuses k step basis word values next 13 (At 1)
   pub list3 : (k step : ℕ) (basis word values next : List ℕ) → InRange k step → step ≤ k → length basis ≡ k
-      → length word ≢ 2 ^ k → Refuses k step basis word values next 13 (At 3) Absent
+      → length word ≢ 2 ^ k → Refuses k step basis word values next 13 (At 3)
   pub list6 : (k step : ℕ) (basis word values next : List ℕ) → InRange k step → step ≤ k → length basis ≡ k
-      → length word ≡ 2 ^ k → length values ≢ 2 ^ (k - step) → Refuses k step basis word values next 13 (At 6) Absent
+      → length word ≡ 2 ^ k → length values ≢ 2 ^ (k - step) → Refuses k step basis word values next 13 (At 6)
   pub list7 : (k step : ℕ) (basis word values next : List ℕ) → InRange k step → step ≤ k → length basis ≡ k
       → length word ≡ 2 ^ k
-      → length values ≡ 2 ^ (k - step) → length next ≢ k - step → Refuses k step basis word values next 13 (At 7) Absent
+      → length values ≡ 2 ^ (k - step) → length next ≢ k - step → Refuses k step basis word values next 13 (At 7)
   pub dependent : (k step : ℕ) (basis word values next : List ℕ) (place : ℕ) → InRange k step → step ≤ k
       → FoldFits k step basis word values next
-      → firstDependent basis ≡ At place → Refuses k step basis word values next 8 (At place) Absent
-  -- number 16 is given to no call
-  pub never16 : (k step offset : ℕ) (basis word values next : List ℕ) → All IsElement basis
-      → numberOfFolded (foldAnswer k step offset basis word values next) ≢ 16
+      → firstDependent basis ≡ At place → Refuses k step basis word values next 8 (At place)
+  -- no number is given otherwise
+  pub numbers : (k step offset : ℕ) (basis word values next : List ℕ)
+      → FoldNumber (numberOfFolded (foldAnswer k step offset basis word values next))

@@ -1,18 +1,17 @@
--- Which parameters, lists, bases and queries pass the checks, and what the first failing check
+-- Which parameters, lists, basis and queries pass the checks, and what the first failing check
 -- refuses. Assumes nothing.
 use mathlib.Core.Path.{_≡_, refl, sym, ap, _∙_, subst}
 use mathlib.Core.Logic.{_≢_, _⊎_, inl, inr}
 use mathlib.Core.Bool.{Bool, true, false, cond, _&&_}
 use mathlib.Core.List.{List, [], _∷_}
 use Prim.Native.Nat.{ℕ, zero, suc, _+_, _^_, _≤_, _<_}
-use native.Mathlib.Nat.{suc-add, add-suc, add-zero}
+use native.Mathlib.Nat.{suc-add, add-suc, add-zero, ne-of-lt}
 use native.Mathlib.Omega.{arith}
 use lib.Dec.{leb, ltb, eqb}
 use lib.ListN.{length, getD}
 use borrow.Author.Tests.{le-leb, lt-leb, lt-ltb, eq-eqb, ne-eqb, ltb-true, ltb-false}
-use Rattle.gf64.specs.Field.{IsElement}
 use Rattle.refusal.specs.declared.Cause.the-variants.{DimensionOutOfRange, RateOutOfRange, StepOutOfRange}
-use Rattle.refusal.specs.declared.Cause.the-variants.{DimensionTooSmall, WrongLength, BasisDependent}
+use Rattle.refusal.specs.declared.Cause.the-variants.{DimensionTooSmall, WrongLength}
 use Rattle.refusal.specs.declared.Cause.the-variants.{QueryCountOutOfRange, QueryOutOfRange, CosetShared}
 use Rattle.refusal.specs.declared.Outcome.{Outcome}
 use Rattle.refusal.specs.declared.Outcome.the-variants.{Done, Refused}
@@ -24,18 +23,16 @@ use Rattle.refusal.proofs.Checks.{equal-of-test, le-of-test, refused-not-done, 
 use Rattle.refusal.proofs.Checks.{refused-by, unless-done, then-passed, then-refused, then-done}
 use Rattle.refusal.proofs.Checks.{number-unless, number-then, within, within-of, outside, Either, which}
 use Rattle.poly.specs.Polynomial.{All}
-use Rattle.coset.specs.Span.{firstDependent, Independent}
-use Rattle.coset.specs.Answers.{outcomeOfBasis, outcomeOfLaterBasis}
-use Rattle.coset.proofs.Independence.{independent-of}
+use Rattle.coset.specs.Span.{Independent}
+use Rattle.coset.specs.Answers.{outcomeOfBasis, basisOutcome}
+use Rattle.coset.proofs.Independence.{independent-of, basis-number}
 use Rattle.fri.specs.Layout.{lastCount, storeLength}
 use Rattle.fri.specs.Run.{Run, stepsIn, roundsIn}
-use Rattle.fri.specs.Layers.{basisIn}
-use Rattle.fri.specs.Checks.{parametersOutcome, lengthsOutcome, laterBasesOutcome, basesOutcome, runOutcome}
+use Rattle.fri.specs.Checks.{parametersOutcome, lengthsOutcome, runOutcome}
 use Rattle.fri.specs.Checks.{firstOutside, outcomeOfOutside, firstShared, outcomeOfShared}
 use Rattle.fri.specs.Checks.{indicesOutcome, queriesOutcome}
 use Rattle.fri.specs.Demand.{ValidParameters, ValidQueries, Apart}
 use Rattle.fri.specs.Theorems.{Fit}
-use Rattle.fri.proofs.Cosets.{later-independent}
 use Rattle.fri.proofs.Shared.{none-shared}
 
 -- ---- parameters, check by check
@@ -198,57 +195,26 @@ module _ (run : Run) where
       ∙ sym
       (refused-by (eqb (length (run .last)) last-due) (WrongLength 5) Done (ne-eqb (length (run .last)) last-due n))
 
--- ---- bases
-
--- number 16 does not come after an independent basis
-later-bases-pass : (run : Run) → ((i : ℕ) → Independent (basisIn run i)) → (round left : ℕ)
-    → laterBasesOutcome (stepsIn run) (run .basis) round left ≡ Done
-unfolding laterBasesOutcome
-later-bases-pass run d round zero = refl
-later-bases-pass run d round (suc left) =
-    sym (then-passed (outcomeOfLaterBasis round (firstDependent (basisIn run (suc round))))
-    (laterBasesOutcome (stepsIn run) (run .basis) (suc round) left) (ap (outcomeOfLaterBasis round) (d (suc round))))
-    ∙ later-bases-pass run d (suc round) left
-
-pub bases-pass : (run : Run) → All IsElement (run .basis) → Independent (run .basis)
-    → basesOutcome (stepsIn run) (run .basis) ≡ Done
-bases-pass run h d =
-    sym (then-passed (outcomeOfBasis (firstDependent (run .basis)))
-    (laterBasesOutcome (stepsIn run) (run .basis) 0 (roundsIn run)) (ap outcomeOfBasis d))
-    ∙ later-bases-pass run (later-independent (stepsIn run) (run .basis) h d) 0 (roundsIn run)
-
-pub bases-independent : (run : Run) → basesOutcome (stepsIn run) (run .basis) ≡ Done → Independent (run .basis)
-bases-independent run e =
-    independent-of (firstDependent (run .basis))
-    (then-done (outcomeOfBasis (firstDependent (run .basis)))
-    (laterBasesOutcome (stepsIn run) (run .basis) 0 (roundsIn run)) e .0)
-
-pub bases-refused : (run : Run) (place : ℕ) → firstDependent (run .basis) ≡ At place
-    → basesOutcome (stepsIn run) (run .basis) ≡ Refused (BasisDependent place)
-bases-refused run place e =
-    sym (then-refused (outcomeOfBasis (firstDependent (run .basis)))
-    (laterBasesOutcome (stepsIn run) (run .basis) 0 (roundsIn run)) (BasisDependent place) (ap outcomeOfBasis e))
-
 -- ---- a run
 
-pub run-passes : (run : Run) → All IsElement (run .basis) → ValidParameters (run .k) (run .rate) (run .step) → Fit run
-    → Independent (run .basis) → runOutcome run ≡ Done
-run-passes run h v f d =
+pub run-passes : (run : Run) → ValidParameters (run .k) (run .rate) (run .step) → Fit run → Independent (run .basis)
+    → runOutcome run ≡ Done
+run-passes run v f d =
     sym (then-passed (parametersOutcome (run .k) (run .rate) (run .step))
-    (andThen (lengthsOutcome run) (basesOutcome (stepsIn run) (run .basis)))
+    (andThen (lengthsOutcome run) (basisOutcome (run .basis)))
     (parameters-pass (run .k) (run .rate) (run .step) v))
-    ∙ sym (then-passed (lengthsOutcome run) (basesOutcome (stepsIn run) (run .basis)) (lengths-pass run f))
-    ∙ bases-pass run h d
+    ∙ sym (then-passed (lengthsOutcome run) (basisOutcome (run .basis)) (lengths-pass run f))
+    ∙ ap outcomeOfBasis d
 
 pub run-valid : (run : Run) → runOutcome run ≡ Done
     → ValidParameters (run .k) (run .rate) (run .step) × Fit run × Independent (run .basis)
 run-valid run e =
     let first = then-done (parametersOutcome (run .k) (run .rate) (run .step))
-    (andThen (lengthsOutcome run) (basesOutcome (stepsIn run) (run .basis))) e in
-    let second = then-done (lengthsOutcome run) (basesOutcome (stepsIn run) (run .basis)) (first .1) in (
+    (andThen (lengthsOutcome run) (basisOutcome (run .basis))) e in
+    let second = then-done (lengthsOutcome run) (basisOutcome (run .basis)) (first .1) in (
       parameters-valid (run .k) (run .rate) (run .step) (first .0),
       lengths-fit run (second .0),
-      bases-independent run (second .1),
+      independent-of (run .basis) (second .1),
     )
 
 -- ---- queries
@@ -368,16 +334,6 @@ module _ (k first : ℕ) (queries : List ℕ) where
 
 -- ---- which numbers there are
 
--- an independent basis gives 0, a dependent one 8, so that 16 does not come
-pub bases-number : (P : ℕ → Type 0) → P 0 → P 8 → (run : Run) → All IsElement (run .basis)
-    → P (numberOfOutcome (basesOutcome (stepsIn run) (run .basis)))
-bases-number P p0 p8 run h = by (firstDependent (run .basis)) refl
-  where
-    by : (p : Position) → firstDependent (run .basis) ≡ p
-        → P (numberOfOutcome (basesOutcome (stepsIn run) (run .basis)))
-    by (At place) e = subst (λ (o : Outcome). P (numberOfOutcome o)) (sym (bases-refused run place e)) p8
-    by Absent e = subst (λ (o : Outcome). P (numberOfOutcome o)) (sym (bases-pass run h e)) p0
-
 pub parameters-number : (P : ℕ → Type 0) → P 0 → ((n : ℕ) → 4 ≤ n → n ≤ 7 → P n) → (k rate step : ℕ)
     → P (numberOfOutcome (parametersOutcome k rate step))
 parameters-number P p0 low k rate step =
@@ -388,15 +344,15 @@ parameters-number P p0 low k rate step =
     (low 6 (omega arith) (omega arith))
     (number-unless P (leb (rate + step) k) DimensionTooSmall Done (low 7 (omega arith) (omega arith)) p0)))
 
--- what holds of 0, of 4 to 8, of 13 and of the bases' number holds of a run's
-run-number-by : (P : ℕ → Type 0) → P 0 → ((n : ℕ) → 4 ≤ n → n ≤ 8 → P n) → P 13 → (run : Run)
-    → P (numberOfOutcome (basesOutcome (stepsIn run) (run .basis)))
+-- what holds of 0, of 4 to 8 and of 13 holds of a run's number
+pub run-number : (P : ℕ → Type 0) → P 0 → ((n : ℕ) → 4 ≤ n → n ≤ 8 → P n) → P 13 → (run : Run)
     → P (numberOfOutcome (runOutcome run))
-run-number-by P p0 low p13 run bases =
+run-number P p0 low p13 run =
     number-then P (parametersOutcome (run .k) (run .rate) (run .step))
-    (andThen (lengthsOutcome run) (basesOutcome (stepsIn run) (run .basis)))
+    (andThen (lengthsOutcome run) (basisOutcome (run .basis)))
     (parameters-number P p0 (λ n l u. low n l (omega arith)) (run .k) (run .rate) (run .step))
-    (number-then P (lengthsOutcome run) (basesOutcome (stepsIn run) (run .basis)) lengths-number bases)
+    (number-then P (lengthsOutcome run) (basisOutcome (run .basis)) lengths-number
+    (basis-number P p0 (low 8 (omega arith) (omega arith)) (run .basis)))
   where
     lengths-number : P (numberOfOutcome (lengthsOutcome run))
     lengths-number =
@@ -406,47 +362,10 @@ run-number-by P p0 low p13 run bases =
         (number-unless P (eqb (length (run .store)) (stored run)) (WrongLength 4) (after4 run) p13
         (number-unless P (eqb (length (run .last)) (last-due run)) (WrongLength 5) Done p13 p0))))
 
-pub run-number : (P : ℕ → Type 0) → P 0 → ((n : ℕ) → 4 ≤ n → n ≤ 8 → P n) → P 13 → (run : Run)
-    → All IsElement (run .basis) → P (numberOfOutcome (runOutcome run))
-run-number P p0 low p13 run h =
-    run-number-by P p0 low p13 run (bases-number P p0 (low 8 (omega arith) (omega arith)) run h)
-
--- the numbers that the checks of a run give, whatever its basis: none from 9 to 12, and none from 17 on
-abbrev pub Early : ℕ → Type 0
-Early n = (n < 9) ⊎ ((12 < n) × (n < 17))
-
-pub early-not : (m n : ℕ) → 9 ≤ m → (m ≤ 12) ⊎ (17 ≤ m) → Early n → n ≢ m
-early-not m n l u (inl h) e = omega arith
-early-not m n l (inl u) (inr h) e = omega (arith, h .0)
-early-not m n l (inr u) (inr h) e = omega (arith, h .1)
-
-later-bases-early : (run : Run) (round left : ℕ)
-    → Early (numberOfOutcome (laterBasesOutcome (stepsIn run) (run .basis) round left))
-unfolding laterBasesOutcome
-later-bases-early run round zero = inl (omega arith)
-later-bases-early run round (suc left) =
-    number-then Early (outcomeOfLaterBasis round (firstDependent (basisIn run (suc round))))
-    (laterBasesOutcome (stepsIn run) (run .basis) (suc round) left)
-    (by (firstDependent (basisIn run (suc round)))) (later-bases-early run (suc round) left)
-  where
-    by : (p : Position) → Early (numberOfOutcome (outcomeOfLaterBasis round p))
-    by (At place) = inr (omega arith, omega arith)
-    by Absent = inl (omega arith)
-
-pub bases-early : (run : Run) → Early (numberOfOutcome (basesOutcome (stepsIn run) (run .basis)))
-bases-early run =
-    number-then Early (outcomeOfBasis (firstDependent (run .basis)))
-    (laterBasesOutcome (stepsIn run) (run .basis) 0 (roundsIn run)) (by (firstDependent (run .basis)))
-    (later-bases-early run 0 (roundsIn run))
-  where
-    by : (p : Position) → Early (numberOfOutcome (outcomeOfBasis p))
-    by (At place) = inl (omega arith)
-    by Absent = inl (omega arith)
-
-pub run-early : (run : Run) → Early (numberOfOutcome (runOutcome run))
-run-early run =
-    run-number-by Early (inl (omega arith)) (λ n l u. inl (omega arith)) (inr (omega arith, omega arith)) run
-    (bases-early run)
+-- which is none from 9 on but 13
+pub run-not : (run : Run) (m : ℕ) → 9 ≤ m → m ≢ 13 → numberOfOutcome (runOutcome run) ≢ m
+run-not run m l other =
+    run-number (λ n. n ≢ m) (ne-of-lt (omega arith)) (λ n least most. ne-of-lt (omega arith)) (λ e. other (sym e)) run
 
 outside-number : (P : ℕ → Type 0) → P 0 → P 10 → (p : Position) → P (numberOfOutcome (outcomeOfOutside p))
 outside-number P p0 p10 (At query) = p10

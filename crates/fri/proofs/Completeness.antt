@@ -4,7 +4,7 @@ use mathlib.Core.Path.{_≡_, refl, sym, ap, _∙_, subst}
 use mathlib.Core.Logic.{_≢_, inl, inr, ⊎-elim}
 use mathlib.Core.List.{List, [], _∷_, map}
 use Prim.Native.Nat.{ℕ, zero, suc, _+_, _*_, _-_, _^_, _≤_, _<_}
-use native.Mathlib.Nat.{eq-or-lt-of-le, le-of-eq, le-trans, sub-add-cancel}
+use native.Mathlib.Nat.{eq-or-lt-of-le, le-of-eq, le-trans, ne-of-lt, sub-add-cancel}
 use native.Mathlib.Omega.{arith}
 use lib.Pow.{pow-pos, pow-mono, shl-lt, shl-shr}
 use lib.ListN.{length, getD}
@@ -35,18 +35,17 @@ use Rattle.fri.specs.Layers.{basisIn, offsetIn, foldOf, honestLayer}
 use Rattle.fri.specs.Layers.{honestStore, lastInterpolant, honestLast, honest}
 use Rattle.fri.specs.Layout.{joinedLayers}
 use Rattle.fri.specs.Checks.{runOutcome}
-use Rattle.fri.specs.Judge.{verdictOf, numberOfAnswer}
+use Rattle.fri.specs.Judge.{verdictOf}
 use Rattle.fri.specs.Rounds.{valueComputed, valueFound}
 use Rattle.fri.specs.Prover.{degreeOutcome, proveOutcome, storeAfter, lastAfter}
 use Rattle.fri.specs.Demand.{ValidCoset, ProverInput, LowDegree, ValidQueries, Apart, Any, Accepted}
 use Rattle.fri.specs.Demand.{Visits, Covered, Elements, Completeness, HonestProofs}
-use Rattle.fri.specs.Theorems.{PassesEveryRound, Fit, JudgeNumber, ProverNumber}
+use Rattle.fri.specs.Theorems.{PassesEveryRound, Fit}
 use Rattle.fri.proofs.Layouts.{index-within}
 use Rattle.fri.proofs.Cosets.{first-fits, layer-steps-fit, length-layerBasis, honest-is-word}
 use Rattle.fri.proofs.Cosets.{honest-degree, length-honestStore, honest-layers}
 use Rattle.fri.proofs.Values.{computed-entry, found-entry, found-last}
-use Rattle.fri.proofs.Checks.{run-passes, run-early, early-not}
-use Rattle.fri.proofs.Refusals.{judge-number, prover-number}
+use Rattle.fri.proofs.Checks.{run-passes, run-not}
 use Rattle.fri.proofs.Verdicts.{accepted-verdict, checks-pass}
 use Rattle.fri.proofs.Provers.{degree-passes, degree-done, done-holds-both}
 
@@ -162,36 +161,17 @@ module _ (run : Run) (v : ValidCoset run) (p : ProverInput run) where
   honest-accepted low queries q apart =
       accepted-verdict (honest run) queries
       (checks-pass (honest run) queries
-      (run-passes (honest run) (v .basis-elements) (v .parameters) honest-fit (v .independent)) q apart)
+      (run-passes (honest run) (v .parameters) honest-fit (v .independent)) q apart)
       (honest-passes low queries (q .within))
 
--- ---- numbers that are never given
+-- ---- a number that is never given
 
 never12 : (run : Run) → ValidCoset run → ProverInput run → LowDegree run → numberOfOutcome (proveOutcome run) ≢ 12
 never12 run v p low =
     number-then (λ n. n ≢ 12) (runOutcome run) (degreeOutcome run)
-    (early-not 12 (numberOfOutcome (runOutcome run)) (omega arith) (inl (omega arith)) (run-early run))
+    (run-not run 12 (omega arith) (ne-of-lt (omega arith)))
     (subst (λ (o : Outcome). numberOfOutcome o ≢ 12) (sym (degree-passes run (low-last run v p low)))
     (λ (e : _≡_ {A = ℕ} 0 12). omega arith))
-
-judge-not-16 : (n : ℕ) → JudgeNumber n → n ≢ 16
-judge-not-16 n (inl z) e = omega arith
-judge-not-16 n (inr (inl h)) e = omega (arith, h .1)
-judge-not-16 n (inr (inr (inl t))) e = omega arith
-judge-not-16 n (inr (inr (inr t))) e = omega arith
-
-prover-not-16 : (n : ℕ) → ProverNumber n → n ≢ 16
-prover-not-16 n (inl z) e = omega arith
-prover-not-16 n (inr (inl h)) e = omega (arith, h .1)
-prover-not-16 n (inr (inr h)) e = omega (arith, h .1)
-
-never16 : (run : Run) → All IsElement (run .basis)
-    → (numberOfOutcome (proveOutcome run) ≢ 16)
-    × ((queries : List ℕ) → numberOfAnswer (verdictOf run queries .answer) ≢ 16)
-never16 run h = (
-  prover-not-16 (numberOfOutcome (proveOutcome run)) (prover-number run h),
-  λ queries. judge-not-16 (numberOfAnswer (verdictOf run queries .answer)) (judge-number run queries h),
-)
 
 -- ---- the prover makes the honest run
 
@@ -201,7 +181,7 @@ proves : (run : Run) → ValidCoset run → ProverInput run → LowDegree run
     → (proveOutcome run ≡ Done) × (storeAfter run ≡ honestStore run) × (lastAfter run ≡ honestLast run)
 proves run v p low ls ll =
     let done : proveOutcome run ≡ Done =
-    degree-done run (run-passes run (v .basis-elements) (v .parameters) fit (v .independent)) (low-last run v p low) in
+    degree-done run (run-passes run (v .parameters) fit (v .independent)) (low-last run v p low) in
     let both = done-holds-both run done in
     (done, both .0, both .1)
   where
@@ -290,6 +270,5 @@ honest-proofs =
     record {
       proves = proves;
       never12 = never12;
-      never16 = never16;
       covered = λ run v p low. (honest-elements run v p, covered run v p low);
     }

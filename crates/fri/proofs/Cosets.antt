@@ -49,13 +49,18 @@ layerBasis-all steps basis h zero = h
 layerBasis-all steps basis h (suc i) =
     nextBasis-elements (stepAt steps i) (layerBasis steps basis i) (layerBasis-all steps basis h i)
 
+pub next-layer-independent : (steps basis : List ℕ) (i : ℕ) → All IsElement basis
+    → Independent (layerBasis steps basis i) → Independent (layerBasis steps basis (suc i))
+unfolding layerBasis
+next-layer-independent steps basis i h d =
+    next-independent (stepAt steps i) (layerBasis steps basis i) (layerBasis-all steps basis h i) d
+
 pub later-independent : (steps basis : List ℕ) → All IsElement basis → Independent basis → (i : ℕ)
     → Independent (layerBasis steps basis i)
 unfolding layerBasis
 later-independent steps basis h d zero = d
 later-independent steps basis h d (suc i) =
-    next-independent (stepAt steps i) (layerBasis steps basis i) (layerBasis-all steps basis h i)
-    (later-independent steps basis h d i)
+    next-layer-independent steps basis i h (later-independent steps basis h d i)
 
 pub length-basis : (k : ℕ) (steps basis : List ℕ) → length basis ≡ k → (i : ℕ)
     → length (layerBasis steps basis i) ≡ dimension k steps i

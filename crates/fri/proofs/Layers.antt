@@ -19,6 +19,7 @@ use Rattle.fri.specs.Theorems.{Layouts, LayerCosets, HonestLayers}
 use Rattle.fri.proofs.Layouts as laws
 use Rattle.fri.proofs.Cosets.{first-coset, layer-images, length-layerBasis, layerBasis-elements}
 use Rattle.fri.proofs.Cosets.{layerOffset-element, layerBasis-independent, length-honestStore}
+use Rattle.fri.proofs.Cosets.{next-layer-independent, later-independent}
 use Rattle.fri.proofs.Completeness.{length-honestLast, honestStore-elements, honestLast-elements}
 
 -- ---- layout
@@ -112,6 +113,8 @@ layer-cosets =
       dimensions = λ run i v h.
           length-layerBasis run v i ∙ laws.dimension-of-layer (run .k) (run .rate) (run .step) i h;
       independent = λ run i v. layerBasis-independent run v i;
+      next-independent = next-layer-independent;
+      all-independent = λ steps basis i h d. later-independent steps basis h d i;
       points = layer-points;
     }
 

@@ -1,8 +1,9 @@
 -- What the prover answers and leaves. Assumes nothing.
 use mathlib.Core.Path.{_≡_, refl, sym, ap, _∙_}
-use mathlib.Core.Logic.{inl, ⊎-elim}
+use mathlib.Core.Logic.{⊎-elim}
 use mathlib.Core.Bool.{Bool, true, false}
 use Prim.Native.Nat.{ℕ, suc, _-_, _≤_, _<_}
+use native.Mathlib.Nat.{ne-of-lt}
 use native.Mathlib.Omega.{arith}
 use lib.Dec.{leb}
 use borrow.Author.Tests.{le-leb, lt-leb, leb-false}
@@ -56,9 +57,8 @@ module _ (run : Run) where
       → (runOutcome run ≡ Done) × (bound ≡ suc degree) × (d ≤ degree)
   high-degree degree e =
       ⊎-elim
-      (λ (h : runOutcome run ≡ Refused (DegreeTooLarge degree)). absurd (checks.early-not 12
-      (numberOfOutcome (runOutcome run)) (omega arith) (inl (omega arith)) (checks.run-early run)
-      (ap numberOfOutcome h)))
+      (λ (h : runOutcome run ≡ Refused (DegreeTooLarge degree)). absurd
+      (checks.run-not run 12 (omega arith) (ne-of-lt (omega arith)) (ap numberOfOutcome h)))
       (λ (h : (runOutcome run ≡ Done) × (degreeOutcome run ≡ Refused (DegreeTooLarge degree))).
       let told = degree-refused degree (leb bound d) refl (h .1) in
       (h .0, told .0, told .1))

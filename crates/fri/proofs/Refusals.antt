@@ -4,9 +4,8 @@ use mathlib.Core.Path.{_≡_, refl, sym, ap, _∙_, subst}
 use mathlib.Core.Logic.{inl, inr, ⊎-elim}
 use mathlib.Core.List.{List}
 use Prim.Native.Nat.{ℕ}
+use native.Mathlib.Nat.{ne-of-lt}
 use native.Mathlib.Omega.{arith}
-use Rattle.gf64.specs.Field.{IsElement}
-use Rattle.poly.specs.Polynomial.{All}
 use Rattle.refusal.specs.declared.Cause.{Cause}
 use Rattle.refusal.specs.declared.Cause.the-variants.{DimensionOutOfRange, RateOutOfRange, StepOutOfRange}
 use Rattle.refusal.specs.declared.Cause.the-variants.{DimensionTooSmall, WrongLength, BasisDependent}
@@ -18,11 +17,11 @@ use Rattle.refusal.specs.Checks.{andThen}
 use Rattle.refusal.specs.Numbers.{numberOf, placeOf, roundOf, numberOfOutcome, placeOfOutcome, roundOfOutcome}
 use Rattle.refusal.proofs.Checks.{then-passed, then-refused, which, number-then}
 use Rattle.coset.specs.Span.{firstDependent}
+use Rattle.coset.specs.Answers.{outcomeOfBasis, basisOutcome}
 use Rattle.fri.specs.Layout.{dimension}
-use Rattle.fri.specs.Run.{Run, stepsIn, stepIn}
+use Rattle.fri.specs.Run.{Run, stepIn}
 use Rattle.fri.specs.declared.Answer.the-variants as answers
-use Rattle.fri.specs.Checks.{parametersOutcome, lengthsOutcome, basesOutcome, runOutcome}
-use Rattle.fri.specs.Checks.{queriesOutcome}
+use Rattle.fri.specs.Checks.{parametersOutcome, lengthsOutcome, runOutcome, queriesOutcome}
 use Rattle.fri.specs.Judge.{checksOutcome, verdictOf, numberOfAnswer}
 use Rattle.fri.specs.Rounds.{roundsOutcome}
 use Rattle.fri.specs.Prover.{degreeOutcome, proveOutcome}
@@ -38,7 +37,7 @@ use Rattle.fri.proofs.Verdicts as verdicts
 pub passing : Passing
 passing =
     record {
-      common = λ run h. (λ e. checks.run-valid run e, λ t. checks.run-passes run h (t .0) (t .1) (t .2));
+      common = λ run. (λ e. checks.run-valid run e, λ t. checks.run-passes run (t .0) (t .1) (t .2));
       all = λ run queries.
           (λ e. verdicts.checks-valid run queries e, λ t. verdicts.checks-pass run queries (t .0) (t .1) (t .2));
     }
@@ -60,26 +59,26 @@ by-parameters : (run : Run) (cause : Cause) → parametersOutcome (run .k) (run 
     → runOutcome run ≡ Refused cause
 by-parameters run cause e =
     sym (then-refused (parametersOutcome (run .k) (run .rate) (run .step))
-    (andThen (lengthsOutcome run) (basesOutcome (stepsIn run) (run .basis))) cause e)
+    (andThen (lengthsOutcome run) (basisOutcome (run .basis))) cause e)
 
 after-parameters : (run : Run) → ValidParameters (run .k) (run .rate) (run .step)
-    → runOutcome run ≡ andThen (lengthsOutcome run) (basesOutcome (stepsIn run) (run .basis))
+    → runOutcome run ≡ andThen (lengthsOutcome run) (basisOutcome (run .basis))
 after-parameters run v =
     sym (then-passed (parametersOutcome (run .k) (run .rate) (run .step))
-    (andThen (lengthsOutcome run) (basesOutcome (stepsIn run) (run .basis)))
+    (andThen (lengthsOutcome run) (basisOutcome (run .basis)))
     (checks.parameters-pass (run .k) (run .rate) (run .step) v))
 
 by-lengths : (run : Run) (cause : Cause) → ValidParameters (run .k) (run .rate) (run .step)
     → lengthsOutcome run ≡ Refused cause → runOutcome run ≡ Refused cause
 by-lengths run cause v e =
-    after-parameters run v ∙ sym (then-refused (lengthsOutcome run) (basesOutcome (stepsIn run) (run .basis)) cause e)
+    after-parameters run v ∙ sym (then-refused (lengthsOutcome run) (basisOutcome (run .basis)) cause e)
 
 by-basis : (run : Run) (place : ℕ) → ValidParameters (run .k) (run .rate) (run .step) → Fit run
     → firstDependent (run .basis) ≡ At place → runOutcome run ≡ Refused (BasisDependent place)
 by-basis run place v f e =
     after-parameters run v
-    ∙ sym (then-passed (lengthsOutcome run) (basesOutcome (stepsIn run) (run .basis)) (checks.lengths-pass run f))
-    ∙ checks.bases-refused run place e
+    ∙ sym (then-passed (lengthsOutcome run) (basisOutcome (run .basis)) (checks.lengths-pass run f))
+    ∙ ap outcomeOfBasis e
 
 by-queries : (run : Run) (queries : List ℕ) (cause : Cause) → runOutcome run ≡ Done
     → queriesOutcome (run .k) (stepIn run 0) queries ≡ Refused cause
@@ -133,8 +132,7 @@ module _ (run : Run) (queries : List ℕ) (query : ℕ) where
   shared-of-checks e =
       ⊎-elim
       (λ (h : runOutcome run ≡ Refused (CosetShared query)). absurd
-      (checks.early-not 17 (numberOfOutcome (runOutcome run)) (omega arith) (inr (omega arith)) (checks.run-early run)
-      (ap numberOfOutcome h)))
+      (checks.run-not run 17 (omega arith) (λ t. ne-of-lt (omega arith) (sym t)) (ap numberOfOutcome h)))
       (λ (h : (runOutcome run ≡ Done) × (queriesOutcome (run .k) (stepIn run 0) queries ≡ Refused (CosetShared query))).
       let told = checks.shared-of (run .k) (stepIn run 0) queries query (h .1) in
       (h .0, told .0, told .1))
@@ -171,13 +169,12 @@ shared-cosets =
 
 -- ---- numbers
 
-pub judge-number : (run : Run) (queries : List ℕ) → All IsElement (run .basis)
-    → JudgeNumber (numberOfAnswer (verdictOf run queries .answer))
-judge-number run queries h =
+judge-number : (run : Run) (queries : List ℕ) → JudgeNumber (numberOfAnswer (verdictOf run queries .answer))
+judge-number run queries =
     subst JudgeNumber (sym (verdicts.same-number (andThen (checksOutcome run queries) (roundsOutcome run queries 0))))
     (number-then JudgeNumber (checksOutcome run queries) (roundsOutcome run queries 0)
     (number-then JudgeNumber (runOutcome run) (queriesOutcome (run .k) (stepIn run 0) queries)
-    (checks.run-number JudgeNumber (inl refl) (λ n l u. inr (inl (l, omega arith))) (inr (inr (inl refl))) run h)
+    (checks.run-number JudgeNumber (inl refl) (λ n l u. inr (inl (l, omega arith))) (inr (inr (inl refl))) run)
     (checks.queries-number JudgeNumber (inl refl) (inr (inl (omega arith, omega arith)))
     (inr (inl (omega arith, omega arith))) (inr (inr (inr refl))) (run .k) (stepIn run 0) queries))
     (by (roundsOutcome run queries 0) refl))
@@ -188,11 +185,11 @@ judge-number run queries h =
         inr
         (inl (omega (arith, refused-by-round run queries cause e), omega (arith, refused-by-round run queries cause e)))
 
-pub prover-number : (run : Run) → All IsElement (run .basis) → ProverNumber (numberOfOutcome (proveOutcome run))
-prover-number run h =
+prover-number : (run : Run) → ProverNumber (numberOfOutcome (proveOutcome run))
+prover-number run =
     number-then ProverNumber (runOutcome run) (degreeOutcome run)
     (checks.run-number ProverNumber (inl refl) (λ n l u. inr (inl (l, omega arith)))
-    (inr (inr (omega arith, omega arith))) run h)
+    (inr (inr (omega arith, omega arith))) run)
     (degree-number run ProverNumber (inl refl) (inr (inr (omega arith, omega arith))))
 
 pub only-numbers : OnlyNumbers

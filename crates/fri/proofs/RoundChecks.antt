@@ -1,6 +1,6 @@
 -- The round checks, and the verdict after them with the entries read. Assumes nothing.
 use mathlib.Core.Path.{_≡_, sym, ap, subst}
-use mathlib.Core.Logic.{_≢_, inl, ⊎-elim}
+use mathlib.Core.Logic.{_≢_, ⊎-elim}
 use mathlib.Core.List.{List}
 use Prim.Native.Nat.{ℕ, suc, _+_, _*_, _/_, _^_, _≤_, _<_, min}
 use native.Mathlib.Nat.{le-of-eq, ne-of-lt}
@@ -32,7 +32,7 @@ use Rattle.fri.proofs.Verdicts as verdicts
 checks-not-11 : (run : Run) (queries : List ℕ) → numberOfOutcome (checksOutcome run queries) ≢ 11
 checks-not-11 run queries =
     number-then (λ n. n ≢ 11) (runOutcome run) (queriesOutcome (run .k) (stepIn run 0) queries)
-    (checks.early-not 11 (numberOfOutcome (runOutcome run)) (omega arith) (inl (omega arith)) (checks.run-early run))
+    (checks.run-not run 11 (omega arith) (ne-of-lt (omega arith)))
     (checks.queries-number (λ n. n ≢ 11) (ne-of-lt (omega arith)) (ne-of-lt (omega arith)) (ne-of-lt (omega arith))
     (λ e. ne-of-lt (omega arith) (sym e)) (run .k) (stepIn run 0) queries)
 

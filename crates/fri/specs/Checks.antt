@@ -1,7 +1,7 @@
--- The checks of parameters, lists, bases and queries, in the order of documents 01 and 02.
+-- The checks of parameters, lists, basis and queries, in the order of documents 01 and 02.
 use mathlib.Core.Bool.{Bool, false, cond, _&&_, _||_}
 use mathlib.Core.List.{List, [], _∷_, _++_, map}
-use Prim.Native.Nat.{ℕ, zero, suc, _+_, _/_, _^_}
+use Prim.Native.Nat.{ℕ, suc, _+_, _/_, _^_}
 use lib.Dec.{leb, ltb, eqb}
 use lib.ListN.{length}
 use Rattle.refusal.specs.declared.Cause.the-variants.{DimensionOutOfRange, RateOutOfRange, StepOutOfRange}
@@ -12,11 +12,9 @@ use Rattle.refusal.specs.declared.Outcome.the-variants.{Done, Refused}
 use Rattle.refusal.specs.declared.Position.{Position}
 use Rattle.refusal.specs.declared.Position.the-variants.{At, Absent}
 use Rattle.refusal.specs.Checks.{refusedUnless, andThen}
-use Rattle.coset.specs.Span.{firstDependent}
-use Rattle.coset.specs.Answers.{outcomeOfBasis, outcomeOfLaterBasis}
+use Rattle.coset.specs.Answers.{basisOutcome}
 use Rattle.fri.specs.Layout.{lastCount, storeLength}
 use Rattle.fri.specs.Run.{Run, stepsIn, roundsIn}
-use Rattle.fri.specs.Layers.{layerBasis}
 
 -- the ranges: k 2..20 (number 4), R 1..6 (5), η 1..3 (6), k at least R + η (7)
 abbrev pub parametersOutcome : (k rate step : ℕ) → Outcome
@@ -37,23 +35,11 @@ lengthsOutcome run =
     (refusedUnless (eqb (length (run .last)) (lastCount (run .k) (run .rate) (stepsIn run))) (WrongLength 5)
     Done))))
 
--- the bases of the layers after layer `round`, `left` of them (16, with the round whose fold gives that layer)
-unfoldable pub laterBasesOutcome : (steps basis : List ℕ) (round left : ℕ) → Outcome
-laterBasesOutcome steps basis round zero = Done
-laterBasesOutcome steps basis round (suc left) =
-    andThen (outcomeOfLaterBasis round (firstDependent (layerBasis steps basis (suc round))))
-    (laterBasesOutcome steps basis (suc round) left)
-
--- the basis (8), then those of layers 1 to r (16)
-abbrev pub basesOutcome : (steps basis : List ℕ) → Outcome
-basesOutcome steps basis =
-    andThen (outcomeOfBasis (firstDependent basis)) (laterBasesOutcome steps basis 0 (length steps))
-
--- the checks that prover and judge have in common: 4, 5, 6, 7, 13, 8, 16
+-- the checks that prover and judge have in common: 4, 5, 6, 7, 13, 8
 abbrev pub runOutcome : (run : Run) → Outcome
 runOutcome run =
     andThen (parametersOutcome (run .k) (run .rate) (run .step))
-    (andThen (lengthsOutcome run) (basesOutcome (stepsIn run) (run .basis)))
+    (andThen (lengthsOutcome run) (basisOutcome (run .basis)))
 
 -- the first query, its place counted from `place`, whose index is not below the size
 unfoldable pub firstOutside : (size : ℕ) (queries : List ℕ) (place : ℕ) → Position

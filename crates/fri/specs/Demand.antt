@@ -19,7 +19,7 @@ use Rattle.fri.specs.Layout.{dimension, lastCount, storeLength}
 use Rattle.fri.specs.Run.{Run, stepsIn, roundsIn, stepIn, challengeIn, layerIn}
 use Rattle.fri.specs.Layers.{basisIn, offsetIn, foldOf, honestStore, honestLast, honest}
 use Rattle.fri.specs.Checks.{visitedCosets}
-use Rattle.fri.specs.Judge.{numberOfAnswer, verdictOf}
+use Rattle.fri.specs.Judge.{verdictOf}
 use Rattle.fri.specs.Prover.{proveOutcome, storeAfter, lastAfter}
 
 -- parameters in the ranges of document 01
@@ -144,10 +144,6 @@ pub record HonestProofs : Type 0 where
       → (proveOutcome run ≡ Done) × (storeAfter run ≡ honestStore run) × (lastAfter run ≡ honestLast run)
   -- it never answers 12 on such a word
   pub never12 : (run : Run) → ValidCoset run → ProverInput run → LowDegree run → numberOfOutcome (proveOutcome run) ≢ 12
-  -- neither prover nor judge answers 16, whatever the basis of 64-bit numbers
-  pub never16 : (run : Run) → All IsElement (run .basis)
-      → (numberOfOutcome (proveOutcome run) ≢ 16)
-      × ((queries : List ℕ) → numberOfAnswer (verdictOf run queries .answer) ≢ 16)
   -- the second half is about something: an honest run has 64-bit numbers, and some query lists cover it
   pub covered : (run : Run) → ValidCoset run → ProverInput run → LowDegree run
       → Elements (honest run) × ((queryLists : List (List ℕ)) × Covered (honest run) queryLists)

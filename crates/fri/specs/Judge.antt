@@ -15,7 +15,7 @@ use Rattle.fri.specs.Checks.{runOutcome, queriesOutcome}
 use Rattle.fri.specs.Rounds.{roundsOutcome}
 use Rattle.fri.specs.Reads.{entriesRead}
 
--- all checks before the round checks: 4, 5, 6, 7, 13, 8, 16, 9, 10, 17
+-- all checks before the round checks: 4, 5, 6, 7, 13, 8, 9, 10, 17
 abbrev pub checksOutcome : (run : Run) (queries : List ℕ) → Outcome
 checksOutcome run queries = andThen (runOutcome run) (queriesOutcome (run .k) (stepIn run 0) queries)
 

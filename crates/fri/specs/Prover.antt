@@ -19,7 +19,7 @@ degreeOutcome run =
     refusedUnless (leb (degreeBound (lastInterpolant run)) (lastCount (run .k) (run .rate) (stepsIn run)))
     (DegreeTooLarge (degreeBound (lastInterpolant run) - 1)) Done
 
--- all checks in the order of document 01: 4, 5, 6, 7, 13, 8, 16, 12
+-- all checks in the order of document 01: 4, 5, 6, 7, 13, 8, 12
 abbrev pub proveOutcome : (run : Run) → Outcome
 proveOutcome run = andThen (runOutcome run) (degreeOutcome run)
 

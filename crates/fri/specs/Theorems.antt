@@ -25,7 +25,8 @@ use Rattle.fri.specs.declared.Verdict.{Verdict}
 use Rattle.fri.specs.Layout.{roundsOf, stepsOf, stepAt, dimension, lastCount}
 use Rattle.fri.specs.Layout.{layerStart, storeLength, storedLayer, indexIn}
 use Rattle.fri.specs.Run.{Run, stepsIn, roundsIn, stepIn, layerIn}
-use Rattle.fri.specs.Layers.{basisIn, offsetIn, foldOf, honestLayer, honestStore, lastInterpolant, honestLast}
+use Rattle.fri.specs.Layers.{layerBasis, basisIn, offsetIn, foldOf, honestLayer, honestStore}
+use Rattle.fri.specs.Layers.{lastInterpolant, honestLast}
 use Rattle.fri.specs.Checks.{runOutcome, firstOutside, firstShared}
 use Rattle.fri.specs.Lookup.{layerPart}
 use Rattle.fri.specs.Judge.{checksOutcome, verdictOf, numberOfAnswer, placeOfAnswer, roundOfAnswer}
@@ -68,6 +69,12 @@ pub record LayerCosets : Type 0 where
   pub dimensions : (run : Run) (i : ℕ) → ValidCoset run → i ≤ roundsIn run
       → length (basisIn run i) ≡ run .k - i * run .step
   pub independent : (run : Run) (i : ℕ) → ValidCoset run → Independent (basisIn run i)
+  -- for every list of steps, whatever their number and size: a layer's basis is independent where the one before it is,
+  -- and so all are where the first one is
+  pub next-independent : (steps basis : List ℕ) (i : ℕ) → All IsElement basis
+      → Independent (layerBasis steps basis i) → Independent (layerBasis steps basis (suc i))
+  pub all-independent : (steps basis : List ℕ) (i : ℕ) → All IsElement basis → Independent basis
+      → Independent (layerBasis steps basis i)
   -- point j of layer i + 1 is the image of the points of layer i from j · 2^η on, 2^η of them
   pub points : (run : Run) (i j t : ℕ) → ValidCoset run → i < roundsIn run → t < 2 ^ run .step
       → image (run .step) (basisIn run i) (point (offsetIn run i) (basisIn run i) (j * 2 ^ run .step + t))
@@ -134,7 +141,7 @@ pub record Fit (run : Run) : Type 0 where
 -- the checks that prover and judge have in common, and those of the queries, pass exactly where parameters, lists,
 -- basis and queries are valid, and no two queries share a first-layer coset
 pub record Passing : Type 0 where
-  pub common : (run : Run) → All IsElement (run .basis)
+  pub common : (run : Run)
       → (runOutcome run ≡ Done)
       ↔ (ValidParameters (run .k) (run .rate) (run .step) × Fit run × Independent (run .basis))
   pub all : (run : Run) (queries : List ℕ)
@@ -156,8 +163,7 @@ BothRefuse run number place =
     × (roundOfOutcome (proveOutcome run) ≡ Absent)
     × (storeAfter run ≡ run .store) × (lastAfter run ≡ run .last)
 
--- the refusals before the round checks, by the first check that fails; 16 is never given to a basis of 64-bit numbers,
--- by `HonestProofs.never16`
+-- the refusals before the round checks, by the first check that fails
 pub record Refusals : Type 0 where
   pub dimension : (run : Run) → (run .k < 2) ⊎ (20 < run .k) → BothRefuse run 4 Absent
   pub rate : (run : Run) → 2 ≤ run .k → run .k ≤ 20 → (run .rate < 1) ⊎ (6 < run .rate) → BothRefuse run 5 Absent
@@ -292,10 +298,9 @@ JudgeNumber n = (n ≡ 0) ⊎ ((4 ≤ n) × (n ≤ 11)) ⊎ (n ≡ 13) ⊎ (n �
 abbrev pub ProverNumber : (n : ℕ) → Type 0
 ProverNumber n = (n ≡ 0) ⊎ ((4 ≤ n) × (n ≤ 8)) ⊎ ((12 ≤ n) × (n ≤ 13))
 
--- no number is given otherwise, whatever the basis of 64-bit numbers
+-- no number is given otherwise
 pub record OnlyNumbers : Type 0 where
   -- the judge: 0, 4 to 11, 13 and 17
-  pub judge : (run : Run) (queries : List ℕ) → All IsElement (run .basis)
-      → JudgeNumber (numberOfAnswer (verdictOf run queries .answer))
+  pub judge : (run : Run) (queries : List ℕ) → JudgeNumber (numberOfAnswer (verdictOf run queries .answer))
   -- the prover: 0, 4 to 8, 12 and 13
-  pub prover : (run : Run) → All IsElement (run .basis) → ProverNumber (numberOfOutcome (proveOutcome run))
+  pub prover : (run : Run) → ProverNumber (numberOfOutcome (proveOutcome run))

@@ -7,8 +7,9 @@ use sections::Sections;
 ghost use mathlib.Core.Path.{_≡_};
 ghost use Prim.Native.Nat.{_^_, _≤_};
 ghost use lib.ListN.{length};
-ghost use Rattle.fri.specs.Checks.{basesOutcome, indicesOutcome};
-ghost use Rattle.layout.specs.Parameters.{stepsBy, Valid};
+ghost use Rattle.coset.specs.Answers.{basisOutcome};
+ghost use Rattle.fri.specs.Checks.{indicesOutcome};
+ghost use Rattle.layout.specs.Parameters.{Valid};
 ghost use Rattle.transcript.specs.Numerals.{entriesAt};
 ghost use Rattle.transcript.specs.Sections.{sectionStart};
 ghost use Rattle.transcript.specs.Checks.{parametersSection, cosetSection, queriesSection, listsOutcome, frontOutcome};
@@ -60,7 +61,7 @@ fn checked_lists(bytes: &[u8], sections: Sections, parameters: Parameters) -> Ou
     }
 }
 
-// Section 2: an independent basis (8), and those of the later layers (16).
+// Section 2: an independent basis (8).
 fn checked_coset(bytes: &[u8], at: usize, parameters: Parameters) -> Outcome
     requires { ⌜ (at ≡ sectionStart (now bytes) 2) × ParametersOf (now bytes) parameters ⌝ }
     ensures { λ r. ⌜ r ≡ cosetSection (now (bytes .entry)) ⌝ }
@@ -69,19 +70,19 @@ fn checked_coset(bytes: &[u8], at: usize, parameters: Parameters) -> Outcome
     match whole {
         Outcome::Done => {
             let mut room = [0u64; 20];
-            checked_basis(bytes, at + 12, parameters, &mut room[..parameters.k])
+            checked_basis(bytes, at + 12, &mut room[..parameters.k])
         }
         Outcome::Refused(cause) => Outcome::Refused(cause),
     }
 }
 
 // The basis whose entries begin there, in the room lent for it. All sections end before 2^40.
-fn checked_basis(bytes: &[u8], at: usize, parameters: Parameters, basis: &mut [u64]) -> Outcome
-    requires { ⌜ Valid parameters × (length (now basis) ≡ parameters .k) × (at ≤ 2 ^ 40) ⌝ }
-    ensures { λ r. ⌜ r ≡ basesOutcome (stepsBy parameters) (entriesAt (now (bytes .entry)) at (parameters .k)) ⌝ }
+fn checked_basis(bytes: &[u8], at: usize, basis: &mut [u64]) -> Outcome
+    requires { ⌜ (length (now basis) ≤ 20) × (at ≤ 2 ^ 40) ⌝ }
+    ensures { λ r. ⌜ r ≡ basisOutcome (entriesAt (now (bytes .entry)) at (length (now (basis .entry)))) ⌝ }
 {
     entries::read(bytes, at, basis);
-    run_checks::checked_bases(parameters, &basis[..])
+    independence::checked_basis(&basis[..])
 }
 
 // Section 4: 1 to 256 queries (9), then their indices (10, then 17).

@@ -8,12 +8,12 @@ ghost use lib.ListN.{take};
 ghost use Rattle.poly.specs.Carrier.{gf64};
 ghost use Rattle.poly.specs.Polynomial.{padded};
 ghost use Rattle.coset.specs.Span.{firstDependent};
-ghost use Rattle.coset.specs.Answers.{outcomeOfBasis};
+ghost use Rattle.coset.specs.Answers.{basisOutcome};
 ghost use Rattle.coset.specs.Elimination.{cleared};
 
 // Refuses a dependent basis (8) at its first dependent place.
 pub fn checked_basis(basis: &[u64]) -> Outcome
-    ensures { λ r. ⌜ r ≡ outcomeOfBasis (firstDependent (now (basis .entry))) ⌝ }
+    ensures { λ r. ⌜ r ≡ basisOutcome (now (basis .entry)) ⌝ }
 {
     let dependent = first_dependent(basis);
     match dependent {
@@ -23,7 +23,7 @@ pub fn checked_basis(basis: &[u64]) -> Outcome
 }
 
 // The first place whose element lies in the span of the earlier ones.
-pub fn first_dependent(basis: &[u64]) -> Position
+fn first_dependent(basis: &[u64]) -> Position
     ensures { λ r. ⌜ r ≡ firstDependent (now (basis .entry)) ⌝ }
 {
     let first = first_among_64(basis);

@@ -1,12 +1,10 @@
 // The coset of a layer, by value, and that of the next layer.
 use field::Element;
-use refusal::Position;
 ghost use mathlib.Core.Path.{_≡_};
 ghost use Prim.Native.Nat.{_≤_};
 ghost use lib.ListN.{length};
 ghost use Rattle.poly.specs.Carrier.{gf64};
 ghost use Rattle.poly.specs.Polynomial.{padded};
-ghost use Rattle.coset.specs.Span.{firstDependent};
 ghost use Rattle.coset.specs.Steps.{stepElements};
 ghost use Rattle.coset.specs.Subspace.{nextOffset, nextBasis};
 ghost use Rattle.layer_cosets.specs.Cosets.{layerCosetOf, basisOf};
@@ -57,14 +55,5 @@ impl LayerCoset {
         let basis = self.basis;
         let dimension = self.dimension;
         next_coset::step_elements(&basis[..dimension], step)
-    }
-
-    pub fn first_dependent(self) -> Position
-        requires { ⌜ self .dimension ≤ 20 ⌝ }
-        ensures { λ r. ⌜ r ≡ firstDependent (basisOf self) ⌝ }
-    {
-        let basis = self.basis;
-        let dimension = self.dimension;
-        independence::first_dependent(&basis[..dimension])
     }
 }

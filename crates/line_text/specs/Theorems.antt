@@ -1,12 +1,17 @@
--- The lines by example, and that decimal numbers are right: proofs/Theorems.antt has the values.
+-- The lines by example, where a round is printed, and that decimal numbers are right: proofs/Theorems.antt has the
+-- values.
 use mathlib.Core.Path.{_≡_}
-use mathlib.Core.List.{List, [], _∷_}
+use mathlib.Core.Logic.{_≢_}
+use mathlib.Core.List.{List, [], _∷_, _++_}
 use Prim.Native.Nat.{ℕ, _+_, _*_, _-_, _^_, _≤_, _<_}
 use lib.ListN.{length, getD}
 use Rattle.refusal.specs.declared.Cause.the-variants.{RoundCheckFails, CosetShared}
+use Rattle.refusal.specs.declared.Position.the-variants.{At, Absent}
 use Rattle.fri.specs.declared.Answer.the-variants.{Accepted, Refused}
+use Rattle.fri.specs.declared.Verdict.{Verdict}
+use Rattle.fri.specs.Judge.{numberOfAnswer, placeOfAnswer}
 use Rattle.line_text.specs.Digits.{bytes, decimal}
-use Rattle.line_text.specs.Lines.{linesOf}
+use Rattle.line_text.specs.Lines.{answerText, numbersText, lineOf, linesOf}
 
 -- the lines of the verdicts of cases G and H, of two queries in one coset, and the codes of the texts in them
 pub record Examples : Type 0 where
@@ -25,6 +30,16 @@ pub record Examples : Type 0 where
       ≡ bytes "answer number place round reads\nrefused 11 1 0 4\n"
   pub shared : linesOf (record { answer = Refused (CosetShared 1); reads = 0 })
       ≡ bytes "answer number place round reads\nrefused 17 1 - 0\n"
+
+-- a round is printed with number 11 alone; in every other line there is a hyphen in its place
+pub record PrintedRounds : Type 0 where
+  pub eleven : (query round reads : ℕ)
+      → lineOf (record { answer = Refused (RoundCheckFails query round); reads = reads })
+      ≡ bytes "refused" ++ numbersText 11 (At query) (At round) reads
+  pub eleven-alone : (verdict : Verdict) → numberOfAnswer (verdict .answer) ≢ 11
+      → lineOf verdict
+      ≡ answerText (verdict .answer)
+      ++ numbersText (numberOfAnswer (verdict .answer)) (placeOfAnswer (verdict .answer)) Absent (verdict .reads)
 
 -- the number that decimal digits stand for, read on after those that stand for `before`
 unfoldable pub valueAfter : (before : ℕ) (digits : List ℕ) → ℕ

@@ -14,9 +14,8 @@ ghost use Rattle.layout.specs.Parameters.{runOf};
 ghost use Rattle.refusal.specs.declared.Outcome.the-variants as outcomes;
 
 // The verdict on a run, with the entries read. Refused, in this order: parameters (4, 5, 6, 7), the lowest list whose
-// length is not the one due (13), a dependent basis (8), a dependent one of a later layer (16), the number of queries
-// (9), a query out of range (10), one that shares a first-layer coset with an earlier one (17), and the first round
-// check that fails (11).
+// length is not the one due (13), a dependent basis (8), the number of queries (9), a query out of range (10), one that
+// shares a first-layer coset with an earlier one (17), and the first round check that fails (11).
 pub fn judge(
     parameters: Parameters,
     offset: Element,

@@ -3,21 +3,20 @@ use field::Element;
 use fold::Folded;
 use refusal::Cause;
 use refusal::Outcome;
-use refusal::Position;
 ghost use mathlib.Core.Path.{_≡_};
 ghost use Prim.Native.Nat.{_≤_};
 ghost use lib.ListN.{length};
 ghost use Rattle.refusal.specs.Checks.{andThen};
-ghost use Rattle.coset.specs.Span.{firstDependent};
+ghost use Rattle.coset.specs.Answers.{basisOutcome};
 ghost use Rattle.coset.specs.Subspace.{nextOffset, nextBasis};
 ghost use Rattle.fold.specs.Fold.{folded};
-ghost use Rattle.fold.specs.Answers.{foldRangesOutcome, foldLengthsOutcome, outcomeOfNextBasis, foldBasesOutcome};
+ghost use Rattle.fold.specs.Answers.{foldRangesOutcome, foldLengthsOutcome};
 ghost use Rattle.lone_fold.specs.Calls.{FoldCall, FoldedBy, CallFits};
 
 // The fold of a word at the challenge, with the step, into `values`; the basis of the next coset into `next_basis`;
 // its offset as the answer. Refused, in this order: k outside 2..20 (4); a step outside 1..3 (6); k below the step
-// (7); a list whose length is not the one due, the lowest of 1, 3, 6 and 7 (13); a dependent basis (8); a dependent
-// next basis (16), which no independent basis has. A refusal leaves both lists as they were.
+// (7); a list whose length is not the one due, the lowest of 1, 3, 6 and 7 (13); a dependent basis (8). A refusal
+// leaves both lists as they were.
 pub fn fold(
     k: usize,
     step: usize,
@@ -88,14 +87,14 @@ fn checked(
 ) -> Outcome
     ensures { λ r.
         let lengths = foldLengthsOutcome k step (length (now (basis .entry))) length3 length6 length7 in
-        ⌜ r ≡ andThen (foldRangesOutcome k step) (andThen lengths (foldBasesOutcome step (now (basis .entry)))) ⌝ }
+        ⌜ r ≡ andThen (foldRangesOutcome k step) (andThen lengths (basisOutcome (now (basis .entry)))) ⌝ }
 {
     let ranges = checked_ranges(k, step);
     match ranges {
         Outcome::Done => {
             let lengths = checked_lengths(k, step, basis.len(), length3, length6, length7);
             match lengths {
-                Outcome::Done => checked_bases(step, basis),
+                Outcome::Done => independence::checked_basis(basis),
                 Outcome::Refused(cause) => Outcome::Refused(cause),
             }
         }
@@ -142,29 +141,4 @@ fn checked_lengths(
         return Outcome::Refused(Cause::WrongLength { list: 7 });
     }
     Outcome::Done
-}
-
-fn checked_bases(step: usize, basis: &[u64]) -> Outcome
-    requires { ⌜ (step ≤ 3) × (step ≤ length (now basis)) × (length (now basis) ≤ 20) ⌝ }
-    ensures { λ r. ⌜ r ≡ foldBasesOutcome step (now (basis .entry)) ⌝ }
-{
-    let outcome = independence::checked_basis(basis);
-    match outcome {
-        Outcome::Done => checked_next_basis(step, basis),
-        Outcome::Refused(cause) => Outcome::Refused(cause),
-    }
-}
-
-// Refuses a dependent next basis (16). No independent basis has one.
-fn checked_next_basis(step: usize, basis: &[u64]) -> Outcome
-    requires { ⌜ (step ≤ 3) × (step ≤ length (now basis)) × (length (now basis) ≤ 20) ⌝ }
-    ensures { λ r. ⌜ r ≡ outcomeOfNextBasis (firstDependent (nextBasis step (now (basis .entry)))) ⌝ }
-{
-    let count = basis.len() - step;
-    let next = next_coset::next_basis(basis, step);
-    let dependent = independence::first_dependent(&next[..count]);
-    match dependent {
-        Position::At(_) => Outcome::Refused(Cause::LaterBasisDependent { round: 0 }),
-        Position::Absent => Outcome::Done,
-    }
 }

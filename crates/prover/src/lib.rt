@@ -20,10 +20,9 @@ ghost use Rattle.prover.specs.Proved.{Proved};
 
 // The honest proof of a word at its challenges: layers 1 to r - 1, joined, into the store, and the first d
 // coefficients of layer r's interpolant into `last`. Refused, in this order: k, R or η out of range, or k too small
-// for them (4, 5, 6, 7); a list whose length is not the one due, the lowest of 1 to 5 (13); a dependent basis (8); a
-// dependent basis of a later layer (16), which no independent basis has. These refusals leave both lists as they
-// were. Then a layer r whose degree is not below the number of last coefficients (12), with that degree: the store
-// holds the layers, and `last` what it held.
+// for them (4, 5, 6, 7); a list whose length is not the one due, the lowest of 1 to 5 (13); a dependent basis (8).
+// These refusals leave both lists as they were. Then a layer r whose degree is not below the number of last
+// coefficients (12), with that degree: the store holds the layers, and `last` what it held.
 pub fn prove(
     parameters: Parameters,
     offset: Element,

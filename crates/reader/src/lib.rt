@@ -33,8 +33,8 @@ impl<'a> Reader<'a> {
 }
 
 // The verdict on a transcript of any length. Refused section by section: its count's bytes (1), its count (2, or 9 in
-// section 4), its entries' bytes (1), their values (4 to 7 in section 1, 8 and 16 in section 2, 10 and 17 in section
-// 4); then bytes after the last section (3); then the first round check that fails (11).
+// section 4), its entries' bytes (1), their values (4 to 7 in section 1, 8 in section 2, 10 and 17 in section 4); then
+// bytes after the last section (3); then the first round check that fails (11).
 pub fn judge(bytes: &[u8]) -> Verdict
     ensures { λ r. ⌜ r ≡ transcriptVerdict (now (bytes .entry)) ⌝ }
 {

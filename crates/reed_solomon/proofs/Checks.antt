@@ -10,16 +10,16 @@ use Rattle.refusal.specs.declared.Cause.{Cause}
 use Rattle.refusal.specs.declared.Cause.the-variants.{DimensionOutOfRange, WrongLength}
 use Rattle.refusal.specs.declared.Outcome.{Outcome}
 use Rattle.refusal.specs.declared.Outcome.the-variants.{Done, Refused}
-use Rattle.coset.specs.Span.{firstDependent, Independent}
+use Rattle.coset.specs.Span.{Independent}
 use Rattle.refusal.specs.Checks.{refusedUnless, afterwards}
 use Rattle.refusal.proofs.Checks.{le-of-test, passed-by, refused-by, unless-done, done-holds, refused-holds}
 use Rattle.coset.proofs.Independence.{independent-of}
-use Rattle.coset.specs.Answers.{outcomeOfBasis}
+use Rattle.coset.specs.Answers.{outcomeOfBasis, basisOutcome}
 use Rattle.reed_solomon.specs.Answers.{checked}
 
 module _ (basis : List ℕ) (fits3 fits6 : Bool) where
   abbrev after3 : Outcome
-  after3 = refusedUnless fits6 (WrongLength 6) (outcomeOfBasis (firstDependent basis))
+  after3 = refusedUnless fits6 (WrongLength 6) (basisOutcome basis)
 
   abbrev lists : Outcome
   lists = refusedUnless fits3 (WrongLength 3) after3
@@ -38,11 +38,11 @@ module _ (basis : List ℕ) (fits3 fits6 : Bool) where
 
   pub list6-refused : length basis ≤ 20 → fits3 ≡ true → fits6 ≡ false
       → Refused (WrongLength 6) ≡ checked basis fits3 fits6
-  list6-refused h e f = refused-by fits6 (WrongLength 6) (outcomeOfBasis (firstDependent basis)) f ∙ list3-passed h e
+  list6-refused h e f = refused-by fits6 (WrongLength 6) (basisOutcome basis) f ∙ list3-passed h e
 
   pub basis-looked-at : length basis ≤ 20 → fits3 ≡ true → fits6 ≡ true
-      → outcomeOfBasis (firstDependent basis) ≡ checked basis fits3 fits6
-  basis-looked-at h e f = passed-by fits6 (WrongLength 6) (outcomeOfBasis (firstDependent basis)) f ∙ list3-passed h e
+      → basisOutcome basis ≡ checked basis fits3 fits6
+  basis-looked-at h e f = passed-by fits6 (WrongLength 6) (basisOutcome basis) f ∙ list3-passed h e
 
 -- where all have passed
 pub record Passed (basis : List ℕ) (fits3 fits6 : Bool) : Type 0 where
@@ -55,12 +55,12 @@ pub passed : (basis : List ℕ) (fits3 fits6 : Bool) → checked basis fits3 fit
 passed basis fits3 fits6 e =
     let first = unless-done (leb (length basis) 20) DimensionOutOfRange (lists basis fits3 fits6) e in
     let second = unless-done fits3 (WrongLength 3) (after3 basis fits3 fits6) (first .1) in
-    let third = unless-done fits6 (WrongLength 6) (outcomeOfBasis (firstDependent basis)) (second .1) in
+    let third = unless-done fits6 (WrongLength 6) (basisOutcome basis) (second .1) in
     record {
       small = le-of-test (length basis) 20 (first .0);
       list3 = second .0;
       list6 = third .0;
-      independent = independent-of (firstDependent basis) (third .1);
+      independent = independent-of basis (third .1);
     }
 
 -- the code's size is 2^k, or 0 where k is refused anyway: so the tests of the lengths may take it

@@ -8,8 +8,7 @@ use lib.ListN.{length}
 use Rattle.refusal.specs.declared.Cause.the-variants.{DimensionOutOfRange, WrongLength}
 use Rattle.refusal.specs.declared.Outcome.{Outcome}
 use Rattle.refusal.specs.Checks.{refusedUnless, afterwards}
-use Rattle.coset.specs.Span.{firstDependent}
-use Rattle.coset.specs.Answers.{outcomeOfBasis}
+use Rattle.coset.specs.Answers.{basisOutcome}
 use Rattle.reed_solomon.specs.Codes.{encoded, interpolated}
 
 -- the checks in the order of document 01: k over 20 (number 4); the lowest of lists 3 and 6 that does not fit (13);
@@ -19,7 +18,7 @@ checked basis fits3 fits6 =
     refusedUnless (leb (length basis) 20) DimensionOutOfRange
     (refusedUnless fits3 (WrongLength 3)
     (refusedUnless fits6 (WrongLength 6)
-    (outcomeOfBasis (firstDependent basis))))
+    (basisOutcome basis)))
 
 -- what encoding answers: at most 2^k coefficients, exactly 2^k values
 abbrev pub encodeOutcome : (basis coefficients values : List ℕ) → Outcome

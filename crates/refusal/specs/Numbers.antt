@@ -1,12 +1,12 @@
 -- The number, the place and the round of each cause, as document 01's table "Numbers by cause" gives them, and 17 as
--- 02, Q-2, does; without 15, which 02, Q-6, retires.
+-- 02, Q-2, does; without 15 and 16, which 02, Q-6 and Q-7, retire.
 use Prim.Native.Nat.{ℕ}
 use Rattle.refusal.specs.declared.Cause.{Cause}
 use Rattle.refusal.specs.declared.Cause.the-variants.{BytesEnd, CountDiffers, TrailingBytes, DimensionOutOfRange}
 use Rattle.refusal.specs.declared.Cause.the-variants.{RateOutOfRange, StepOutOfRange, DimensionTooSmall}
 use Rattle.refusal.specs.declared.Cause.the-variants.{BasisDependent, QueryCountOutOfRange, QueryOutOfRange}
 use Rattle.refusal.specs.declared.Cause.the-variants.{RoundCheckFails, DegreeTooLarge, WrongLength, InputTooLong}
-use Rattle.refusal.specs.declared.Cause.the-variants.{LaterBasisDependent, CosetShared}
+use Rattle.refusal.specs.declared.Cause.the-variants.{CosetShared}
 use Rattle.refusal.specs.declared.Outcome.{Outcome}
 use Rattle.refusal.specs.declared.Outcome.the-variants.{Done, Refused}
 use Rattle.refusal.specs.declared.Position.{Position}
@@ -28,7 +28,6 @@ numberOf (RoundCheckFails query round) = 11
 numberOf (DegreeTooLarge degree) = 12
 numberOf (WrongLength list) = 13
 numberOf InputTooLong = 14
-numberOf (LaterBasisDependent round) = 16
 numberOf (CosetShared query) = 17
 
 -- what the table's column "Returned" gives, but for rounds and reads: the section, basis place, query, degree or list
@@ -47,10 +46,9 @@ placeOf (RoundCheckFails query round) = At query
 placeOf (DegreeTooLarge degree) = At degree
 placeOf (WrongLength list) = At list
 placeOf InputTooLong = Absent
-placeOf (LaterBasisDependent round) = Absent
 placeOf (CosetShared query) = At query
 
--- the round of a failed check or of a dependent later basis
+-- the round of a failed check
 abbrev pub roundOf : (cause : Cause) → Position
 roundOf (BytesEnd section) = Absent
 roundOf (CountDiffers section) = Absent
@@ -66,7 +64,6 @@ roundOf (RoundCheckFails query round) = At round
 roundOf (DegreeTooLarge degree) = Absent
 roundOf (WrongLength list) = Absent
 roundOf InputTooLong = Absent
-roundOf (LaterBasisDependent round) = At round
 roundOf (CosetShared query) = Absent
 
 -- the number of an outcome: 0 where it went well, else that of the cause

@@ -1,18 +1,15 @@
 // The checks that prover, judge and writer have in common, in the order of the papers.
 use field::Element;
-use layer_cosets::LayerCoset;
 use layout::Parameters;
 use refusal::Cause;
 use refusal::Outcome;
-use refusal::Position;
 ghost use mathlib.Core.Path.{_≡_};
-ghost use lib.ListN.{length};
 ghost use Rattle.refusal.specs.Checks.{andThen};
-ghost use Rattle.fri.specs.Checks.{parametersOutcome, lengthsOutcome, laterBasesOutcome, basesOutcome, runOutcome};
-ghost use Rattle.layout.specs.Parameters.{stepsBy, Valid, runOf};
+ghost use Rattle.fri.specs.Checks.{parametersOutcome, lengthsOutcome, runOutcome};
+ghost use Rattle.layout.specs.Parameters.{runOf};
 
-// The checks that prover and judge have in common, in the order of the papers: 4, 5, 6, 7, 13, 8, 16. Any offset
-// passes; the contract's run has it.
+// The checks that prover and judge have in common, in the order of the papers: 4, 5, 6, 7, 13, 8. Any offset passes;
+// the contract's run has it.
 pub fn checked(
     parameters: Parameters,
     offset: Element,
@@ -29,7 +26,7 @@ pub fn checked(
 {
     let lists = checked_lists(parameters, offset, basis, challenges, word, store, last);
     match lists {
-        Outcome::Done => checked_bases(parameters, basis),
+        Outcome::Done => independence::checked_basis(basis),
         Outcome::Refused(cause) => Outcome::Refused(cause),
     }
 }
@@ -70,40 +67,6 @@ pub fn checked_lists(
     }
     if last.len() != parameters.last_count() {
         return Outcome::Refused(Cause::WrongLength { list: 5 });
-    }
-    Outcome::Done
-}
-
-// Refuses a dependent basis (8), then a dependent one of a later layer (16).
-pub fn checked_bases(parameters: Parameters, basis: &[u64]) -> Outcome
-    requires { ⌜ Valid parameters × (length (now basis) ≡ parameters .k) ⌝ }
-    ensures { λ r. ⌜ r ≡ basesOutcome (stepsBy parameters) (now (basis .entry)) ⌝ }
-{
-    let outcome = independence::checked_basis(basis);
-    match outcome {
-        Outcome::Done => checked_later_bases(parameters, basis),
-        Outcome::Refused(cause) => Outcome::Refused(cause),
-    }
-}
-
-// Refuses a dependent basis of a later layer (16), with the round whose fold gives that layer. After an independent
-// basis there is none.
-fn checked_later_bases(parameters: Parameters, basis: &[u64]) -> Outcome
-    requires { ⌜ Valid parameters × (length (now basis) ≡ parameters .k) ⌝ }
-    ensures { λ r.
-        let steps = stepsBy parameters in
-        ⌜ r ≡ laterBasesOutcome steps (now (basis .entry)) 0 (length steps) ⌝ }
-{
-    let rounds = parameters.rounds();
-    let mut coset = LayerCoset::first(Element::ZERO, basis);
-    let mut round: usize = 0;
-    while round < rounds {
-        coset = coset.next(parameters.step);
-        let dependent = coset.first_dependent();
-        match dependent {
-            Position::At(_) => return Outcome::Refused(Cause::LaterBasisDependent { round }),
-            Position::Absent => round += 1,
-        }
     }
     Outcome::Done
 }

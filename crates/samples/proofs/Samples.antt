@@ -13,7 +13,7 @@ use Rattle.fold.specs.Fold.{folded, foldEntry, cosetPoints, cosetEntries}
 use Rattle.fri.specs.Layout.{dimension, lastCount, layerStart, storeLength, storedLayer, joinedLayers, indexIn}
 use Rattle.fri.specs.Run.{layerIn}
 use Rattle.fri.specs.Layers.{layerBasis, layerOffset, foldOf, honestLayer, honestStore, lastInterpolant, honestLast}
-use Rattle.fri.specs.Checks.{laterBasesOutcome, firstOutside, among, firstRepeatedAfter, firstShared}
+use Rattle.fri.specs.Checks.{firstOutside, among, firstRepeatedAfter, firstShared}
 use Rattle.fri.specs.Rounds.{valueComputed, valueFound, firstFailingRound, roundsOutcome}
 use Rattle.fri.specs.Reads.{entryCount, entriesRead}
 use Rattle.samples.specs.Samples.{every, same, basesAgree}
@@ -24,7 +24,7 @@ unfolding product inverse power powerIn timesWhere carryless carrylessIn remaind
     interpolant plus scale timesLinear dividedDifferences vanishingPolynomial degreeBound point points tabulated inSpan
     firstDependentAfter firstDependent nextOffset nextBasis image subspacePolynomial interpolated folded foldEntry
     cosetPoints cosetEntries dimension lastCount layerStart storeLength storedLayer joinedLayers indexIn layerIn
-    layerBasis layerOffset foldOf honestLayer honestStore lastInterpolant honestLast laterBasesOutcome firstOutside
+    layerBasis layerOffset foldOf honestLayer honestStore lastInterpolant honestLast firstOutside
     among firstRepeatedAfter firstShared valueComputed valueFound firstFailingRound roundsOutcome entryCount entriesRead
     every same basesAgree
 agreement =

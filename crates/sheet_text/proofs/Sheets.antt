@@ -15,7 +15,7 @@ use Rattle.refusal.specs.declared.Cause.the-variants.{BytesEnd, CountDiffers, T
 use Rattle.refusal.specs.declared.Cause.the-variants.{RateOutOfRange, StepOutOfRange, DimensionTooSmall}
 use Rattle.refusal.specs.declared.Cause.the-variants.{BasisDependent, QueryCountOutOfRange, QueryOutOfRange}
 use Rattle.refusal.specs.declared.Cause.the-variants.{RoundCheckFails, DegreeTooLarge, WrongLength, InputTooLong}
-use Rattle.refusal.specs.declared.Cause.the-variants.{LaterBasisDependent, CosetShared}
+use Rattle.refusal.specs.declared.Cause.the-variants.{CosetShared}
 use Rattle.refusal.specs.declared.Outcome.{Outcome}
 use Rattle.refusal.specs.declared.Outcome.the-variants as outcomes
 use Rattle.refusal.specs.declared.Outcome.the-variants.{Done}
@@ -178,7 +178,6 @@ lines-of-cause (RoundCheckFails query round) = inr (query, round, refl)
 lines-of-cause (DegreeTooLarge degree) = inl refl
 lines-of-cause (WrongLength list) = inl refl
 lines-of-cause InputTooLong = inl refl
-lines-of-cause (LaterBasisDependent round) = inl refl
 lines-of-cause (CosetShared query) = inl refl
 
 -- the sheet by whether the judge's answer has lines

@@ -96,7 +96,7 @@ passed-elements bytes h done j i =
           offset-element = elements .offset;
           basis-elements = elements .basis;
           basis-count = fit bytes c .basis;
-          independent = passing .common (runIn bytes) (elements .basis) .0 run-done .2;
+          independent = passing .common (runIn bytes) .0 run-done .2;
         }
 
 -- ---- digits

@@ -14,7 +14,7 @@ use Rattle.fold.proofs.Cases.{fold-cases}
 use Rattle.fri.specs.Layout.{dimension, lastCount, layerStart, storeLength, indexIn}
 use Rattle.fri.specs.Run.{layerIn}
 use Rattle.fri.specs.Layers.{layerBasis, layerOffset}
-use Rattle.fri.specs.Checks.{laterBasesOutcome, firstOutside, among, firstRepeatedAfter, firstShared}
+use Rattle.fri.specs.Checks.{firstOutside, among, firstRepeatedAfter, firstShared}
 use Rattle.fri.specs.Rounds.{valueFound, firstFailingRound, roundsOutcome}
 use Rattle.fri.specs.Demand.{Accepted, Covered}
 use Rattle.table_a.specs.TableA.{small}
@@ -24,7 +24,7 @@ use Rattle.table_a.proofs.Values.{j-value}
 accepted : Accepted (small 2 (0 ∷ 0 ∷ 0 ∷ 1 ∷ []) (0 ∷ [])) (0 ∷ 2 ∷ [])
 unfolding product carryless carrylessIn remainder remainderIn timesT evaluate plus scale timesLinear vanishingPolynomial
     point points tabulated inSpan firstDependentAfter firstDependent nextOffset nextBasis image subspacePolynomial
-    dimension lastCount layerStart storeLength indexIn layerIn layerBasis layerOffset laterBasesOutcome firstOutside
+    dimension lastCount layerStart storeLength indexIn layerIn layerBasis layerOffset firstOutside
     among firstRepeatedAfter firstShared valueFound firstFailingRound roundsOutcome
 accepted =
     let first = j-value (0 ∷ []) 0 0 (omega arith) refl in

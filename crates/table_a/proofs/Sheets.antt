@@ -14,7 +14,7 @@ use Rattle.coset.specs.Subspace.{nextOffset, nextBasis, image, subspacePolynomi
 use Rattle.fri.specs.Layout.{dimension, lastCount, layerStart, storedLayer, indexIn}
 use Rattle.fri.specs.Run.{Run, layerIn}
 use Rattle.fri.specs.Layers.{layerBasis, layerOffset}
-use Rattle.fri.specs.Checks.{laterBasesOutcome, firstOutside, among, firstRepeatedAfter, firstShared}
+use Rattle.fri.specs.Checks.{firstOutside, among, firstRepeatedAfter, firstShared}
 use Rattle.fri.specs.Rounds.{valueComputed, valueFound}
 use Rattle.transcript.specs.Numerals.{littleEndian, countAt, entryAt, entriesAt}
 use Rattle.transcript.specs.Sections.{sectionStart}
@@ -29,17 +29,13 @@ use Rattle.table_a.proofs.Values.{f-value, h-value, k-first, k-second}
 -- ---- the sections
 
 pub passed-one : (last : ℕ) → transcriptOutcome (oneRound last) ≡ Done
-unfolding product carryless carrylessIn remainder remainderIn timesT evaluate plus scale timesLinear vanishingPolynomial
-    point points tabulated inSpan firstDependentAfter firstDependent nextOffset nextBasis image subspacePolynomial
-    dimension lastCount layerBasis laterBasesOutcome firstOutside among firstRepeatedAfter firstShared
-    littleEndian countAt entryAt entriesAt sectionStart layersFrom
+unfolding inSpan firstDependentAfter firstDependent dimension lastCount firstOutside among firstRepeatedAfter
+    firstShared littleEndian countAt entryAt entriesAt sectionStart layersFrom
 passed-one last = refl
 
 pub passed-two : transcriptOutcome twoRoundsBytes ≡ Done
-unfolding product carryless carrylessIn remainder remainderIn timesT evaluate plus scale timesLinear vanishingPolynomial
-    point points tabulated inSpan firstDependentAfter firstDependent nextOffset nextBasis image subspacePolynomial
-    dimension lastCount layerBasis laterBasesOutcome firstOutside among firstRepeatedAfter firstShared
-    littleEndian countAt entryAt entriesAt sectionStart layersFrom
+unfolding inSpan firstDependentAfter firstDependent dimension lastCount firstOutside among firstRepeatedAfter
+    firstShared littleEndian countAt entryAt entriesAt sectionStart layersFrom
 passed-two = refl
 
 -- ---- a line by its values

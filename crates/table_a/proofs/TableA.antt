@@ -27,7 +27,7 @@ use Rattle.fold.proofs.Cases.{fold-cases, d-offset, d-basis}
 use Rattle.fri.specs.Layout.{dimension, lastCount, layerStart, storeLength, storedLayer, joinedLayers, indexIn}
 use Rattle.fri.specs.Run.{Run, stepsIn, layerIn}
 use Rattle.fri.specs.Layers.{layerBasis, layerOffset, foldOf, honestLayer, honestStore, lastInterpolant, honestLast}
-use Rattle.fri.specs.Checks.{laterBasesOutcome, runOutcome, firstOutside, among, firstRepeatedAfter, firstShared}
+use Rattle.fri.specs.Checks.{runOutcome, firstOutside, among, firstRepeatedAfter, firstShared}
 use Rattle.fri.specs.Rounds.{valueFound, firstFailingRound, roundsOutcome}
 use Rattle.fri.specs.Reads.{entryCount, entriesRead}
 use Rattle.fri.specs.Prover.{proveOutcome, storeAfter, lastAfter}
@@ -61,15 +61,11 @@ store-by run store checked e = ap (λ (o : Outcome). afterwards o (honestStore r
 -- ---- cases F, J and K: the checks and layer r's interpolant
 
 small-checked : (challenge a b c d last : ℕ) → runOutcome (small challenge (a ∷ b ∷ c ∷ d ∷ []) (last ∷ [])) ≡ Done
-unfolding product carryless carrylessIn remainder remainderIn timesT evaluate plus scale timesLinear vanishingPolynomial
-    point points tabulated inSpan firstDependentAfter firstDependent nextOffset nextBasis image subspacePolynomial
-    dimension lastCount layerStart storeLength layerBasis laterBasesOutcome
+unfolding inSpan firstDependentAfter firstDependent dimension lastCount layerStart storeLength
 small-checked challenge a b c d last = refl
 
 k-checked : runOutcome (twoRounds (0 ∷ 0 ∷ 0 ∷ 0 ∷ []) (0 ∷ [])) ≡ Done
-unfolding product carryless carrylessIn remainder remainderIn timesT evaluate plus scale timesLinear vanishingPolynomial
-    point points tabulated inSpan firstDependentAfter firstDependent nextOffset nextBasis image subspacePolynomial
-    dimension lastCount layerStart storeLength layerBasis laterBasesOutcome
+unfolding inSpan firstDependentAfter firstDependent dimension lastCount layerStart storeLength
 k-checked = refl
 
 small-interpolant : (challenge : ℕ) (word last values coefficients : List ℕ)
@@ -122,7 +118,7 @@ k-store = fold-cases .k-layer
 pub table-a : TableA
 unfolding product carryless carrylessIn remainder remainderIn timesT evaluate plus scale timesLinear vanishingPolynomial
     point points tabulated inSpan firstDependentAfter firstDependent nextOffset nextBasis image subspacePolynomial
-    dimension lastCount layerStart storeLength storedLayer indexIn layerIn layerBasis layerOffset laterBasesOutcome
+    dimension lastCount layerStart storeLength storedLayer indexIn layerIn layerBasis layerOffset
     firstOutside among firstRepeatedAfter firstShared valueFound firstFailingRound roundsOutcome entryCount entriesRead
     degreeBound
 table-a =

@@ -14,9 +14,10 @@ use Rattle.refusal.specs.declared.Outcome.{Outcome}
 use Rattle.refusal.specs.declared.Outcome.the-variants.{Done, Refused}
 use Rattle.refusal.specs.Checks.{refusedUnless, andThen}
 use Rattle.refusal.proofs.Checks.{equal-of-test, passed-by, unless-done, then-passed, then-done}
+use Rattle.coset.specs.Answers.{basisOutcome}
 use Rattle.fri.specs.Layout.{stepAt, dimension, lastCount, layerStart, storeLength}
 use Rattle.fri.specs.Run.{layerIn}
-use Rattle.fri.specs.Checks.{parametersOutcome, lengthsOutcome, basesOutcome, runOutcome}
+use Rattle.fri.specs.Checks.{parametersOutcome, lengthsOutcome, runOutcome}
 use Rattle.fri.specs.Checks.{indicesOutcome, queriesOutcome}
 use Rattle.fri.specs.Judge.{checksOutcome}
 use Rattle.fri.specs.Theorems.{Fit}
@@ -136,17 +137,16 @@ module _ (bytes : List ℕ) where
         (due-passes bytes 1 3 (omega arith) (c .parameters-count) (inside 1 (omega arith) (omega arith))))
         ∙ parameters-pass (transcriptK bytes) (transcriptRate bytes) (transcriptStep bytes) (c .parameters)
 
-    coset-section : cosetSection bytes ≡ basesOutcome (transcriptSteps bytes) (runIn bytes .basis)
+    coset-section : cosetSection bytes ≡ basisOutcome (runIn bytes .basis)
     coset-section =
-        sym (then-passed (dueOutcome bytes 2 (transcriptK bytes + 1))
-        (basesOutcome (transcriptSteps bytes) (runIn bytes .basis))
+        sym (then-passed (dueOutcome bytes 2 (transcriptK bytes + 1)) (basisOutcome (runIn bytes .basis))
         (due-passes bytes 2 (transcriptK bytes + 1) (omega arith) (c .coset-count)
         (inside 2 (omega arith) (omega arith))))
 
     challenges-section : challengesSection bytes ≡ Done
     challenges-section = due-passes bytes 3 r (omega arith) (c .challenges-count) (inside 3 (omega arith) (omega arith))
 
-    front-is : frontOutcome bytes ≡ andThen (basesOutcome (transcriptSteps bytes) (runIn bytes .basis)) of-queries
+    front-is : frontOutcome bytes ≡ andThen (basisOutcome (runIn bytes .basis)) of-queries
     front-is =
         sym (then-passed (parametersSection bytes) (listsOutcome bytes) parameters-section)
         ∙ ap₂ andThen coset-section
@@ -169,15 +169,15 @@ module _ (bytes : List ℕ) where
     pub checks-are : transcriptOutcome bytes ≡ checksOutcome (runIn bytes) (queriesIn bytes)
     checks-are =
         ap₂ andThen front-is layers-pass-all
-        ∙ then-nothing (andThen (basesOutcome (transcriptSteps bytes) (runIn bytes .basis)) of-queries)
+        ∙ then-nothing (andThen (basisOutcome (runIn bytes .basis)) of-queries)
         ∙ ap (λ (o : Outcome). andThen o of-queries) lists
       where
-        lists : basesOutcome (transcriptSteps bytes) (runIn bytes .basis) ≡ runOutcome (runIn bytes)
+        lists : basisOutcome (runIn bytes .basis) ≡ runOutcome (runIn bytes)
         lists =
-            then-passed (lengthsOutcome (runIn bytes)) (basesOutcome (transcriptSteps bytes) (runIn bytes .basis))
+            then-passed (lengthsOutcome (runIn bytes)) (basisOutcome (runIn bytes .basis))
             (lengths-pass (runIn bytes) fit)
             ∙ then-passed (parametersOutcome (transcriptK bytes) (transcriptRate bytes) (transcriptStep bytes))
-            (andThen (lengthsOutcome (runIn bytes)) (basesOutcome (transcriptSteps bytes) (runIn bytes .basis)))
+            (andThen (lengthsOutcome (runIn bytes)) (basisOutcome (runIn bytes .basis)))
             (parameters-pass (transcriptK bytes) (transcriptRate bytes) (transcriptStep bytes) (c .parameters))
 
   -- ---- bytes that pass carry lists
@@ -191,7 +191,7 @@ module _ (bytes : List ℕ) where
       let third = then-done (challengesSection bytes) (queriesSection bytes) (second .1) in
       let parameters = parameters-done bytes (first .0) in
       let coset = then-done (dueOutcome bytes 2 (transcriptK bytes + 1))
-      (basesOutcome (transcriptSteps bytes) (runIn bytes .basis)) (second .0) in
+      (basisOutcome (runIn bytes .basis)) (second .0) in
       let layers = then-done (layersFrom bytes 0 r) (endOutcome bytes) (both .1) in
       let last = then-done (dueOutcome bytes (layerSection r) last-due) end (layers .1) in
       record {

@@ -17,8 +17,9 @@ use Rattle.refusal.specs.declared.Outcome.{Outcome}
 use Rattle.refusal.specs.declared.Outcome.the-variants.{Done, Refused}
 use Rattle.refusal.specs.Checks.{refusedUnless, andThen}
 use Rattle.refusal.proofs.Checks.{equal-of-test, then-done, unless-done, within-of}
+use Rattle.coset.specs.Answers.{basisOutcome}
 use Rattle.fri.specs.Layout.{stepsOf, stepAt, dimension, lastCount}
-use Rattle.fri.specs.Checks.{parametersOutcome, basesOutcome, indicesOutcome}
+use Rattle.fri.specs.Checks.{parametersOutcome, indicesOutcome}
 use Rattle.transcript.specs.Numerals.{littleEndian, countAt, entryAt, entriesAt}
 use Rattle.transcript.specs.Sections.{sectionStart, sectionCount, sectionEntries, layerSection, transcriptK}
 use Rattle.transcript.specs.Sections.{transcriptRounds}
@@ -144,22 +145,21 @@ module _ (front rest : List ℕ) where
       early2 : sectionStart front 2 + 4 + 8 * (k + 1) ≤ length front
       early2 = omega (arith, at.start-two front one, at.valid front one .k-most)
 
-      abbrev bases : List ℕ → List ℕ → Outcome
-      bases l m = basesOutcome (steps-of l) (drop 1 m)
+      abbrev basis : List ℕ → Outcome
+      basis m = basisOutcome (drop 1 m)
 
       second-same : cosetSection whole ≡ cosetSection front
       second-same =
-          then-same (bases (sectionEntries whole 1) (sectionEntries whole 2))
-          (bases (sectionEntries front 1) (sectionEntries front 2))
+          then-same (basis (sectionEntries whole 2)) (basis (sectionEntries front 2))
           (by-parameters (λ l. dueOutcome whole 2 (getD l 0 0 + 1)) ∙ due-same 2 (k + 1) (omega arith) start2 early2)
           (λ (d : dueOutcome front 2 (k + 1) ≡ Done).
-          ap₂ bases (entries1 three)
+          ap basis
           (entries-are 2 (k + 1) (omega arith) start2 early2 (omega (arith, due-done front 2 (k + 1) d .0))))
 
       module _ (two : cosetSection front ≡ Done) where
         coset-there : dueOutcome front 2 (k + 1) ≡ Done
         coset-there =
-            then-done (dueOutcome front 2 (k + 1)) (bases (sectionEntries front 1) (sectionEntries front 2)) two .0
+            then-done (dueOutcome front 2 (k + 1)) (basis (sectionEntries front 2)) two .0
 
         -- section 3
         start3 : sectionStart whole 3 ≡ sectionStart front 3

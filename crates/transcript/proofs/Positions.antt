@@ -14,8 +14,9 @@ use Rattle.refusal.specs.declared.Cause.the-variants.{QueryCountOutOfRange}
 use Rattle.refusal.specs.declared.Outcome.{Outcome}
 use Rattle.refusal.specs.declared.Outcome.the-variants.{Done}
 use Rattle.refusal.specs.Checks.{andThen}
+use Rattle.coset.specs.Answers.{basisOutcome}
 use Rattle.fri.specs.Layout.{stepsOf, stepAt, dimension, lastCount}
-use Rattle.fri.specs.Checks.{basesOutcome, indicesOutcome}
+use Rattle.fri.specs.Checks.{indicesOutcome}
 use Rattle.fri.specs.Demand.{ValidParameters}
 use Rattle.fri.proofs.Layouts.{dimension-of-layer, rounds-fit, rounds-few}
 use Rattle.transcript.specs.Sections.{sectionStart, sectionCount, layerSection, transcriptK, transcriptRate}
@@ -135,7 +136,7 @@ module _ (bytes : List ℕ) (one : parametersSection bytes ≡ Done) where
       let two = then-done (cosetSection bytes) (andThen (challengesSection bytes) (queriesSection bytes)) lists in
       let three = then-done (challengesSection bytes) (queriesSection bytes) (two .1) in
       start-five
-      (then-done (dueOutcome bytes 2 (k + 1)) (basesOutcome (transcriptSteps bytes) (runIn bytes .basis)) (two .0) .0)
+      (then-done (dueOutcome bytes 2 (k + 1)) (basisOutcome (runIn bytes .basis)) (two .0) .0)
       (three .0)
       (then-done queries-there (indicesOutcome k (stepAt (transcriptSteps bytes) 0) (queriesIn bytes)) (three .1) .0)
 

@@ -11,8 +11,10 @@ use Rattle.refusal.specs.declared.Outcome.the-variants.{Done}
 use Rattle.refusal.specs.Checks.{refusedUnless, andThen}
 use Rattle.refusal.specs.Numbers.{numberOf, numberOfOutcome}
 use Rattle.refusal.proofs.Checks.{number-unless, number-then}
+use Rattle.coset.specs.Answers.{basisOutcome}
+use Rattle.coset.proofs.Independence.{basis-number}
 use Rattle.fri.specs.Layout.{stepAt, dimension, lastCount}
-use Rattle.fri.specs.Checks.{parametersOutcome, basesOutcome, indicesOutcome}
+use Rattle.fri.specs.Checks.{parametersOutcome, indicesOutcome}
 use Rattle.fri.proofs.Checks.{parameters-number, indices-number}
 use Rattle.transcript.specs.Sections.{sectionStart, sectionCount, layerSection, transcriptK, transcriptRate}
 use Rattle.transcript.specs.Sections.{transcriptStep, transcriptSteps, transcriptRounds, runIn, queriesIn}
@@ -53,34 +55,33 @@ module _ (P : ℕ → Type 0) (low : (n : ℕ) → n ≤ 3 → P n) (bytes : Lis
 
   pub transcript-number-from
       : P (numberOfOutcome (parametersOutcome (transcriptK bytes) (transcriptRate bytes) (transcriptStep bytes)))
-      → P (numberOfOutcome (basesOutcome (transcriptSteps bytes) (runIn bytes .basis)))
+      → P (numberOfOutcome (basisOutcome (runIn bytes .basis)))
       → P (numberOfOutcome (queriesSection bytes))
       → P (numberOfOutcome (transcriptOutcome bytes))
-  transcript-number-from parameters bases queries =
+  transcript-number-from parameters basis queries =
       number-then P (frontOutcome bytes) (layersOutcome bytes)
       (number-then P (parametersSection bytes) (listsOutcome bytes)
       (number-then P (dueOutcome bytes 1 3)
       (parametersOutcome (transcriptK bytes) (transcriptRate bytes) (transcriptStep bytes)) (due-number 1 3)
       parameters)
       (number-then P (cosetSection bytes) (andThen (challengesSection bytes) (queriesSection bytes))
-      (number-then P (dueOutcome bytes 2 (transcriptK bytes + 1))
-      (basesOutcome (transcriptSteps bytes) (runIn bytes .basis)) (due-number 2 (transcriptK bytes + 1)) bases)
+      (number-then P (dueOutcome bytes 2 (transcriptK bytes + 1)) (basisOutcome (runIn bytes .basis))
+      (due-number 2 (transcriptK bytes + 1)) basis)
       (number-then P (challengesSection bytes) (queriesSection bytes)
       (due-number 3 (transcriptRounds bytes)) queries)))
       (number-then P (layersFrom bytes 0 (transcriptRounds bytes)) (endOutcome bytes)
       (layers-number 0 (transcriptRounds bytes)) end-number)
 
--- what holds of 0 to 10, of 17 and of the bases' number holds of a transcript's
+-- what holds of 0 to 10 and of 17 holds of a transcript's number
 pub transcript-number : (P : ℕ → Type 0) → ((n : ℕ) → n ≤ 10 → P n) → P 17 → (bytes : List ℕ)
-    → P (numberOfOutcome (basesOutcome (transcriptSteps bytes) (runIn bytes .basis)))
     → P (numberOfOutcome (transcriptOutcome bytes))
-transcript-number P small p17 bytes bases =
+transcript-number P small p17 bytes =
     let counted = leb 1 (sectionCount bytes 4) && leb (sectionCount bytes 4) 256 in
     let first = stepAt (transcriptSteps bytes) 0 in
     transcript-number-from P (λ n h. small n (omega arith)) bytes
     (parameters-number P (small 0 (omega arith)) (λ n l u. small n (omega arith)) (transcriptK bytes)
     (transcriptRate bytes) (transcriptStep bytes))
-    bases
+    (basis-number P (small 0 (omega arith)) (small 8 (omega arith)) (runIn bytes .basis))
     (number-then P (sectionOutcome bytes 4 counted QueryCountOutOfRange)
     (indicesOutcome (transcriptK bytes) first (queriesIn bytes))
     (section-number P (λ n h. small n (omega arith)) bytes 4 counted QueryCountOutOfRange (small 9 (omega arith)))

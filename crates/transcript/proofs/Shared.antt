@@ -16,11 +16,13 @@ use Rattle.refusal.specs.Numbers.{numberOfOutcome}
 use Rattle.refusal.proofs.Checks.{then-passed, then-refused, number-then, Either, which}
 use Rattle.fri.specs.declared.Answer.the-variants as answers
 use Rattle.fri.specs.declared.Verdict.{Verdict}
+use Rattle.coset.specs.Answers.{basisOutcome}
+use Rattle.coset.proofs.Independence.{basis-number}
 use Rattle.fri.specs.Layout.{stepAt}
-use Rattle.fri.specs.Checks.{parametersOutcome, basesOutcome, firstShared, indicesOutcome}
+use Rattle.fri.specs.Checks.{parametersOutcome, firstShared, indicesOutcome}
 use Rattle.fri.specs.Rounds.{roundsOutcome}
 use Rattle.fri.specs.Demand.{ValidQueries}
-use Rattle.fri.proofs.Checks.{early-not, bases-early, parameters-number, shared-of, shared-refused}
+use Rattle.fri.proofs.Checks.{parameters-number, shared-of, shared-refused}
 use Rattle.fri.proofs.Rounds.{refused-by-round}
 use Rattle.fri.proofs.Verdicts.{refused-of}
 use Rattle.transcript.specs.Sections.{sectionStart, sectionCount, transcriptK, transcriptRate, transcriptStep}
@@ -66,10 +68,9 @@ module _ (bytes : List ℕ) (query : ℕ) where
 
   coset-other : Other (numberOfOutcome (cosetSection bytes))
   coset-other =
-      let bases = basesOutcome (transcriptSteps bytes) (runIn bytes .basis) in
-      number-then Other (dueOutcome bytes 2 (transcriptK bytes + 1)) bases
+      number-then Other (dueOutcome bytes 2 (transcriptK bytes + 1)) (basisOutcome (runIn bytes .basis))
       (due-number Other low bytes 2 (transcriptK bytes + 1))
-      (early-not 17 (numberOfOutcome bases) (omega arith) (inr (omega arith)) (bases-early (runIn bytes)))
+      (basis-number Other (low 0 (omega arith)) (small 8 (omega arith)) (runIn bytes .basis))
 
   layers-other : Other (numberOfOutcome (layersOutcome bytes))
   layers-other =

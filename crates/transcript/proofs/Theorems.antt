@@ -27,15 +27,12 @@ use Rattle.fri.specs.Rounds.{roundsOutcome}
 use Rattle.fri.specs.Reads.{entriesRead}
 use Rattle.fri.specs.Judge.{answerOf, readsAfter, verdictOf, numberOfAnswer, placeOfAnswer, roundOfAnswer}
 use Rattle.fri.specs.Demand.{Any, Accepted, Visits, Elements}
-use Rattle.fri.specs.Checks.{basesOutcome}
 use Rattle.fri.specs.Theorems.{Tells}
-use Rattle.fri.proofs.Checks.{early-not, bases-number, bases-early}
 use Rattle.fri.proofs.Rounds.{refused-by-round}
 use Rattle.fri.proofs.Verdicts.{done-of, refused-of, same-number}
 use Rattle.fri.proofs.Soundness.{soundness}
 use Rattle.fri.proofs.Completeness.{completeness}
-use Rattle.transcript.specs.Numerals.{AreBytes}
-use Rattle.transcript.specs.Sections.{sectionStart, transcriptSteps, runIn, queriesIn}
+use Rattle.transcript.specs.Sections.{sectionStart, runIn, queriesIn}
 use Rattle.transcript.specs.Checks.{transcriptOutcome}
 use Rattle.transcript.specs.Judge.{transcriptVerdict, longestTranscript, inputLimit, inputVerdict}
 use Rattle.transcript.specs.Theorems.{Carries, JudgingBytes, TranscriptCompleteness}
@@ -99,9 +96,7 @@ refused-carries bytes query round e =
         (RoundCheckFails query round) → Carries bytes
     by (inl early) =
         absurd
-        (transcript-number (λ n. n ≢ 11) (λ n l e. omega arith) (λ e. omega arith) bytes
-        (early-not 11 (numberOfOutcome (basesOutcome (transcriptSteps bytes) (runIn bytes .basis))) (omega arith)
-        (inl (omega arith)) (bases-early (runIn bytes))) (ap numberOfOutcome early))
+        (transcript-number (λ n. n ≢ 11) (λ n l e. omega arith) (λ e. omega arith) bytes (ap numberOfOutcome early))
     by (inr (passed, late)) = passed-carries bytes passed
 
 -- ---- demand 3
@@ -236,14 +231,13 @@ rounds-number : (bytes : List ℕ) (o : Outcome) → roundsOutcome (runIn bytes)
 rounds-number bytes Done e = inl (omega arith)
 rounds-number bytes (Refused cause) e = inl (omega (arith, refused-by-round (runIn bytes) (queriesIn bytes) cause e))
 
-library-number : (bytes : List ℕ) → AreBytes bytes → TranscriptNumber (numberOfAnswer (transcriptVerdict bytes .answer))
+library-number : (bytes : List ℕ) → TranscriptNumber (numberOfAnswer (transcriptVerdict bytes .answer))
 unfolding transcriptVerdict
-library-number bytes h =
+library-number bytes =
     let rounds = roundsOutcome (runIn bytes) (queriesIn bytes) 0 in
     subst TranscriptNumber (sym (same-number (andThen (transcriptOutcome bytes) rounds)))
     (number-then TranscriptNumber (transcriptOutcome bytes) rounds
-    (transcript-number TranscriptNumber (λ n l. inl (omega arith)) (inr refl) bytes
-    (bases-number TranscriptNumber (inl (omega arith)) (inl (omega arith)) (runIn bytes) (run-fits bytes h .basis)))
+    (transcript-number TranscriptNumber (λ n l. inl (omega arith)) (inr refl) bytes)
     (rounds-number bytes rounds refl))
 
 abbrev ProgramNumber : Verdict → Type 0
@@ -255,10 +249,9 @@ either-number : (test : Bool) (verdict : Verdict) → TranscriptNumber (numberOf
 either-number true verdict h = inl h
 either-number false verdict h = inr refl
 
-program-number : (bytes : List ℕ) → AreBytes bytes → ProgramNumber (inputVerdict bytes)
+program-number : (bytes : List ℕ) → ProgramNumber (inputVerdict bytes)
 unfolding inputVerdict
-program-number bytes h =
-    either-number (leb (length bytes) inputLimit) (transcriptVerdict bytes) (library-number bytes h)
+program-number bytes = either-number (leb (length bytes) inputLimit) (transcriptVerdict bytes) (library-number bytes)
 
 empty : Tells (inputVerdict []) 1 (At 1) Absent 0
 unfolding inputVerdict transcriptVerdict sectionStart

@@ -11,8 +11,9 @@ use Rattle.refusal.specs.declared.Cause.the-variants.{BytesEnd, CountDiffers, T
 use Rattle.refusal.specs.declared.Outcome.{Outcome}
 use Rattle.refusal.specs.declared.Outcome.the-variants.{Done}
 use Rattle.refusal.specs.Checks.{refusedUnless, andThen}
+use Rattle.coset.specs.Answers.{basisOutcome}
 use Rattle.fri.specs.Layout.{stepAt, dimension, lastCount}
-use Rattle.fri.specs.Checks.{parametersOutcome, basesOutcome, indicesOutcome}
+use Rattle.fri.specs.Checks.{parametersOutcome, indicesOutcome}
 use Rattle.transcript.specs.Sections.{sectionStart, sectionCount, layerSection, transcriptK, transcriptRate}
 use Rattle.transcript.specs.Sections.{transcriptStep, transcriptSteps, transcriptRounds, runIn, queriesIn}
 
@@ -34,10 +35,9 @@ parametersSection bytes =
     andThen (dueOutcome bytes 1 3)
     (parametersOutcome (transcriptK bytes) (transcriptRate bytes) (transcriptStep bytes))
 
--- section 2, and the bases (8, then 16)
+-- section 2, and the basis (8)
 abbrev pub cosetSection : (bytes : List ℕ) → Outcome
-cosetSection bytes =
-    andThen (dueOutcome bytes 2 (transcriptK bytes + 1)) (basesOutcome (transcriptSteps bytes) (runIn bytes .basis))
+cosetSection bytes = andThen (dueOutcome bytes 2 (transcriptK bytes + 1)) (basisOutcome (runIn bytes .basis))
 
 -- section 3
 abbrev pub challengesSection : (bytes : List ℕ) → Outcome

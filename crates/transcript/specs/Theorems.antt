@@ -114,8 +114,8 @@ TranscriptNumber n = (n ≤ 11) ⊎ (n ≡ 17)
 
 -- no other numbers are given: over bytes 0 to 11 and 17, and 14 by the program
 pub record TranscriptNumbers : Type 0 where
-  pub library : (bytes : List ℕ) → AreBytes bytes → TranscriptNumber (numberOfAnswer (transcriptVerdict bytes .answer))
-  pub program : (bytes : List ℕ) → AreBytes bytes
+  pub library : (bytes : List ℕ) → TranscriptNumber (numberOfAnswer (transcriptVerdict bytes .answer))
+  pub program : (bytes : List ℕ)
       → TranscriptNumber (numberOfAnswer (inputVerdict bytes .answer))
       ⊎ (numberOfAnswer (inputVerdict bytes .answer) ≡ 14)
   -- case N: no bytes at all

@@ -12,9 +12,10 @@ use Rattle.refusal.specs.declared.Outcome.the-variants.{Done, Refused}
 use Rattle.refusal.specs.Checks.{refusedUnless, andThen}
 use Rattle.refusal.proofs.Checks.{then-passed, then-refused, then-done, passed-by, refused-by, unless-done}
 use Rattle.refusal.proofs.Checks.{equal-of-test}
+use Rattle.coset.specs.Answers.{basisOutcome}
 use Rattle.fri.specs.Layout.{stepAt}
-use Rattle.fri.specs.Run.{Run, stepsIn, stepIn}
-use Rattle.fri.specs.Checks.{basesOutcome, queriesOutcome}
+use Rattle.fri.specs.Run.{Run, stepIn}
+use Rattle.fri.specs.Checks.{queriesOutcome}
 use Rattle.layout.specs.declared.Parameters.{Parameters}
 use Rattle.layout.specs.Parameters.{stepsBy}
 use Rattle.run_checks.proofs.Lists.{of-lists, lists-then, lists-valid, lists-fit}
@@ -31,7 +32,7 @@ module _ (p : Parameters) (basis queries : List ℕ) (size : ℕ) where
   of-size = refusedUnless (eqb size needed) (WrongLength 8) Done
 
   abbrev after-size : Outcome
-  after-size = andThen (basesOutcome (stepsBy p) basis) (queriesOutcome (p .k) (stepAt (stepsBy p) 0) queries)
+  after-size = andThen (basisOutcome basis) (queriesOutcome (p .k) (stepAt (stepsBy p) 0) queries)
 
   pub size-refused : size ≢ needed → Refused (WrongLength 8) ≡ afterListsOutcome p basis queries size
   size-refused n =
@@ -43,22 +44,22 @@ module _ (p : Parameters) (basis queries : List ℕ) (size : ℕ) where
       then-passed of-size after-size (sym (passed-by (eqb size needed) (WrongLength 8) Done (eq-eqb size needed e)))
 
 module _ (run : Run) (queries : List ℕ) (size : ℕ) where
-  abbrev bases : Outcome
-  bases = basesOutcome (stepsIn run) (run .basis)
+  abbrev of-basis : Outcome
+  of-basis = basisOutcome (run .basis)
 
   abbrev of-queries : Outcome
   of-queries = queriesOutcome (run .k) (stepIn run 0) queries
 
   -- the checks after those of lists 1 to 5
   abbrev pub after-lists : Outcome
-  after-lists = andThen (sizeOutcome run queries size) (andThen bases of-queries)
+  after-lists = andThen (sizeOutcome run queries size) (andThen of-basis of-queries)
 
   -- the formula says how long the transcript is
   pub sized-is : of-lists run ≡ Done
       → afterListsOutcome (record { k = run .k; rate = run .rate; step = run .step }) (run .basis) queries size
       ≡ after-lists
   sized-is done =
-      ap (λ (n : ℕ). andThen (refusedUnless (eqb size n) (WrongLength 8) Done) (andThen bases of-queries))
+      ap (λ (n : ℕ). andThen (refusedUnless (eqb size n) (WrongLength 8) Done) (andThen of-basis of-queries))
       (sym (transcript-size run (lists-valid run done) (lists-fit run done) queries))
 
   -- where all checks pass
@@ -71,4 +72,4 @@ module _ (run : Run) (queries : List ℕ) (size : ℕ) where
         let needed = length (transcriptOf run queries) in
         equal-of-test size needed
         (unless-done (eqb size needed) (WrongLength 8) Done
-        (then-done (sizeOutcome run queries size) (andThen bases of-queries) (passed-lists .1) .0) .0)
+        (then-done (sizeOutcome run queries size) (andThen of-basis of-queries) (passed-lists .1) .0) .0)

@@ -8,9 +8,10 @@ use Rattle.refusal.specs.declared.Cause.the-variants.{WrongLength}
 use Rattle.refusal.specs.declared.Outcome.{Outcome}
 use Rattle.refusal.specs.declared.Outcome.the-variants.{Done}
 use Rattle.refusal.specs.Checks.{refusedUnless, andThen}
+use Rattle.coset.specs.Answers.{basisOutcome}
 use Rattle.fri.specs.Run.{Run}
 use Rattle.fri.specs.Layout.{stepAt}
-use Rattle.fri.specs.Checks.{basesOutcome, queriesOutcome}
+use Rattle.fri.specs.Checks.{queriesOutcome}
 use Rattle.layout.specs.declared.Parameters.{Parameters}
 use Rattle.layout.specs.Parameters.{stepsBy}
 use Rattle.written.specs.Transcript.{transcriptLength}
@@ -26,4 +27,4 @@ abbrev pub afterListsOutcome : (p : Parameters) (basis queries : List ℕ) (size
 afterListsOutcome p basis queries size =
     let needed = transcriptLength (p .k) (p .rate) (stepsBy p) (length queries) in
     andThen (refusedUnless (eqb size needed) (WrongLength 8) Done)
-    (andThen (basesOutcome (stepsBy p) basis) (queriesOutcome (p .k) (stepAt (stepsBy p) 0) queries))
+    (andThen (basisOutcome basis) (queriesOutcome (p .k) (stepAt (stepsBy p) 0) queries))

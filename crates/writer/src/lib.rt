@@ -6,7 +6,6 @@ use refusal::Cause;
 use refusal::Outcome;
 ghost use mathlib.Core.Path.{_≡_};
 ghost use Prim.Native.Nat.{_+_, _*_, _^_, _≤_, _<_};
-ghost use lib.ListN.{length};
 ghost use Rattle.layout.specs.Parameters.{stepsBy, Valid, runOf};
 ghost use Rattle.written.specs.Transcript.{transcriptLength};
 ghost use Rattle.written.specs.Writer.{writeOutcome};
@@ -35,9 +34,8 @@ pub fn transcript_length(parameters: Parameters, queries: usize) -> u64
 
 // The transcript of a run and its queries, section by section, into `bytes`, list 8. Any lists that pass the checks
 // are written, honest or not. Refused, in this order, as by the judge over lists: parameters (4, 5, 6, 7), the lowest
-// of lists 1 to 5 whose length is not the one due, then list 8 (13), a dependent basis (8), a dependent one of a later
-// layer (16), the number of queries (9), a query out of range (10), two queries that share a first-layer coset (17). A
-// refusal leaves every byte.
+// of lists 1 to 5 whose length is not the one due, then list 8 (13), a dependent basis (8), the number of queries (9),
+// a query out of range (10), two queries that share a first-layer coset (17). A refusal leaves every byte.
 pub fn write(
     parameters: Parameters,
     offset: Element,
@@ -108,21 +106,21 @@ fn checked(
     }
 }
 
-// The checks after those of lists 1 to 5: list 8 (13), the bases (8, 16), the queries (9, 10, 17).
+// The checks after those of lists 1 to 5: list 8 (13), the basis (8), the queries (9, 10, 17).
 fn checked_after_lists(
     parameters: Parameters,
     basis: &[u64],
     queries: &[u64],
     size: usize,
 ) -> Outcome
-    requires { ⌜ Valid parameters × (length (now basis) ≡ parameters .k) ⌝ }
+    requires { ⌜ Valid parameters ⌝ }
     ensures { λ r. ⌜ r ≡ afterListsOutcome parameters (now (basis .entry)) (now (queries .entry)) size ⌝ }
 {
     if size != length_due(parameters, queries.len()) {
         return Outcome::Refused(Cause::WrongLength { list: 8 });
     }
-    let bases = run_checks::checked_bases(parameters, basis);
-    match bases {
+    let outcome = independence::checked_basis(basis);
+    match outcome {
         Outcome::Done => query_checks::checked_queries(parameters.k, parameters.step, queries),
         Outcome::Refused(cause) => Outcome::Refused(cause),
     }

@@ -16,9 +16,10 @@ use Rattle.refusal.specs.Checks.{andThen}
 use Rattle.refusal.specs.Numbers.{numberOf, numberOfOutcome}
 use Rattle.refusal.proofs.Checks.{then-done, unless-done, number-then}
 use Rattle.fri.specs.declared.Answer.the-variants as answers
+use Rattle.coset.specs.Answers.{basisOutcome}
 use Rattle.fri.specs.Layout.{stepAt}
 use Rattle.fri.specs.Run.{Run}
-use Rattle.fri.specs.Checks.{parametersOutcome, lengthsOutcome, basesOutcome, runOutcome}
+use Rattle.fri.specs.Checks.{parametersOutcome, lengthsOutcome, runOutcome}
 use Rattle.fri.specs.Checks.{indicesOutcome, queriesOutcome}
 use Rattle.fri.specs.Judge.{checksOutcome}
 use Rattle.transcript.specs.Numerals.{AreBytes}
@@ -44,8 +45,8 @@ module _ (bytes : List ℕ) (passes : checksOutcome (runIn bytes) (queriesIn byt
   abbrev parameters : Outcome
   parameters = parametersOutcome (transcriptK bytes) (transcriptRate bytes) (transcriptStep bytes)
 
-  abbrev bases : Outcome
-  bases = basesOutcome (transcriptSteps bytes) (runIn bytes .basis)
+  abbrev of-basis : Outcome
+  of-basis = basisOutcome (runIn bytes .basis)
 
   abbrev first : ℕ
   first = stepAt (transcriptSteps bytes) 0
@@ -56,12 +57,12 @@ module _ (bytes : List ℕ) (passes : checksOutcome (runIn bytes) (queriesIn byt
   abbrev counted : ℕ → Bool
   counted count = leb 1 count && leb count 256
 
-  each-done : (parameters ≡ Done) × (bases ≡ Done) × (counted (length (queriesIn bytes)) ≡ true) × (indices ≡ Done)
+  each-done : (parameters ≡ Done) × (of-basis ≡ Done) × (counted (length (queriesIn bytes)) ≡ true) × (indices ≡ Done)
   each-done =
       let both = then-done (runOutcome (runIn bytes))
       (queriesOutcome (transcriptK bytes) first (queriesIn bytes)) passes in
-      let ranges = then-done parameters (andThen (lengthsOutcome (runIn bytes)) bases) (both .0) in
-      let lists = then-done (lengthsOutcome (runIn bytes)) bases (ranges .1) in
+      let ranges = then-done parameters (andThen (lengthsOutcome (runIn bytes)) of-basis) (both .0) in
+      let lists = then-done (lengthsOutcome (runIn bytes)) of-basis (ranges .1) in
       let queries = unless-done (counted (length (queriesIn bytes))) QueryCountOutOfRange indices (both .1) in
       (ranges .0, lists .1, queries .0, queries .1)
 
@@ -75,7 +76,8 @@ module _ (bytes : List ℕ) (passes : checksOutcome (runIn bytes) (queriesIn byt
 
   low-number : Low (numberOfOutcome (transcriptOutcome bytes))
   low-number =
-      transcript-number-from Low (λ n h. h) bytes (done-low parameters (each-done .0)) (done-low bases (each-done .1))
+      transcript-number-from Low (λ n h. h) bytes (done-low parameters (each-done .0))
+      (done-low of-basis (each-done .1))
       (number-then Low (sectionOutcome bytes 4 (counted (sectionCount bytes 4)) QueryCountOutOfRange) indices fourth
       (done-low indices (each-done .3)))
 

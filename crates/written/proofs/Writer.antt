@@ -7,8 +7,6 @@ use native.Mathlib.Omega.{arith}
 use lib.Dec.{eqb}
 use lib.ListN.{length}
 use borrow.Author.Tests.{eq-eqb, ne-eqb}
-use Rattle.gf64.specs.Field.{IsElement}
-use Rattle.poly.specs.Polynomial.{All}
 use Rattle.refusal.specs.declared.Cause.{Cause}
 use Rattle.refusal.specs.declared.Cause.the-variants.{WrongLength}
 use Rattle.refusal.specs.declared.Outcome.{Outcome}
@@ -17,13 +15,15 @@ use Rattle.refusal.specs.Checks.{andThen, afterwards}
 use Rattle.refusal.specs.Numbers.{numberOfOutcome}
 use Rattle.refusal.proofs.Checks.{equal-of-test, passed-by, refused-by, unless-done, then-passed, then-done}
 use Rattle.refusal.proofs.Checks.{then-then, number-unless, number-then}
+use Rattle.coset.specs.Answers.{basisOutcome}
+use Rattle.coset.proofs.Independence.{basis-number}
 use Rattle.fri.specs.Run.{Run, stepsIn, stepIn}
-use Rattle.fri.specs.Checks.{parametersOutcome, lengthsOutcome, basesOutcome, queriesOutcome}
+use Rattle.fri.specs.Checks.{parametersOutcome, lengthsOutcome, queriesOutcome}
 use Rattle.fri.specs.Judge.{checksOutcome}
 use Rattle.fri.specs.Demand.{ValidParameters}
 use Rattle.fri.specs.Theorems.{Fit}
 use Rattle.fri.proofs.Checks.{parameters-pass, parameters-valid, lengths-pass, lengths-fit}
-use Rattle.fri.proofs.Checks.{bases-number, run-number, queries-number}
+use Rattle.fri.proofs.Checks.{run-number, queries-number}
 use Rattle.written.specs.Transcript.{transcriptOf, transcriptLength}
 use Rattle.written.specs.Writer.{sizeOutcome, writeOutcome, bytesAfter}
 use Rattle.written.specs.Theorems.{WriterNumber, WriterRefusals}
@@ -49,8 +49,8 @@ module _ (run : Run) (queries : List ℕ) where
   abbrev parameters : Outcome
   parameters = parametersOutcome (run .k) (run .rate) (run .step)
 
-  abbrev bases : Outcome
-  bases = basesOutcome (stepsIn run) (run .basis)
+  abbrev of-basis : Outcome
+  of-basis = basisOutcome (run .basis)
 
   abbrev of-queries : Outcome
   of-queries = queriesOutcome (run .k) (stepIn run 0) queries
@@ -59,14 +59,14 @@ module _ (run : Run) (queries : List ℕ) where
   needed = length (transcriptOf run queries)
 
   abbrev sized : ℕ → Outcome
-  sized size = andThen (sizeOutcome run queries size) (andThen bases of-queries)
+  sized size = andThen (sizeOutcome run queries size) (andThen of-basis of-queries)
 
   as-lists-needed : writeOutcome run queries needed ≡ checksOutcome run queries
   as-lists-needed =
-      ap (λ (o : Outcome). andThen parameters (andThen (lengthsOutcome run) (andThen o (andThen bases of-queries))))
+      ap (λ (o : Outcome). andThen parameters (andThen (lengthsOutcome run) (andThen o (andThen of-basis of-queries))))
       (sym (passed-by (eqb needed needed) (WrongLength 8) Done (eq-eqb needed needed refl)))
-      ∙ ap (andThen parameters) (then-then (lengthsOutcome run) bases of-queries)
-      ∙ then-then parameters (andThen (lengthsOutcome run) bases) of-queries
+      ∙ ap (andThen parameters) (then-then (lengthsOutcome run) of-basis of-queries)
+      ∙ then-then parameters (andThen (lengthsOutcome run) of-basis) of-queries
 
   earlier : (size : ℕ) (cause : Cause) → andThen parameters (lengthsOutcome run) ≡ Refused cause
       → writeOutcome run queries size ≡ Refused cause
@@ -91,7 +91,7 @@ module _ (run : Run) (queries : List ℕ) where
   sized-done size e =
       let ranges = then-done parameters (andThen (lengthsOutcome run) (sized size)) e in
       let lists = then-done (lengthsOutcome run) (sized size) (ranges .1) in
-      let fits = then-done (sizeOutcome run queries size) (andThen bases of-queries) (lists .1) in
+      let fits = then-done (sizeOutcome run queries size) (andThen of-basis of-queries) (lists .1) in
       let valid = parameters-valid (run .k) (run .rate) (run .step) (ranges .0) in
       equal-of-test size needed (unless-done (eqb size needed) (WrongLength 8) Done (fits .0) .0)
       ∙ transcript-size run valid (lengths-fit run (lists .0)) queries
@@ -109,7 +109,7 @@ module _ (run : Run) (queries : List ℕ) where
       sym (then-passed parameters (andThen (lengthsOutcome run) (sized size))
       (parameters-pass (run .k) (run .rate) (run .step) v))
       ∙ sym (then-passed (lengthsOutcome run) (sized size) (lengths-pass run f))
-      ∙ ap (λ (o : Outcome). andThen o (andThen bases of-queries))
+      ∙ ap (λ (o : Outcome). andThen o (andThen of-basis of-queries))
       (sym (refused-by (eqb size needed) (WrongLength 8) Done
       (ne-eqb size needed (λ e. n (e ∙ transcript-size run v f queries)))))
 
@@ -117,14 +117,14 @@ module _ (run : Run) (queries : List ℕ) where
       → bytesAfter run queries held ≡ held
   left held cause e = ap (λ (o : Outcome). afterwards o (transcriptOf run queries) held) e
 
-  numbers : (size : ℕ) → All IsElement (run .basis) → WriterNumber (numberOfOutcome (writeOutcome run queries size))
-  numbers size h =
-      number-before WriterNumber parameters (lengthsOutcome run) bases (sized size)
-      (run-number WriterNumber none (λ n l u. inr (inl (l, omega arith))) thirteen run h)
-      (number-then WriterNumber (sizeOutcome run queries size) (andThen bases of-queries)
+  numbers : (size : ℕ) → WriterNumber (numberOfOutcome (writeOutcome run queries size))
+  numbers size =
+      number-before WriterNumber parameters (lengthsOutcome run) of-basis (sized size)
+      (run-number WriterNumber none (λ n l u. inr (inl (l, omega arith))) thirteen run)
+      (number-then WriterNumber (sizeOutcome run queries size) (andThen of-basis of-queries)
       (number-unless WriterNumber (eqb size needed) (WrongLength 8) Done thirteen none)
-      (number-then WriterNumber bases of-queries
-      (bases-number WriterNumber none (early 8 (omega arith) (omega arith)) run h)
+      (number-then WriterNumber of-basis of-queries
+      (basis-number WriterNumber none (early 8 (omega arith) (omega arith)) (run .basis))
       (queries-number WriterNumber none (early 9 (omega arith) (omega arith)) (early 10 (omega arith) (omega arith))
       (inr (inr (inr refl))) (run .k) (stepIn run 0) queries)))
     where

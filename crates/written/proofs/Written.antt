@@ -106,7 +106,7 @@ module _ (run : Run) (queries : List ℕ) (coset : ValidCoset run) (input : Prov
   passed : runOutcome (honest run) ≡ Done
   passed =
       let counts = honest-run .counts run coset input in
-      run-passes (honest run) (coset .basis-elements) (coset .parameters)
+      run-passes (honest run) (coset .parameters)
       (record {
         basis = coset .basis-count;
         challenges = input .challenges-count;

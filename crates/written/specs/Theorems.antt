@@ -102,15 +102,15 @@ pub record WriterRefusals : Type 0 where
   pub earlier : (run : Run) (queries : List ℕ) (size : ℕ) (cause : Cause)
       → andThen (parametersOutcome (run .k) (run .rate) (run .step)) (lengthsOutcome run) ≡ Refused cause
       → writeOutcome run queries size ≡ Refused cause
-  -- and list 8 before the bases and the queries
+  -- and list 8 before the basis and the queries
   pub list8 : (run : Run) (queries : List ℕ) (size : ℕ) → ValidParameters (run .k) (run .rate) (run .step) → Fit run
       → size ≢ transcriptLength (run .k) (run .rate) (stepsIn run) (length queries)
       → writeOutcome run queries size ≡ Refused (WrongLength 8)
   -- a refusal leaves every byte
   pub left : (run : Run) (queries held : List ℕ) (cause : Cause)
       → writeOutcome run queries (length held) ≡ Refused cause → bytesAfter run queries held ≡ held
-  -- no number is given otherwise, whatever the basis of 64-bit numbers
-  pub numbers : (run : Run) (queries : List ℕ) (size : ℕ) → All IsElement (run .basis)
+  -- no number is given otherwise
+  pub numbers : (run : Run) (queries : List ℕ) (size : ℕ)
       → WriterNumber (numberOfOutcome (writeOutcome run queries size))
 
 -- what list 8 holds where the writer is done

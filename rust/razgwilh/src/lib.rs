@@ -173,7 +173,7 @@ pub struct Fold<'a> {
 }
 
 /// Folds: `values` gets the fold of the word at the challenge, `next_basis` the basis of the
-/// next coset, and that coset's offset is returned. A refusal, number 4, 6, 7, 13, 8 or 16,
+/// next coset, and that coset's offset is returned. A refusal, number 4, 6, 7, 13 or 8,
 /// leaves both lists as they were.
 pub fn fold(given: Fold, values: &mut [u64], next_basis: &mut [u64]) -> Result<u64, Refusal> {
     let done = Answer::of(|answer| raw::fold(given, values, next_basis, answer)).result()?;
@@ -251,7 +251,7 @@ pub fn transcript_length(k: usize, rate: usize, step: usize, queries: usize) -> 
 
 /// Proves: `store` gets layers 1 to r - 1, joined, and `last` the last coefficients. Number 12
 /// has the degree of layer r for its place; the store then has its layers, and `last` is as it
-/// was. Any other refusal, number 4, 5, 6, 7, 13, 8 or 16, leaves both lists as they were.
+/// was. Any other refusal, number 4, 5, 6, 7, 13 or 8, leaves both lists as they were.
 pub fn prove(run: Run, store: &mut [u64], last: &mut [u64]) -> Result<(), Refusal> {
     done(|answer| raw::prove(run, store, last, answer))
 }
@@ -275,14 +275,14 @@ pub struct Accepted {
 }
 
 /// Judges what was sent, the word, the store and the last coefficients, at the queries. A
-/// refusal has number 4, 5, 6, 7, 13, 8, 16, 9, 10, 17 or 11.
+/// refusal has number 4, 5, 6, 7, 13, 8, 9, 10, 17 or 11.
 pub fn judge(run: Run, queries: &[u64], store: &[u64], last: &[u64]) -> Result<Accepted, Refusal> {
     accepted(|answer| raw::judge(run, queries, store, last, answer))
 }
 
 /// Writes the transcript of these lists, honest or not, into `bytes`, which has exactly
 /// [`Run::transcript_length`] bytes for as many queries: what [`judge_transcript`] says of it is
-/// what [`judge`] says of the lists. A refusal, number 4, 5, 6, 7, 13, 8, 16, 9, 10 or 17, leaves
+/// what [`judge`] says of the lists. A refusal, number 4, 5, 6, 7, 13, 8, 9, 10 or 17, leaves
 /// every byte as it was; list 8 of number 13 is `bytes`.
 pub fn write_transcript(
     run: Run,
@@ -294,8 +294,8 @@ pub fn write_transcript(
     done(|answer| raw::write_transcript(run, queries, store, last, bytes, answer))
 }
 
-/// Judges the bytes of a transcript, of any length. A refusal has one of the numbers 1 to 11,
-/// 16 or 17, of which 1 and 2 have the section for their place.
+/// Judges the bytes of a transcript, of any length. A refusal has one of the numbers 1 to 11
+/// or 17, of which 1 and 2 have the section for their place.
 pub fn judge_transcript(bytes: &[u8]) -> Result<Accepted, Refusal> {
     accepted(|answer| raw::judge_transcript(bytes, answer))
 }

@@ -29,7 +29,7 @@ pub struct Answer {
     /// The section (numbers 1, 2), basis place (8), query (10, 11, 17), degree (12) or list
     /// (13), else [`NONE`]; for the layer lookup, where the layer begins.
     pub place: u64,
-    /// The round, with numbers 11 and 16, else [`NONE`].
+    /// The round, with number 11, else [`NONE`].
     pub round: u64,
     /// How many entries a judge read: 0 where none were, and for every other function.
     pub reads: u64,

@@ -42,9 +42,6 @@ pub enum Cause {
     /// The input of the program `judge` has over 65,536 bytes. No call of this crate refuses
     /// so.
     InputTooLong = 14,
-    /// A later layer's basis is dependent; the round whose fold gives that layer is there, from
-    /// 0. It is checked for, and proved never to come about.
-    LaterBasisDependent = 16,
     /// Two queries share a first-layer coset; the place is the first query, from 0, that shares
     /// one with an earlier query.
     CosetShared = 17,
@@ -67,7 +64,6 @@ impl Cause {
         Cause::DegreeTooLarge,
         Cause::WrongLength,
         Cause::InputTooLong,
-        Cause::LaterBasisDependent,
         Cause::CosetShared,
     ];
 
@@ -103,7 +99,6 @@ impl Cause {
                  8 bytes of a transcript"
             }
             Cause::InputTooLong => "the program's input has over 65,536 bytes",
-            Cause::LaterBasisDependent => "a later layer's basis is dependent",
             Cause::CosetShared => "two queries share a first-layer coset",
         }
     }

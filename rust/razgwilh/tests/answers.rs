@@ -41,11 +41,17 @@ fn a_number_without_a_cause_is_not_accepted() {
     let _ = Answer::of(|answer| answer.copy_from_slice(&[18, NONE, NONE, 0, NONE])).result();
 }
 
-/// As from a library before 0.7, of the inverse of zero.
+/// 15 as from a library before 0.7, of the inverse of zero; 16, of a later layer's dependent basis,
+/// never came from any.
 #[test]
-#[should_panic(expected = "number 15")]
-fn a_retired_number_is_not_accepted() {
-    let _ = Answer::of(|answer| answer.copy_from_slice(&[15, NONE, NONE, 0, NONE])).result();
+fn retired_numbers_have_no_cause_and_are_not_accepted() {
+    for number in [15, 16] {
+        assert_eq!(Cause::of(number), None);
+        let told = Answer::of(|answer| answer.copy_from_slice(&[number, NONE, NONE, 0, NONE]));
+        let panic = std::panic::catch_unwind(|| told.result()).expect_err("no answer");
+        let said = panic.downcast_ref::<String>().expect("a message");
+        assert!(said.contains(&format!("number {number}")), "{said}");
+    }
 }
 
 #[test]

@@ -3,15 +3,14 @@ use mathlib.Core.Path.{_≡_, sym, ap, ap₂, _∙_}
 use Prim.Native.Nat.{ℕ, _+_, _≤_, _^_}
 use lib.Seq.{length-take-le}
 use lib.ListN.{replicate}
-use Rattle.transcript.specs.Sections.{transcriptK, transcriptSteps, runIn}
+use Rattle.transcript.specs.Sections.{transcriptK, runIn}
 use Rattle.transcript.specs.Numerals.{entriesAt}
 use Rattle.transcript.specs.Checks.{dueOutcome}
 use Rattle.transcript.proofs.Checks.{due-done}
 use Rattle.transcript.proofs.Numerals.{are-bytes}
 use Rattle.refusal.specs.declared.Outcome.the-variants.{Done}
 use Rattle.refusal.proofs.Checks.{then-passed, then-refused}
-use Rattle.fri.specs.Checks.{basesOutcome}
-use Rattle.layout.specs.Parameters.{stepsBy}
+use Rattle.coset.specs.Answers.{basisOutcome}
 use Rattle.layout.specs.declared.Parameters.{Parameters}
 use Rattle.sections.proofs.Places.{start-near, basis-is}
 use borrow.Author.Needs.{needs}
@@ -75,11 +74,9 @@ slice-aggregate-checked-basis c =
 checked-basis-requires : tie.Need-checked-basis-requires
 checked-basis-requires c κs =
     let start = c .before .before .before .before .before .before in
-    let valid = start .pre .1 .valid in (
-      valid,
-      length-take-le (start .args .parameters .k) (replicate 20 0) (valid .k-most),
-      omega (arith, near (c .before .before .before .before .before)),
-    )
+    let most = start .pre .1 .valid .k-most in
+    let size = length-take-le {A = ℕ} (start .args .parameters .k) (replicate 20 0) most in
+    (omega (arith, size, most), omega (arith, near (c .before .before .before .before .before)))
 
 enum-known-whole : tie.Need-enum-known-whole
 enum-known-whole c = search needs
@@ -89,21 +86,24 @@ returns c =
     let told = c .before .before .before in
     let start = told .before .before .before .before .before in
     let bytes = start .args .bytes .now in
-    let read = start .pre .1 .read in
+    let k = start .args .parameters .k in
     let at = ap (λ (n : ℕ). n + 12) (start .pre .0) in
+    let size =
+    length-take-le {A = ℕ} k (replicate 20 0) (start .pre .1 .valid .k-most)
+    ∙ ap (λ (p : Parameters). p .k) (start .pre .1 .read)
+    in
     let count = due-done bytes 2 (transcriptK bytes + 1) (passed told) .0 in
     c .before .checked-basis .ensures
-    ∙ ap₂ basesOutcome (ap stepsBy read)
-    (ap₂ (entriesAt bytes) at (ap (λ (p : Parameters). p .k) read) ∙ basis-is bytes (transcriptK bytes) count)
+    ∙ ap basisOutcome (ap₂ (entriesAt bytes) at size ∙ basis-is bytes (transcriptK bytes) count)
     ∙ then-passed (dueOutcome bytes 2 (transcriptK bytes + 1))
-    (basesOutcome (transcriptSteps bytes) (runIn bytes .basis)) (passed told)
+    (basisOutcome (runIn bytes .basis)) (passed told)
 
 returns-2 : tie.Need-returns-2
 returns-2 c =
     let whole = c .before in
     let bytes = whole .before .before .before .before .before .args .bytes .now in
     then-refused (dueOutcome bytes 2 (transcriptK bytes + 1))
-    (basesOutcome (transcriptSteps bytes) (runIn bytes .basis)) (whole .whole .given .0 .0)
+    (basisOutcome (runIn bytes .basis)) (whole .whole .given .0 .0)
     (sym (due (whole .before .before)) ∙ whole .whole .given .1)
 
 pub checked-coset-spec : {M : Type 1} → statement M

@@ -5,10 +5,10 @@ use Rattle.refusal.specs.declared.Outcome.{Outcome}
 use Rattle.refusal.specs.declared.Outcome.the-variants.{Done}
 use Rattle.refusal.specs.Checks.{andThen}
 use Rattle.refusal.proofs.Checks.{then-passed, then-refused}
-use Rattle.fold.specs.Answers.{foldRangesOutcome, foldLengthsOutcome, foldBasesOutcome}
-use Rattle.fold.proofs.Checks.{in-range, fitting}
+use Rattle.coset.specs.Answers.{basisOutcome}
+use Rattle.fold.specs.Answers.{foldRangesOutcome, foldLengthsOutcome}
+use Rattle.fold.proofs.Checks.{in-range}
 use borrow.Author.Needs.{needs}
-use native.Mathlib.Omega.{arith}
 use Rattle.lone_fold.proofs.checked.Statement.{statement}
 use Rattle.lone_fold.proofs.checked.Tie as tie
 
@@ -16,7 +16,7 @@ use Rattle.lone_fold.proofs.checked.Tie as tie
 abbrev start-of : tie.After-checked-ranges → tie.Start
 start-of c = c .before .before
 
--- what the checks of ranges, lengths and bases give
+-- what the checks of ranges, lengths and basis give
 abbrev ranges-of : tie.After-checked-ranges → Outcome
 ranges-of c = let a = start-of c .args in foldRangesOutcome (a .k) (a .step)
 
@@ -25,8 +25,8 @@ lengths-of c =
     let a = start-of c .args in
     foldLengthsOutcome (a .k) (a .step) (length (a .basis .now)) (a .length3) (a .length6) (a .length7)
 
-abbrev bases-of : tie.After-checked-ranges → Outcome
-bases-of c = let a = start-of c .args in foldBasesOutcome (a .step) (a .basis .now)
+abbrev basis-of : tie.After-checked-ranges → Outcome
+basis-of c = basisOutcome (start-of c .args .basis .now)
 
 -- k and the step are in range
 abbrev RangesPass : tie.After-enum-told → Type 0
@@ -63,18 +63,8 @@ checked-lengths-requires c κs =
 enum-told-2 : tie.Need-enum-told-2
 enum-told-2 c = search needs
 
-checked-bases-requires : tie.Need-checked-bases-requires
-checked-bases-requires c κs =
-    let told = c .before .before .before in
-    let a = start-of (told .before .before) .args in
-    let ranges = in-range (a .k) (a .step) (ranges-pass told) in
-    let lengths =
-    fitting (a .k) (a .step) (length (a .basis .now)) (a .length3) (a .length6) (a .length7) (lengths-pass c)
-    in (
-      ranges .step-at-most-3,
-      omega (arith, ranges .step-fits, lengths .list1-fits),
-      omega (arith, ranges .at-most-20, lengths .list1-fits),
-    )
+checked-basis-requires : tie.Need-checked-basis-requires
+checked-basis-requires c κs = search needs
 
 enum-known-lengths : tie.Need-enum-known-lengths
 enum-known-lengths c = search needs
@@ -86,24 +76,24 @@ returns : tie.Need-returns
 returns c =
     let told = c .before .before .before .before in
     let first = told .before .before in
-    c .checked-bases .ensures
-    ∙ then-passed (lengths-of first) (bases-of first) (lengths-pass (c .before))
-    ∙ then-passed (ranges-of first) (andThen (lengths-of first) (bases-of first)) (ranges-pass told)
+    c .checked-basis .ensures
+    ∙ then-passed (lengths-of first) (basis-of first) (lengths-pass (c .before))
+    ∙ then-passed (ranges-of first) (andThen (lengths-of first) (basis-of first)) (ranges-pass told)
 
 returns-2 : tie.Need-returns-2
 returns-2 c =
     let told = c .before .before .before .before in
     let first = told .before .before in
     let refused = c .before .lengths .given in
-    then-refused (lengths-of first) (bases-of first) (refused .0 .0)
+    then-refused (lengths-of first) (basis-of first) (refused .0 .0)
     (sym (c .before .before .before .checked-lengths .ensures) ∙ refused .1)
-    ∙ then-passed (ranges-of first) (andThen (lengths-of first) (bases-of first)) (ranges-pass told)
+    ∙ then-passed (ranges-of first) (andThen (lengths-of first) (basis-of first)) (ranges-pass told)
 
 returns-3 : tie.Need-returns-3
 returns-3 c =
     let first = c .before .before .before in
     let refused = c .before .ranges .given in
-    then-refused (ranges-of first) (andThen (lengths-of first) (bases-of first)) (refused .0 .0)
+    then-refused (ranges-of first) (andThen (lengths-of first) (basis-of first)) (refused .0 .0)
     (sym (first .checked-ranges .ensures) ∙ refused .1)
 
 pub checked-spec : {M : Type 1} → statement M
@@ -114,7 +104,7 @@ checked-spec =
     enum-told
     checked-lengths-requires
     enum-told-2
-    checked-bases-requires
+    checked-basis-requires
     enum-known-lengths
     enum-known-ranges
     returns

@@ -1,8 +1,8 @@
 -- `run_checks::checked` meets its contract. Assumes nothing.
-use Rattle.run_checks.proofs.Lists.{of-lists, lists-then, lists-valid, lists-fit}
+use Rattle.run_checks.proofs.Lists.{of-lists, lists-then}
 use Rattle.layout.specs.Parameters.{runOf}
-use Rattle.fri.specs.Run.{Run, stepsIn}
-use Rattle.fri.specs.Checks.{basesOutcome}
+use Rattle.fri.specs.Run.{Run}
+use Rattle.coset.specs.Answers.{basisOutcome}
 use Rattle.refusal.proofs.Checks.{then-passed, then-refused}
 use Rattle.refusal.specs.declared.Outcome.{Outcome}
 use Rattle.refusal.specs.declared.Outcome.the-variants.{Done}
@@ -18,9 +18,9 @@ run-at c =
     runOf (a .parameters) (a .offset .0) (a .basis .now) (a .challenges .now) (a .word .now) (a .store .now)
     (a .last .now)
 
--- what the checks of bases give
-abbrev bases-of : tie.After-checked-lists → Outcome
-bases-of c = let run = run-at c in basesOutcome (stepsIn run) (run .basis)
+-- what the check of its basis gives
+abbrev basis-of : tie.After-checked-lists → Outcome
+basis-of c = basisOutcome (run-at c .basis)
 
 -- the checks of parameters and lists passed
 abbrev Passed : tie.After-enum-told → Type 0
@@ -38,10 +38,8 @@ checked-lists-requires c κs = search needs
 enum-told : tie.Need-enum-told
 enum-told c = search needs
 
-checked-bases-requires : tie.Need-checked-bases-requires
-checked-bases-requires c κs =
-    let run = run-at (c .before .before) in
-    (lists-valid run (passed c), lists-fit run (passed c) .basis)
+checked-basis-requires : tie.Need-checked-basis-requires
+checked-basis-requires c κs = search needs
 
 enum-known-lists : tie.Need-enum-known-lists
 enum-known-lists c = search needs
@@ -50,18 +48,18 @@ returns : tie.Need-returns
 returns c =
     let first = c .before .before .before in
     let run = run-at first in
-    c .checked-bases .ensures ∙ then-passed (of-lists run) (bases-of first) (passed (c .before))
-    ∙ lists-then run (bases-of first)
+    c .checked-basis .ensures ∙ then-passed (of-lists run) (basis-of first) (passed (c .before))
+    ∙ lists-then run (basis-of first)
 
 returns-2 : tie.Need-returns-2
 returns-2 c =
     let first = c .before .before .before in
     let run = run-at first in
     let refused = c .before .lists .given in
-    then-refused (of-lists run) (bases-of first) (refused .0 .0) (sym (first .checked-lists .ensures) ∙ refused .1)
-    ∙ lists-then run (bases-of first)
+    then-refused (of-lists run) (basis-of first) (refused .0 .0) (sym (first .checked-lists .ensures) ∙ refused .1)
+    ∙ lists-then run (basis-of first)
 
 pub checked-spec : {M : Type 1} → statement M
 checked-spec =
     tie.close
-    (tie.spec checked-lists-requires enum-told checked-bases-requires enum-known-lists returns returns-2)
+    (tie.spec checked-lists-requires enum-told checked-basis-requires enum-known-lists returns returns-2)

@@ -6,7 +6,7 @@ use Rattle.refusal.specs.declared.Outcome.the-variants.{Done}
 use Rattle.refusal.proofs.Checks.{then-passed, then-refused}
 use Rattle.fri.specs.Run.{Run}
 use Rattle.layout.specs.Parameters.{runOf}
-use Rattle.run_checks.proofs.Lists.{of-lists, lists-then, lists-valid, lists-fit}
+use Rattle.run_checks.proofs.Lists.{of-lists, lists-then, lists-valid}
 use Rattle.writer.proofs.Checks.{after-lists, sized-is}
 use Rattle.writer.proofs.checked.Statement.{statement}
 use Rattle.writer.proofs.checked.Tie as tie
@@ -43,9 +43,7 @@ enum-told : tie.Need-enum-told
 enum-told c = search needs
 
 checked-after-lists-requires : tie.Need-checked-after-lists-requires
-checked-after-lists-requires c κs =
-    let run = run-at (c .before .before) in
-    (lists-valid run (passed c), lists-fit run (passed c) .basis)
+checked-after-lists-requires c κs = lists-valid (run-at (c .before .before)) (passed c)
 
 enum-known-lists : tie.Need-enum-known-lists
 enum-known-lists c = search needs

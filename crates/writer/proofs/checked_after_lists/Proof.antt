@@ -6,8 +6,9 @@ use borrow.Author.Needs.{needs}
 use Rattle.refusal.specs.declared.Outcome.{Outcome}
 use Rattle.refusal.specs.declared.Outcome.the-variants.{Done}
 use Rattle.refusal.proofs.Checks.{then-passed, then-refused}
+use Rattle.coset.specs.Answers.{basisOutcome}
 use Rattle.fri.specs.Layout.{stepAt}
-use Rattle.fri.specs.Checks.{basesOutcome, queriesOutcome}
+use Rattle.fri.specs.Checks.{queriesOutcome}
 use Rattle.fri.proofs.Layouts.{first-step}
 use Rattle.layout.specs.Parameters.{stepsBy}
 use Rattle.writer.proofs.Checks.{size-refused, size-passed}
@@ -18,9 +19,9 @@ use Rattle.writer.proofs.checked_after_lists.Tie as tie
 abbrev start-of : tie.After-length-due → tie.Start
 start-of c = c .before .before .before
 
--- what is said of the bases and of the queries
-abbrev bases : tie.After-length-due → Outcome
-bases c = let a = start-of c .args in basesOutcome (stepsBy (a .parameters)) (a .basis .now)
+-- what is said of the basis and of the queries
+abbrev of-basis : tie.After-length-due → Outcome
+of-basis c = basisOutcome (start-of c .args .basis .now)
 
 abbrev of-queries : tie.After-length-due → Outcome
 of-queries c =
@@ -36,8 +37,8 @@ returns c =
     size-refused (a .parameters) (a .basis .now) (a .queries .now) (a .size)
     (λ e. omega (arith, c .before .length-due .ensures))
 
-checked-bases-requires : tie.Need-checked-bases-requires
-checked-bases-requires c κs = search needs
+checked-basis-requires : tie.Need-checked-basis-requires
+checked-basis-requires c κs = search needs
 
 enum-told : tie.Need-enum-told
 enum-told c = search needs
@@ -45,8 +46,8 @@ enum-told c = search needs
 checked-queries-requires : tie.Need-checked-queries-requires
 checked-queries-requires c κs = search needs
 
-enum-known-bases : tie.Need-enum-known-bases
-enum-known-bases c = search needs
+enum-known-outcome : tie.Need-enum-known-outcome
+enum-known-outcome c = search needs
 
 returns-2 : tie.Need-returns-2
 returns-2 c =
@@ -54,12 +55,12 @@ returns-2 c =
     let sized = based .before .before in
     let a = start-of sized .args in
     let p = a .parameters in
-    let v = start-of sized .pre .0 in
-    let done : based .checked-bases .result ≡ Done = search needs in
+    let v = start-of sized .pre in
+    let done : based .checked-basis .result ≡ Done = search needs in
     c .checked-queries .ensures
     ∙ ap (λ (n : ℕ). queriesOutcome (p .k) n (a .queries .now))
     (sym (first-step (p .k) (p .rate) (p .step) (v .step-least) (v .k-enough)))
-    ∙ then-passed (bases sized) (of-queries sized) (sym (based .checked-bases .ensures) ∙ done)
+    ∙ then-passed (of-basis sized) (of-queries sized) (sym (based .checked-basis .ensures) ∙ done)
     ∙ size-passed p (a .basis .now) (a .queries .now) (a .size) (omega (arith, sized .length-due .ensures))
 
 returns-3 : tie.Need-returns-3
@@ -67,8 +68,8 @@ returns-3 c =
     let based = c .before .before .before in
     let sized = based .before .before in
     let a = start-of sized .args in
-    let refused = c .before .bases .given in
-    then-refused (bases sized) (of-queries sized) (refused .0 .0) (sym (based .checked-bases .ensures) ∙ refused .1)
+    let refused = c .before .outcome .given in
+    then-refused (of-basis sized) (of-queries sized) (refused .0 .0) (sym (based .checked-basis .ensures) ∙ refused .1)
     ∙ size-passed (a .parameters) (a .basis .now) (a .queries .now) (a .size)
     (omega (arith, sized .length-due .ensures))
 
@@ -78,9 +79,9 @@ checked-after-lists-spec =
     (tie.spec
     length-due-requires
     returns
-    checked-bases-requires
+    checked-basis-requires
     enum-told
     checked-queries-requires
-    enum-known-bases
+    enum-known-outcome
     returns-2
     returns-3)

@@ -48,9 +48,6 @@ enum-known-self-7 c = search needs
 enum-told-7 : tie.Need-enum-told-7
 enum-told-7 c = search needs
 
-enum-told-8 : tie.Need-enum-told-8
-enum-told-8 c = search needs
-
 enum-known-self-8 : tie.Need-enum-known-self-8
 enum-known-self-8 c = search needs
 
@@ -97,10 +94,7 @@ returns-14 : tie.Need-returns-14
 returns-14 c = search needs
 
 returns-15 : tie.Need-returns-15
-returns-15 c = search needs
-
-returns-16 : tie.Need-returns-16
-returns-16 c = ap placeOf (sym (c .before .self8 .given .1))
+returns-15 c = ap placeOf (sym (c .before .self8 .given .1))
 
 pub place-spec : {M : Type 1} → statement M
 place-spec =
@@ -120,7 +114,6 @@ place-spec =
     enum-known-self-6
     enum-known-self-7
     enum-told-7
-    enum-told-8
     enum-known-self-8
     returns
     returns-2
@@ -136,5 +129,4 @@ place-spec =
     returns-12
     returns-13
     returns-14
-    returns-15
-    returns-16)
+    returns-15)

@@ -48,9 +48,6 @@ enum-told-12 c = search needs
 enum-told-13 : tie.Need-enum-told-13
 enum-told-13 c = search needs
 
-enum-known-self-2 : tie.Need-enum-known-self-2
-enum-known-self-2 c = search needs
-
 enum-told-14 : tie.Need-enum-told-14
 enum-told-14 c = search needs
 
@@ -97,10 +94,7 @@ returns-14 : tie.Need-returns-14
 returns-14 c = search needs
 
 returns-15 : tie.Need-returns-15
-returns-15 c = ap roundOf (sym (c .before .self2 .given .1))
-
-returns-16 : tie.Need-returns-16
-returns-16 c = search needs
+returns-15 c = search needs
 
 pub round-spec : {M : Type 1} → statement M
 round-spec =
@@ -120,7 +114,6 @@ round-spec =
     enum-told-11
     enum-told-12
     enum-told-13
-    enum-known-self-2
     enum-told-14
     returns
     returns-2
@@ -136,5 +129,4 @@ round-spec =
     returns-12
     returns-13
     returns-14
-    returns-15
-    returns-16)
+    returns-15)
