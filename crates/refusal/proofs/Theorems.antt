@@ -1,9 +1,11 @@
 -- The statements of specs/Theorems.antt, proved, by cases. Assumes nothing.
 use mathlib.Core.Path.{_≡_, refl}
-use mathlib.Core.Logic.{_≢_, _⊎_, inl, inr}
+use mathlib.Core.Logic.{_≢_, _⊎_, inl, inr, ⊎-elim}
 use Prim.Native.Nat.{ℕ, _≤_}
 use native.Mathlib.Omega.{arith}
+use denote.Enum.Declared.{tagOf}
 use Rattle.refusal.specs.declared.Cause.{Cause}
+use Rattle.refusal.proofs.Cause.{the-type}
 use Rattle.refusal.specs.declared.Cause.the-variants.{BytesEnd, CountDiffers, TrailingBytes, DimensionOutOfRange}
 use Rattle.refusal.specs.declared.Cause.the-variants.{RateOutOfRange, StepOutOfRange, DimensionTooSmall}
 use Rattle.refusal.specs.declared.Cause.the-variants.{BasisDependent, QueryCountOutOfRange, QueryOutOfRange}
@@ -49,22 +51,29 @@ retired-numbers =
       sixteen = λ cause. sixteen-not-given (numberOf cause) (given cause);
     }
 
+-- a failed round check, by its number and by its position among the constructors, or a cause without a round
+pub round-or-none : (cause : Cause)
+    → ((numberOf cause ≡ 11) × (tagOf the-type cause ≡ 10)) ⊎ (roundOf cause ≡ Absent)
+round-or-none (BytesEnd section) = inr refl
+round-or-none (CountDiffers section) = inr refl
+round-or-none TrailingBytes = inr refl
+round-or-none DimensionOutOfRange = inr refl
+round-or-none RateOutOfRange = inr refl
+round-or-none StepOutOfRange = inr refl
+round-or-none DimensionTooSmall = inr refl
+round-or-none (BasisDependent place) = inr refl
+round-or-none QueryCountOutOfRange = inr refl
+round-or-none (QueryOutOfRange query) = inr refl
+round-or-none (RoundCheckFails query round) = inl (refl, refl)
+round-or-none (DegreeTooLarge degree) = inr refl
+round-or-none (WrongLength list) = inr refl
+round-or-none InputTooLong = inr refl
+round-or-none (CosetShared query) = inr refl
+
 no-round : (cause : Cause) → numberOf cause ≢ 11 → roundOf cause ≡ Absent
-no-round (BytesEnd section) n = refl
-no-round (CountDiffers section) n = refl
-no-round TrailingBytes n = refl
-no-round DimensionOutOfRange n = refl
-no-round RateOutOfRange n = refl
-no-round StepOutOfRange n = refl
-no-round DimensionTooSmall n = refl
-no-round (BasisDependent place) n = refl
-no-round QueryCountOutOfRange n = refl
-no-round (QueryOutOfRange query) n = refl
-no-round (RoundCheckFails query round) n = absurd (n refl)
-no-round (DegreeTooLarge degree) n = refl
-no-round (WrongLength list) n = refl
-no-round InputTooLong n = refl
-no-round (CosetShared query) n = refl
+no-round cause n =
+    ⊎-elim (λ (t : (numberOf cause ≡ 11) × (tagOf the-type cause ≡ 10)). absurd (n (t .0)))
+    (λ (none : roundOf cause ≡ Absent). none) (round-or-none cause)
 
 pub round-numbers : RoundNumbers
 round-numbers = record { eleven = λ query round. refl; eleven-alone = no-round }

@@ -99,22 +99,9 @@ impl Cause {
     pub fn round(self) -> Position
         ensures { λ r. ⌜ r ≡ roundOf self ⌝ }
     {
-        match self {
-            Cause::BytesEnd { section: _ } => Position::Absent,
-            Cause::CountDiffers { section: _ } => Position::Absent,
-            Cause::TrailingBytes => Position::Absent,
-            Cause::DimensionOutOfRange => Position::Absent,
-            Cause::RateOutOfRange => Position::Absent,
-            Cause::StepOutOfRange => Position::Absent,
-            Cause::DimensionTooSmall => Position::Absent,
-            Cause::BasisDependent { place: _ } => Position::Absent,
-            Cause::QueryCountOutOfRange => Position::Absent,
-            Cause::QueryOutOfRange { query: _ } => Position::Absent,
-            Cause::RoundCheckFails { query: _, round } => Position::At(round),
-            Cause::DegreeTooLarge { degree: _ } => Position::Absent,
-            Cause::WrongLength { list: _ } => Position::Absent,
-            Cause::InputTooLong => Position::Absent,
-            Cause::CosetShared { query: _ } => Position::Absent,
+        if let Cause::RoundCheckFails { query: _, round } = self {
+            return Position::At(round);
         }
+        Position::Absent
     }
 }
