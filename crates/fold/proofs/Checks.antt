@@ -124,7 +124,7 @@ pub record Fitting (k step length1 length3 length6 length7 : ℕ) : Type 0 where
   pub list6-fits : length6 ≡ 2 ^ (k - step)
   pub list7-fits : length7 ≡ k - step
 
-pub fitting : (k step length1 length3 length6 length7 : ℕ)
+fitting : (k step length1 length3 length6 length7 : ℕ)
     → foldLengthsOutcome k step length1 length3 length6 length7 ≡ Done → Fitting k step length1 length3 length6 length7
 fitting k step length1 length3 length6 length7 e =
     let first = unless-done (eqb length1 k) (WrongLength 1) (after1 k step length1 length3 length6 length7) e in

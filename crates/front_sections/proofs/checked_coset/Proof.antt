@@ -2,7 +2,7 @@
 use mathlib.Core.Path.{_≡_, sym, ap, ap₂, _∙_}
 use Prim.Native.Nat.{ℕ, _+_, _≤_, _^_}
 use lib.Seq.{length-take-le}
-use lib.ListN.{replicate}
+use lib.ListN.{length, take, replicate}
 use Rattle.transcript.specs.Sections.{transcriptK, runIn}
 use Rattle.transcript.specs.Numerals.{entriesAt}
 use Rattle.transcript.specs.Checks.{dueOutcome}
@@ -27,6 +27,13 @@ near c =
     let a = c .before .args in
     let known = are-bytes (a .bytes .now) (λ i. omega (arith, c .shared-slice-known .given i)) in
     start-near (a .bytes .now) known 2 (a .at) (omega arith) (c .before .pre .0)
+
+-- the room for the basis has as many entries as k says
+abbrev Sized : tie.Start → Type 0
+Sized c = let k = c .args .parameters .k in length (take {A = ℕ} k (replicate 20 0)) ≡ k
+
+sized : (c : tie.Start) → Sized c
+sized c = length-take-le (c .args .parameters .k) (replicate 20 0) (c .pre .1 .valid .k-most)
 
 -- what is said of its count and its bytes
 abbrev Due : tie.After-checked-due → Type 0
@@ -67,16 +74,14 @@ array-borrow-prefix-room : tie.Need-array-borrow-prefix-room
 array-borrow-prefix-room c = c .before .before .before .before .before .pre .1 .valid .k-most
 
 slice-aggregate-checked-basis : tie.Need-slice-aggregate-checked-basis
-slice-aggregate-checked-basis c =
-    let start = c .before .before .before .before .before .before in
-    sym (length-take-le (start .args .parameters .k) (replicate 20 0) (start .pre .1 .valid .k-most))
+slice-aggregate-checked-basis c = sym (sized (c .before .before .before .before .before .before))
 
 checked-basis-requires : tie.Need-checked-basis-requires
 checked-basis-requires c κs =
-    let start = c .before .before .before .before .before .before in
-    let most = start .pre .1 .valid .k-most in
-    let size = length-take-le {A = ℕ} (start .args .parameters .k) (replicate 20 0) most in
-    (omega (arith, size, most), omega (arith, near (c .before .before .before .before .before)))
+    let start = c .before .before .before .before .before .before in (
+      omega (arith, sized start, start .pre .1 .valid .k-most),
+      omega (arith, near (c .before .before .before .before .before)),
+    )
 
 enum-known-whole : tie.Need-enum-known-whole
 enum-known-whole c = search needs
@@ -86,12 +91,8 @@ returns c =
     let told = c .before .before .before in
     let start = told .before .before .before .before .before in
     let bytes = start .args .bytes .now in
-    let k = start .args .parameters .k in
     let at = ap (λ (n : ℕ). n + 12) (start .pre .0) in
-    let size =
-    length-take-le {A = ℕ} k (replicate 20 0) (start .pre .1 .valid .k-most)
-    ∙ ap (λ (p : Parameters). p .k) (start .pre .1 .read)
-    in
+    let size = sized start ∙ ap (λ (p : Parameters). p .k) (start .pre .1 .read) in
     let count = due-done bytes 2 (transcriptK bytes + 1) (passed told) .0 in
     c .before .checked-basis .ensures
     ∙ ap basisOutcome (ap₂ (entriesAt bytes) at size ∙ basis-is bytes (transcriptK bytes) count)
