@@ -1,11 +1,12 @@
-//! Links the proved library: from the folder that RAZGWILH_LIB_DIR names, else the one that `rt
-//! staticlib capi` wrote in the repository.
+//! Links the proved library: from the folder that RAZGWILH_LIB_DIR names, else the one that
+//! `./library` made in the repository.
 
 use std::env;
 use std::path::{Path, PathBuf};
 use std::process;
 
 const PLACE: &str = "RAZGWILH_LIB_DIR";
+const ARCHIVE: &str = "librazgwilh.a";
 
 fn main() {
     println!("cargo:rerun-if-env-changed={PLACE}");
@@ -13,41 +14,34 @@ fn main() {
         Some(folder) => installed(Path::new(&folder)),
         None => built(),
     };
-    let (folder, name) = found.unwrap_or_else(|missing| {
+    let folder = found.unwrap_or_else(|missing| {
         eprintln!("razgwilh: {missing}");
         process::exit(1);
     });
-    println!("cargo:rerun-if-changed={}", archive(&folder, name).display());
+    println!("cargo:rerun-if-changed={}", folder.join(ARCHIVE).display());
     println!("cargo:rustc-link-search=native={}", folder.display());
-    println!("cargo:rustc-link-lib=static={name}");
+    println!("cargo:rustc-link-lib=static=razgwilh");
 }
 
-/// The library in `folder`: by the name that it is installed under, else by the one it is built
-/// under.
-fn installed(folder: &Path) -> Result<(PathBuf, &'static str), String> {
+fn installed(folder: &Path) -> Result<PathBuf, String> {
     if !folder.is_absolute() {
         // Cargo and the linker would look from different folders.
         return Err(format!("{PLACE} is not an absolute path: {}", folder.display()));
     }
-    ["razgwilh", "capi"]
-        .into_iter()
-        .find(|name| archive(folder, name).is_file())
-        .map(|name| (folder.to_path_buf(), name))
-        .ok_or(format!("{PLACE} has no librazgwilh.a and no libcapi.a: {}", folder.display()))
+    if !folder.join(ARCHIVE).is_file() {
+        return Err(format!("{PLACE} has no {ARCHIVE}: {}", folder.display()));
+    }
+    Ok(folder.to_path_buf())
 }
 
-fn built() -> Result<(PathBuf, &'static str), String> {
+fn built() -> Result<PathBuf, String> {
     let package = PathBuf::from(env::var_os("CARGO_MANIFEST_DIR").expect("cargo sets it"));
     let folder = package.join("../../target/staticlib");
-    if !archive(&folder, "capi").is_file() {
+    if !folder.join(ARCHIVE).is_file() {
         return Err(format!(
-            "target/staticlib/libcapi.a is missing: run `rt staticlib capi` at the root of the \
-             repository, or set {PLACE} to the folder of an installed librazgwilh.a"
+            "target/staticlib/{ARCHIVE} is missing: run `./library` at the root of the \
+             repository, or set {PLACE} to the folder of an installed one"
         ));
     }
-    Ok((folder, "capi"))
-}
-
-fn archive(folder: &Path, name: &str) -> PathBuf {
-    folder.join(format!("lib{name}.a"))
+    Ok(folder)
 }

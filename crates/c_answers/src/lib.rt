@@ -36,6 +36,9 @@ fn or_none(p: Position) -> u64
 }
 
 impl Answer {
+    // How many numbers an answer has, and with that the list that it is written into.
+    pub const LENGTH: usize = 5;
+
     pub fn of_value(reads: u64, value: u64) -> Answer
         ensures { λ r. ⌜ r ≡ answerOfValue reads value ⌝ }
     {

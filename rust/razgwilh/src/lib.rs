@@ -22,8 +22,8 @@
 //! number that no cause has, as from a library of another version, is a panic that names it.
 //!
 //! The library is linked statically. While this crate is built, `RAZGWILH_LIB_DIR` may name, by
-//! an absolute path, a folder with `librazgwilh.a` as installed, or `libcapi.a` as built;
-//! without it, `rt staticlib capi` has to have built the repository's.
+//! an absolute path, a folder with `librazgwilh.a`; without it, `./library` has to have made the
+//! repository's.
 //!
 //! # Example
 //!
