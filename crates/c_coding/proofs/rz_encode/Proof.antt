@@ -1,4 +1,5 @@
--- `c_coding::rz_encode` meets its contract: where the answer's list has another length nothing is done. Assumes nothing.
+-- `c_coding::rz_encode` meets its contract: where the answer's list has another length nothing is done. Assumes
+-- nothing.
 use Rattle.c_answers.specs.declared.Answer.{Answer}
 use mathlib.Core.List.{List}
 use Prim.Native.Nat.{ℕ}

@@ -1,5 +1,5 @@
--- `c_transcript::rz_write_transcript` meets its contract: where the answer's list has another length nothing is done. Assumes
--- nothing.
+-- `c_transcript::rz_write_transcript` meets its contract: where the answer's list has another length nothing is done.
+-- Assumes nothing.
 use mathlib.Core.Path.{ap, _∙_}
 use mathlib.Core.List.{List}
 use Prim.Native.Nat.{ℕ}
