@@ -24,9 +24,9 @@
 #include <stddef.h>
 #include <stdint.h>
 
-#define RZ_VERSION "0.8.0"
+#define RZ_VERSION "0.9.0"
 #define RZ_VERSION_MAJOR 0
-#define RZ_VERSION_MINOR 8
+#define RZ_VERSION_MINOR 9
 #define RZ_VERSION_PATCH 0
 
 #ifdef __cplusplus
@@ -121,8 +121,8 @@ enum rz_number {
     /* a lent list has the wrong length: 1 basis, 2 challenges, 3 word or encoder coefficients,
      * 4 store, 5 last coefficients, 6 output values, 7 next basis, 8 bytes of a transcript */
     RZ_WRONG_LENGTH = 13,
-    /* the program's input has over 65,536 bytes; the program `judge` alone gives it, and no
-     * function of this header */
+    /* the program's input has over 65,536 bytes; the program `judge` alone gives it, where
+     * sections 1 to 4 pass, and no function of this header */
     RZ_INPUT_TOO_LONG = 14,
     /* two queries share a first-layer coset */
     RZ_COSET_SHARED = 17

@@ -1,1 +1,2 @@
 mod LaterBases
+mod LongInputs

@@ -108,7 +108,7 @@ pub record RemovedCheck : Type 0 where
       → outcomeOfLaterBasis cause (firstDependent (nextBasis step basis)) ≡ Done
 
 -- so that everything else answers as it did, and leaves in lent lists what it left; sheets and the programs' answers
--- are made of `transcriptVerdict` by their definitions
+-- were made of `transcriptVerdict` by their definitions (of `judge` see LongInputs)
 pub record AnswersAsBefore : Type 0 where
   pub fold : (cause : (round : ℕ) → Cause) (k step offset : ℕ) (basis word : List ℕ) (x : ℕ) (values next : List ℕ)
       → All IsElement basis

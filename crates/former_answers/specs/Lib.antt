@@ -1,1 +1,2 @@
 pub mod LaterBases
+pub mod LongInputs

@@ -1,28 +1,36 @@
 -- What is printed, by how reading ended. Assumes nothing.
-use mathlib.Core.Path.{_≡_, refl, sym, ap, subst}
+use mathlib.Core.Path.{_≡_, refl, sym, ap, subst, _∙_}
 use mathlib.Core.Logic.{⊎-elim}
 use mathlib.Core.List.{List, [], _∷_}
 use Prim.Native.Nat.{ℕ, _≤_}
 use native.Mathlib.Omega.{arith}
-use lib.ListN.{take}
+use lib.ListN.{length, take, length-take}
+use lib.Seq.{take-all}
 use types.Run.{OneOf}
 use denote.Enum.Declared.{tagOf}
 use Rattle.input.specs.declared.Reading.{Reading}
 use Rattle.input.specs.declared.Reading.the-variants.{More, Done, Failed}
-use Rattle.input.specs.Reading.{Over, printedOf}
+use Rattle.input.specs.Reading.{Over, Prints, PrintsOfRead}
 use Rattle.input.proofs.Reading.{the-type}
 
 -- nothing, where the variant is not the second
-pub printed-nothing : (text : List ℕ → List ℕ) (reading : Reading) (input : List ℕ)
-    → OneOf (0 ∷ 2 ∷ []) (tagOf the-type reading) → [] ≡ printedOf text reading input
-printed-nothing text (More count) input keys = refl
-printed-nothing text (Done count) input keys = absurd (⊎-elim (λ e. omega arith) (λ e. omega arith) keys)
-printed-nothing text Failed input keys = refl
+pub prints-nothing : (text : List ℕ → List ℕ) (reading : Reading) (list : List ℕ)
+    → OneOf (0 ∷ 2 ∷ []) (tagOf the-type reading) → Prints text reading list []
+prints-nothing text (More count) list keys = refl
+prints-nothing text (Done count) list keys = absurd (⊎-elim (λ e. omega arith) (λ e. omega arith) keys)
+prints-nothing text Failed list keys = refl
 
--- the text of the bytes that were read, where it is
-pub printed-done : (text : List ℕ → List ℕ) (reading : Reading) (count : ℕ) (input : List ℕ) → reading ≡ Done count
-    → text (take count input) ≡ printedOf text reading input
-printed-done text reading count input e = ap (λ (at : Reading). printedOf text at input) (sym e)
+-- the text of the whole input, where it is, if the first bytes have the same
+pub prints-whole : (text : List ℕ → List ℕ) (reading : Reading) (count : ℕ) (list printed : List ℕ)
+    → ((input : List ℕ) → text (take (length list) input) ≡ text input)
+    → reading ≡ Done count → printed ≡ text (take count list) → Prints text reading list printed
+prints-whole text reading count list printed first e is =
+    subst (λ (at : Reading). Prints text at list printed) (sym e) (λ input read. is ∙ ap text read ∙ first input)
+
+prints-of-read : PrintsOfRead
+prints-of-read text count list printed prints =
+    prints (take count list)
+    (sym (take-all (length list) (take count list) (omega (arith, length-take count list))))
 
 -- those bytes lie in the list
 pub done-within : (size : ℕ) (reading : Reading) (count : ℕ) → reading ≡ Done count → Over size reading → count ≤ size

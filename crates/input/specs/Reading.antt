@@ -1,10 +1,11 @@
 -- How far reading the input has come, and what is printed of it. Assumes nothing.
+use mathlib.Core.Path.{_≡_}
 use mathlib.Core.Bool.{cond}
 use mathlib.Core.List.{List, []}
 use Prim.Native.Nat.{ℕ, zero, suc, _+_, _≤_}
 use lib.Dec.{ltb}
 use lib.IntN.{ℤ, pos, negsuc}
-use lib.ListN.{take}
+use lib.ListN.{length, take}
 use Rattle.input.specs.declared.Reading.{Reading}
 use Rattle.input.specs.declared.Reading.the-variants.{More, Done, Failed}
 
@@ -21,8 +22,16 @@ Over size (More count) = ⊥
 Over size (Done count) = count ≤ size
 Over size Failed = Unit {0}
 
--- what a program prints: its text of the bytes that were read, or nothing where a read failed
-abbrev pub printedOf : (text : List ℕ → List ℕ) (reading : Reading) (input : List ℕ) → List ℕ
-printedOf text (More count) input = []
-printedOf text (Done count) input = text (take count input)
-printedOf text Failed input = []
+-- what a program prints: its text of the whole input, whatever follows the bytes that were read, if these are as many
+-- as the list has room for; nothing where a read failed
+abbrev pub Prints : (text : List ℕ → List ℕ) (reading : Reading) (list printed : List ℕ) → Type 0
+Prints text (More count) list printed = printed ≡ []
+Prints text (Done count) list printed =
+    (input : List ℕ) → take count list ≡ take (length list) input → printed ≡ text input
+Prints text Failed list printed = printed ≡ []
+
+-- so the bytes that were read are such an input, and what is printed is their text
+abbrev pub PrintsOfRead : Type 0
+PrintsOfRead =
+    (text : List ℕ → List ℕ) (count : ℕ) (list printed : List ℕ) → Prints text (Done count) list printed
+    → printed ≡ text (take count list)

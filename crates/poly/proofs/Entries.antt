@@ -2,13 +2,16 @@
 -- the entries of a repeated value. Assumes nothing.
 use mathlib.Core.Path.{_≡_, refl, sym, ap, ap₂, _∙_}
 use mathlib.Core.Logic.{_⊎_, inl, inr}
+use mathlib.Core.Bool.{Bool, true, false}
 use mathlib.Core.List.{List, [], _∷_, _++_, map}
 use Prim.Native.Nat.{ℕ, zero, suc, _+_, _≤_, _<_}
 use native.Mathlib.Nat.{eq-or-lt-of-le}
 use native.Mathlib.Numerals.{add-one}
 use native.Mathlib.Omega.{arith}
 use lib.ListN.{length, take, drop, getD, set, replicate}
-use lib.Seq.{getD-set-same, getD-set-other}
+use lib.Dec.{leb}
+use lib.Seq.{take-all, getD-set-same, getD-set-other}
+use borrow.Author.Tests.{leb-true, leb-false}
 use Rattle.poly.specs.Polynomial.{All}
 
 module _ {A : Type 0} (P : A → Type 0) where
@@ -69,6 +72,15 @@ pub getD-replicated : {A : Type 0} (n i : ℕ) (a : A) → getD (replicate n a) 
 getD-replicated zero i a = refl
 getD-replicated (suc n) zero a = refl
 getD-replicated (suc n) (suc i) a = getD-replicated n i a
+
+-- what is made of the first n entries is what is made of all, where there are no more
+pub of-first : {A B : Type 0} (f : List A → B) (n : ℕ) (xs : List A) → (n < length xs → f (take n xs) ≡ f xs)
+    → f (take n xs) ≡ f xs
+of-first f n xs longer = by (leb (length xs) n) refl
+  where
+    by : (test : Bool) → leb (length xs) n ≡ test → f (take n xs) ≡ f xs
+    by true e = ap f (take-all n xs (leb-true (length xs) n e))
+    by false e = longer (leb-false (length xs) n e)
 
 -- ---- a list that is being written from the front
 

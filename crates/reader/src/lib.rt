@@ -1,12 +1,13 @@
 // The judge over the bytes of a transcript. They are read through one small view: a struct with a reference to them and
 // where their sections begin, and thin functions over it. The borrow checker covers no function over such a struct, so
-// each is proved by hand; the work is in crates `sections` and `byte_judge`, over a plain slice.
+// each is proved by hand; the work is in crates `sections`, `front_sections` and `byte_judge`, over a plain slice.
 use fri::Answer;
 use fri::Verdict;
 use refusal::Cause;
+use refusal::Outcome;
 use sections::Sections;
 ghost use mathlib.Core.Path.{_≡_};
-ghost use Rattle.transcript.specs.Judge.{transcriptVerdict, inputVerdict};
+ghost use Rattle.transcript.specs.Judge.{transcriptVerdict, longVerdict, inputVerdict};
 ghost use Rattle.sections.specs.Views.{sectionsIn};
 
 // A transcript's bytes, and where their sections begin.
@@ -42,15 +43,27 @@ pub fn judge(bytes: &[u8]) -> Verdict
     Reader::new(bytes, sections).verdict()
 }
 
-// The whole answer of the program `judge`: as `judge` says, after the limit of 65,536 bytes (14).
+// The whole answer of the program `judge`: up to 65,536 bytes as `judge` says.
 pub fn judge_input(bytes: &[u8]) -> Verdict
     ensures { λ r. ⌜ r ≡ inputVerdict (now (bytes .entry)) ⌝ }
 {
     if bytes.len() > 65536 {
-        return Verdict {
-            answer: Answer::Refused(Cause::InputTooLong),
-            reads: 0,
-        };
+        return judge_long(bytes);
     }
     judge(bytes)
+}
+
+// Its answer to more bytes than that: the refusals of sections 1 to 4, then the length (14).
+fn judge_long(bytes: &[u8]) -> Verdict
+    ensures { λ r. ⌜ r ≡ longVerdict (now (bytes .entry)) ⌝ }
+{
+    let front = front_sections::checked_front(bytes, sections::find(bytes));
+    let cause = match front {
+        Outcome::Done => Cause::InputTooLong,
+        Outcome::Refused(cause) => cause,
+    };
+    Verdict {
+        answer: Answer::Refused(cause),
+        reads: 0,
+    }
 }

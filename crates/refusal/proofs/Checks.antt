@@ -84,10 +84,16 @@ pub number-unless : (P : ℕ → Type 0) (test : Bool) (cause : Cause) (after : 
 number-unless P true cause after c a = a
 number-unless P false cause after c a = c
 
+-- where those after it are asked for once the first has passed
+pub number-after : (P : ℕ → Type 0) (first after : Outcome) → P (numberOfOutcome first)
+    → (first ≡ Done → P (numberOfOutcome after))
+    → P (numberOfOutcome (andThen first after))
+number-after P Done after f a = a refl
+number-after P (Refused cause) after f a = f
+
 pub number-then : (P : ℕ → Type 0) (first after : Outcome) → P (numberOfOutcome first) → P (numberOfOutcome after)
     → P (numberOfOutcome (andThen first after))
-number-then P Done after f a = a
-number-then P (Refused cause) after f a = f
+number-then P first after f a = number-after P first after f (λ done. a)
 
 -- ---- two tests in one
 

@@ -15,33 +15,41 @@ use Rattle.refusal.specs.declared.Position.the-variants.{Absent}
 use Rattle.refusal.specs.Numbers.{numberOf, roundOf}
 use Rattle.refusal.specs.Theorems.{RetiredNumbers, RoundNumbers}
 
--- a number that a cause has is at most 14, or 17
+-- a number that a cause has is 1 to 14, or 17
 abbrev Given : ℕ → Type 0
-Given n = (n ≤ 14) ⊎ (n ≡ 17)
+Given n = ((1 ≤ n) × (n ≤ 14)) ⊎ (n ≡ 17)
 
 given : (cause : Cause) → Given (numberOf cause)
-given (BytesEnd section) = inl (omega arith)
-given (CountDiffers section) = inl (omega arith)
-given TrailingBytes = inl (omega arith)
-given DimensionOutOfRange = inl (omega arith)
-given RateOutOfRange = inl (omega arith)
-given StepOutOfRange = inl (omega arith)
-given DimensionTooSmall = inl (omega arith)
-given (BasisDependent place) = inl (omega arith)
-given QueryCountOutOfRange = inl (omega arith)
-given (QueryOutOfRange query) = inl (omega arith)
-given (RoundCheckFails query round) = inl (omega arith)
-given (DegreeTooLarge degree) = inl (omega arith)
-given (WrongLength list) = inl (omega arith)
-given InputTooLong = inl (omega arith)
+given (BytesEnd section) = inl (omega arith, omega arith)
+given (CountDiffers section) = inl (omega arith, omega arith)
+given TrailingBytes = inl (omega arith, omega arith)
+given DimensionOutOfRange = inl (omega arith, omega arith)
+given RateOutOfRange = inl (omega arith, omega arith)
+given StepOutOfRange = inl (omega arith, omega arith)
+given DimensionTooSmall = inl (omega arith, omega arith)
+given (BasisDependent place) = inl (omega arith, omega arith)
+given QueryCountOutOfRange = inl (omega arith, omega arith)
+given (QueryOutOfRange query) = inl (omega arith, omega arith)
+given (RoundCheckFails query round) = inl (omega arith, omega arith)
+given (DegreeTooLarge degree) = inl (omega arith, omega arith)
+given (WrongLength list) = inl (omega arith, omega arith)
+given InputTooLong = inl (omega arith, omega arith)
 given (CosetShared query) = inr refl
 
+zero-not-given : (n : ℕ) → Given n → n ≢ 0
+zero-not-given n (inl range) e = omega arith
+zero-not-given n (inr is) e = omega arith
+
+-- 0 is accepted, and no cause's number
+pub never-zero : (cause : Cause) → numberOf cause ≢ 0
+never-zero cause = zero-not-given (numberOf cause) (given cause)
+
 fifteen-not-given : (n : ℕ) → Given n → n ≢ 15
-fifteen-not-given n (inl most) e = omega arith
+fifteen-not-given n (inl range) e = omega arith
 fifteen-not-given n (inr is) e = omega arith
 
 sixteen-not-given : (n : ℕ) → Given n → n ≢ 16
-sixteen-not-given n (inl most) e = omega arith
+sixteen-not-given n (inl range) e = omega arith
 sixteen-not-given n (inr is) e = omega arith
 
 pub retired-numbers : RetiredNumbers

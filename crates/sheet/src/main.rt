@@ -7,7 +7,7 @@ ghost use Prim.Native.Nat.{_+_, _≤_};
 ghost use lib.ListN.{length, take};
 ghost use Rattle.transcript.specs.Judge.{inputLimit};
 ghost use Rattle.sheet_text.specs.Sheet.{sheetOf, largestSheet};
-ghost use Rattle.input.specs.Reading.{Over, printedOf};
+ghost use Rattle.input.specs.Reading.{Over, Prints};
 
 // What is printed, at the front of the second list, and its length. The first list has room for the limit and one byte
 // more, the second for the largest sheet of any transcript.
@@ -15,7 +15,7 @@ fn answer(input: &[u8], reading: Reading, out: &mut [u8]) -> usize
     requires size { ⌜ length (now input) ≡ inputLimit + 1 ⌝ }
     requires over { ⌜ Over (length (now input)) reading ⌝ }
     requires room { ⌜ length (now out) ≡ largestSheet ⌝ }
-    ensures text { λ r. ⌜ take r (now (out .exit)) ≡ printedOf sheetOf reading (now (input .entry)) ⌝ }
+    ensures text { λ r. ⌜ Prints sheetOf reading (now (input .entry)) (take r (now (out .exit))) ⌝ }
     ensures fits { λ r. ⌜ (r ≤ length (now (out .exit))) × (r ≡ length (take r (now (out .exit)))) ⌝ }
 {
     let Reading::Done(count) = reading else {
@@ -26,7 +26,7 @@ fn answer(input: &[u8], reading: Reading, out: &mut [u8]) -> usize
 
 // The one place that prints. The input is handed over so that the contract can say which lines these are.
 fn print(lines: &[u8], input: &[u8], reading: Reading)
-    requires { ⌜ now lines ≡ printedOf sheetOf reading (now input) ⌝ }
+    requires { ⌜ Prints sheetOf reading (now input) (now lines) ⌝ }
 {
     io::write_all(STDOUT_FILENO, lines);
 }

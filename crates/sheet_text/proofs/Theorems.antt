@@ -1,5 +1,5 @@
 -- Lines by example, and the sheets beside the judge's answers. Assumes nothing.
-use mathlib.Core.Path.{_≡_, refl, sym, ap, _∙_, subst}
+use mathlib.Core.Path.{_≡_, refl, sym, ap, ap₂, _∙_, subst}
 use mathlib.Core.Logic.{_≢_, _⊎_, _↔_, inl, inr, ⊎-elim}
 use mathlib.Core.Bool.{Bool, true, false, cond, _||_}
 use mathlib.Core.List.{List, []}
@@ -8,8 +8,9 @@ use native.Mathlib.Nat.{mul-le-mul}
 use native.Mathlib.Omega.{arith}
 use lib.Dec.{leb, eqb}
 use lib.ListN.{length, getD, take, drop, List·getD-append}
-use lib.Seq.{take-at, take-all, drop-nil, length-take-le}
-use borrow.Author.Tests.{eqb-true, leb-true, leb-false}
+use lib.Seq.{take-at, drop-nil, length-take-le}
+use borrow.Author.Tests.{eqb-true, ne-eqb, leb-true, leb-false}
+use Rattle.poly.proofs.Entries.{of-first}
 use Rattle.refusal.specs.declared.Cause.the-variants.{RoundCheckFails}
 use Rattle.refusal.specs.declared.Outcome.{Outcome}
 use Rattle.refusal.specs.declared.Outcome.the-variants as outcomes
@@ -23,8 +24,10 @@ use Rattle.transcript.specs.Numerals.{AreBytes}
 use Rattle.transcript.specs.Sections.{transcriptRounds, runIn, queriesIn}
 use Rattle.transcript.specs.Checks.{transcriptOutcome}
 use Rattle.transcript.specs.Judge.{transcriptVerdict, longestTranscript, inputLimit, inputVerdict}
+use Rattle.transcript.specs.Theorems.{FrontNumber}
 use Rattle.transcript.proofs.Carried.{checks-are, passed-carries}
 use Rattle.transcript.proofs.Theorems.{judging-bytes, long-transcripts}
+use Rattle.transcript.proofs.LongInputs.{long-inputs}
 use Rattle.transcript.proofs.Theorems as transcripts
 use Rattle.line_text.specs.Digits.{bytes, digits, placesWithin, decimal}
 use Rattle.line_text.proofs.Decimals.{length-digits}
@@ -238,15 +241,26 @@ beside judge agrees =
 
 -- ---- the program and the library
 
+-- over the limit the program gives neither 0 nor 11
+other-numbers : (n : ℕ) → FrontNumber n ⊎ (n ≡ 14) → (eqb n 0 || eqb n 11) ≡ false
+other-numbers n given = let others = by given in ap₂ _||_ (ne-eqb n 0 (others .0)) (ne-eqb n 11 (others .1))
+  where
+    by : FrontNumber n ⊎ (n ≡ 14) → (n ≢ 0) × (n ≢ 11)
+    by (inl (inl two)) = (λ e. omega arith, λ e. omega arith)
+    by (inl (inr (inl range))) = (λ e. omega arith, λ e. omega arith)
+    by (inl (inr (inr seventeen))) = (λ e. omega arith, λ e. omega arith)
+    by (inr fourteen) = (λ e. omega arith, λ e. omega arith)
+
+long-lines : (input : List ℕ) → inputLimit < length input → hasLines (inputVerdict input .answer) ≡ false
+long-lines input h = other-numbers (numberOfAnswer (inputVerdict input .answer)) (long-inputs .numbers input h)
+
 program-agrees : (input : List ℕ) → hasLines (inputVerdict input .answer) ≡ true
     → inputVerdict input ≡ transcriptVerdict input
 program-agrees input h = by (leb (length input) inputLimit) refl
   where
     by : (test : Bool) → leb (length input) inputLimit ≡ test → inputVerdict input ≡ transcriptVerdict input
     by true e = transcripts.short input (leb-true (length input) inputLimit e)
-    by false e =
-        absurd (not-both (sym h ∙ ap (λ (v : Verdict). hasLines (v .answer))
-        (transcripts.long input (leb-false (length input) inputLimit e))))
+    by false e = absurd (not-both (sym h ∙ long-lines input (leb-false (length input) inputLimit e)))
 
 short : (input : List ℕ) → length input ≤ inputLimit → sheetOf input ≡ transcriptSheet input
 unfolding sheetBy
@@ -255,8 +269,15 @@ short input h =
     (transcripts.short input h)
 
 long : (input : List ℕ) → inputLimit < length input → sheetOf input ≡ []
-long input h =
-    sheet-empty inputVerdict input (ap (λ (v : Verdict). hasLines (v .answer)) (transcripts.long input h))
+long input h = sheet-empty inputVerdict input (long-lines input h)
+
+-- what has no sheet over a length has that of its first bytes, more than that
+first-bytes : (sheet : List ℕ → List ℕ) (limit : ℕ) → ((input : List ℕ) → limit < length input → sheet input ≡ [])
+    → (input : List ℕ) (read : ℕ) → limit < read → sheet (take read input) ≡ sheet input
+first-bytes sheet limit none input read h =
+    of-first sheet read input
+    (λ (longer : read < length input).
+    none (take read input) (omega (arith, length-take-le read input (omega arith))) ∙ sym (none input (omega arith)))
 
 -- no transcript is longer than the longest
 nothing-longer : (input : List ℕ) → longestTranscript < length input → transcriptSheet input ≡ []
@@ -266,17 +287,6 @@ nothing-longer input h = by (transcriptOutcome input) refl
     by outcomes.Done e = absurd (omega (arith, long-transcripts .longest input e))
     by (outcomes.Refused cause) e = sheet-refused input cause e
 
-first : (input : List ℕ) (read : ℕ) → longestTranscript < read
-    → transcriptSheet (take read input) ≡ transcriptSheet input
-first input read h = by (leb (length input) read) refl
-  where
-    by : (test : Bool) → leb (length input) read ≡ test → transcriptSheet (take read input) ≡ transcriptSheet input
-    by true e = ap transcriptSheet (take-all read input (leb-true (length input) read e))
-    by false e =
-        let more : read < length input = leb-false (length input) read e in
-        nothing-longer (take read input) (omega (arith, length-take-le read input (omega arith)))
-        ∙ sym (nothing-longer input (omega arith))
-
 pub sheets : Sheets
 sheets =
     record {
@@ -284,5 +294,6 @@ sheets =
       library = beside transcriptVerdict (λ input h. refl);
       short = short;
       long = long;
-      first = first;
+      whole = first-bytes sheetOf inputLimit long;
+      first = first-bytes transcriptSheet longestTranscript nothing-longer;
     }

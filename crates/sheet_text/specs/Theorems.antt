@@ -93,6 +93,8 @@ pub record Sheets : Type 0 where
   -- they are the same up to the limit; over it nothing is printed
   pub short : (input : List ℕ) → length input ≤ inputLimit → sheetOf input ≡ transcriptSheet input
   pub long : (input : List ℕ) → inputLimit < length input → sheetOf input ≡ []
+  -- so the first bytes, more than the limit, have the sheet of the whole input, however long it is
+  pub whole : (input : List ℕ) (read : ℕ) → inputLimit < read → sheetOf (take read input) ≡ sheetOf input
   -- a reader of larger files needs no more bytes than those of the longest transcript and one
   pub first : (input : List ℕ) (read : ℕ) → longestTranscript < read
       → transcriptSheet (take read input) ≡ transcriptSheet input

@@ -165,12 +165,9 @@ module _ (bytes : List ℕ) where
         ∙ sym (passed-by (eqb (sectionStart bytes (suc (layerSection r))) (length bytes)) TrailingBytes Done
         (eq-eqb (sectionStart bytes (suc (layerSection r))) (length bytes) (c .ends)))
 
-    -- the checks of the sections are those of the lists
-    pub checks-are : transcriptOutcome bytes ≡ checksOutcome (runIn bytes) (queriesIn bytes)
-    checks-are =
-        ap₂ andThen front-is layers-pass-all
-        ∙ then-nothing (andThen (basisOutcome (runIn bytes .basis)) of-queries)
-        ∙ ap (λ (o : Outcome). andThen o of-queries) lists
+    -- the checks of sections 1 to 4 are those of the lists
+    pub front-checks : frontOutcome bytes ≡ checksOutcome (runIn bytes) (queriesIn bytes)
+    front-checks = front-is ∙ ap (λ (o : Outcome). andThen o of-queries) lists
       where
         lists : basisOutcome (runIn bytes .basis) ≡ runOutcome (runIn bytes)
         lists =
@@ -179,6 +176,11 @@ module _ (bytes : List ℕ) where
             ∙ then-passed (parametersOutcome (transcriptK bytes) (transcriptRate bytes) (transcriptStep bytes))
             (andThen (lengthsOutcome (runIn bytes)) (basisOutcome (runIn bytes .basis)))
             (parameters-pass (transcriptK bytes) (transcriptRate bytes) (transcriptStep bytes) (c .parameters))
+
+    -- and so are those of all sections
+    pub checks-are : transcriptOutcome bytes ≡ checksOutcome (runIn bytes) (queriesIn bytes)
+    checks-are =
+        ap₂ andThen front-checks layers-pass-all ∙ then-nothing (checksOutcome (runIn bytes) (queriesIn bytes))
 
   -- ---- bytes that pass carry lists
 

@@ -3,7 +3,7 @@ use mathlib.Core.Path.{_≡_, refl, sym, ap, _∙_, subst}
 use mathlib.Core.Logic.{⊎-elim}
 use mathlib.Core.Bool.{Bool, true, false}
 use mathlib.Core.List.{List}
-use Prim.Native.Nat.{ℕ, zero, suc, _+_, _^_, _≤_, _<_}
+use Prim.Native.Nat.{ℕ, zero, suc, _+_, _*_, _^_, _≤_, _<_}
 use native.Mathlib.Nat.{eq-or-lt-of-le}
 use native.Mathlib.Omega.{arith}
 use lib.Dec.{leb, eqb}
@@ -64,6 +64,23 @@ module _ (bytes : List ℕ) where
       ∙ ap (refusedUnless test cause)
       (sym (passed-by (leb (sectionStart bytes (suc s)) (length bytes)) (BytesEnd s) Done
       (le-leb (sectionStart bytes (suc s)) (length bytes) whole)))
+
+  -- so where its count, and as many entries as pass the test, lie within the bytes
+  pub section-counted : (s most : ℕ) (cause : Cause) (test : ℕ → Bool) → 1 ≤ s
+      → ((n : ℕ) → test n ≡ true → n ≤ most) → sectionStart bytes s + 4 + 8 * most ≤ length bytes
+      → sectionOutcome bytes s (test (sectionCount bytes s)) cause
+      ≡ refusedUnless (test (sectionCount bytes s)) cause Done
+  section-counted s most cause test least few room = by (test (sectionCount bytes s)) refl
+    where
+      by : (t : Bool) → test (sectionCount bytes s) ≡ t
+          → sectionOutcome bytes s (test (sectionCount bytes s)) cause
+          ≡ refusedUnless (test (sectionCount bytes s)) cause Done
+      by true e =
+          section-tested s (test (sectionCount bytes s)) cause least
+          (omega (arith, start-next bytes s least, few (sectionCount bytes s) e))
+      by false e =
+          sym (count-fails s (test (sectionCount bytes s)) cause (omega arith) e)
+          ∙ refused-by (test (sectionCount bytes s)) cause Done e
 
   pub section-passes : (s : ℕ) (test : Bool) (cause : Cause) → 1 ≤ s → test ≡ true
       → sectionStart bytes (suc s) ≤ length bytes → Done ≡ sectionOutcome bytes s test cause

@@ -26,9 +26,9 @@ use Rattle.transcript.specs.Sections.{transcriptRounds}
 use Rattle.transcript.specs.Checks.{sectionOutcome, dueOutcome, parametersSection, cosetSection}
 use Rattle.transcript.specs.Checks.{challengesSection, queriesSection, listsOutcome, frontOutcome, layersFrom}
 use Rattle.transcript.specs.Checks.{endOutcome, layersOutcome, transcriptOutcome}
-use Rattle.transcript.specs.Judge.{longestTranscript}
+use Rattle.transcript.specs.Judge.{longestFront, longestTranscript}
 use Rattle.transcript.proofs.Sections.{start-next, first-start}
-use Rattle.transcript.proofs.Checks.{section-tested, count-fails, section-done, due-done, layers-done}
+use Rattle.transcript.proofs.Checks.{section-counted, section-done, due-done, layers-done}
 use Rattle.transcript.proofs.Positions as at
 
 -- ---- checks one after the other
@@ -39,13 +39,6 @@ then-same {o} {o′} a a′ e h = ap (λ (x : Outcome). andThen x a) e ∙ by o�
     by : (x : Outcome) → o′ ≡ x → andThen o′ a ≡ andThen o′ a′
     by Done d = ap (λ (x : Outcome). andThen x a) d ∙ h d ∙ sym (ap (λ (x : Outcome). andThen x a′) d)
     by (Refused cause) d = ap (λ (x : Outcome). andThen x a) d ∙ sym (ap (λ (x : Outcome). andThen x a′) d)
-
--- a section whose count is there, and whose entries are there if its count passes: the test alone decides
-section-long : (bytes : List ℕ) (s : ℕ) (test : Bool) (cause : Cause) → 1 ≤ s
-    → sectionStart bytes s + 4 ≤ length bytes → (test ≡ true → sectionStart bytes (suc s) ≤ length bytes)
-    → sectionOutcome bytes s test cause ≡ refusedUnless test cause Done
-section-long bytes s true cause least there whole = section-tested bytes s true cause least (whole refl)
-section-long bytes s false cause least there whole = sym (count-fails bytes s false cause there refl)
 
 module _ (front rest : List ℕ) where
   abbrev whole : List ℕ
@@ -92,18 +85,16 @@ module _ (front rest : List ℕ) where
         → sectionOutcome whole s (test (sectionCount whole s)) cause
         ≡ sectionOutcome front s (test (sectionCount front s)) cause
     section-same cause test few =
-        section-long whole s (test (sectionCount whole s)) cause least (omega (arith, same, longer))
-        (λ e. omega (arith, start-next whole s least, same, longer, few (sectionCount whole s) e))
+        section-counted whole s most cause test least few (omega (arith, same, longer))
         ∙ ap (λ (n : ℕ). refusedUnless (test n) cause Done) count-is
-        ∙ sym (section-long front s (test (sectionCount front s)) cause least (omega arith)
-        (λ e. omega (arith, start-next front s least, few (sectionCount front s) e)))
+        ∙ sym (section-counted front s most cause test least few early)
 
     due-same : dueOutcome whole s most ≡ dueOutcome front s most
     due-same = section-same (CountDiffers s) (λ n. eqb n most) (λ n e. omega (arith, equal-of-test n most e))
 
   -- ---- sections 1 to 4 of a front that is long enough
 
-  module _ (enough : 2408 ≤ length front) where
+  module _ (enough : longestFront ≤ length front) where
     start1 : sectionStart whole 1 ≡ sectionStart front 1
     start1 = first-start whole ∙ sym (first-start front)
 
@@ -217,7 +208,7 @@ module _ (front rest : List ℕ) where
   -- ---- the layers and the last coefficients of a front that is longer than every transcript
 
   module _ (enough : longestTranscript < length front) where
-    front-enough : 2408 ≤ length front
+    front-enough : longestFront ≤ length front
     front-enough = omega arith
 
     module _ (done : frontOutcome front ≡ Done) where
@@ -236,7 +227,7 @@ module _ (front rest : List ℕ) where
       abbrev last : ℕ
       last = at.last front one
 
-      five : sectionStart front 5 ≤ 2408
+      five : sectionStart front 5 ≤ longestFront
       five = at.front-within front one lists
 
       same-five : sectionStart whole 5 ≡ sectionStart front 5

@@ -6,4 +6,5 @@ pub mod Refusals
 mod Positions
 mod Fronts
 pub mod Theorems
+pub mod LongInputs
 pub mod Shared

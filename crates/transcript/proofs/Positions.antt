@@ -23,22 +23,22 @@ use Rattle.transcript.specs.Sections.{sectionStart, sectionCount, layerS
 use Rattle.transcript.specs.Sections.{transcriptStep, transcriptSteps, transcriptRounds, runIn, queriesIn}
 use Rattle.transcript.specs.Checks.{sectionOutcome, dueOutcome, parametersSection, cosetSection}
 use Rattle.transcript.specs.Checks.{challengesSection, queriesSection, listsOutcome}
-use Rattle.transcript.specs.Judge.{longestTranscript}
+use Rattle.transcript.specs.Judge.{longestFront, longestTranscript}
 use Rattle.transcript.proofs.Sections.{start-next, first-start}
 use Rattle.transcript.proofs.Checks.{parameters-done, section-done, due-done}
 
 -- ---- numbers alone
 
 -- the layers halve at least, so that those before layer i and twice layer i are at most twice layer 0
-sizes-fall : (at n half i k16 : ℕ) → 2 * half ≤ n → at + 16 * n ≤ 2408 + 4 * i + k16
-    → at + 4 + 8 * n + 16 * half ≤ 2408 + 4 * suc i + k16
+sizes-fall : (at n half i k16 : ℕ) → 2 * half ≤ n → at + 16 * n ≤ longestFront + 4 * i + k16
+    → at + 4 + 8 * n + 16 * half ≤ longestFront + 4 * suc i + k16
 sizes-fall at n half i k16 h p = omega arith
 
-layer-ends : (at n i most : ℕ) → 4 ≤ n → at + 16 * n ≤ 2408 + 4 * i + most → i ≤ 18 → most ≤ 16 * 2 ^ 20
+layer-ends : (at n i most : ℕ) → 4 ≤ n → at + 16 * n ≤ longestFront + 4 * i + most → i ≤ 18 → most ≤ 16 * 2 ^ 20
     → at + 4 + 8 * n ≤ longestTranscript
 layer-ends at n i most l p few small = omega arith
 
-last-ends : (at n d i most : ℕ) → 2 ≤ n → 2 * d ≤ n → at + 16 * n ≤ 2408 + 4 * i + most → i ≤ 19
+last-ends : (at n d i most : ℕ) → 2 ≤ n → 2 * d ≤ n → at + 16 * n ≤ longestFront + 4 * i + most → i ≤ 19
     → most ≤ 16 * 2 ^ 20
     → at + 4 + 8 * d ≤ longestTranscript
 last-ends at n d i most l h p few small = omega arith
@@ -119,7 +119,7 @@ module _ (bytes : List ℕ) (one : parametersSection bytes ≡ Done) where
       sectionOutcome bytes 4 (leb 1 (sectionCount bytes 4) && leb (sectionCount bytes 4) 256) QueryCountOutOfRange
 
   start-five : dueOutcome bytes 2 (k + 1) ≡ Done → dueOutcome bytes 3 r ≡ Done → queries-there ≡ Done
-      → sectionStart bytes 5 ≤ 2408
+      → sectionStart bytes 5 ≤ longestFront
   start-five two three four =
       let tested = section-done bytes 4 (leb 1 (sectionCount bytes 4) && leb (sectionCount bytes 4) 256)
       QueryCountOutOfRange four .0 in
@@ -131,7 +131,7 @@ module _ (bytes : List ℕ) (one : parametersSection bytes ≡ Done) where
       )
 
   -- where sections 2 to 4 pass, all of them end early
-  pub front-within : listsOutcome bytes ≡ Done → sectionStart bytes 5 ≤ 2408
+  pub front-within : listsOutcome bytes ≡ Done → sectionStart bytes 5 ≤ longestFront
   front-within lists =
       let two = then-done (cosetSection bytes) (andThen (challengesSection bytes) (queriesSection bytes)) lists in
       let three = then-done (challengesSection bytes) (queriesSection bytes) (two .1) in
@@ -142,10 +142,10 @@ module _ (bytes : List ℕ) (one : parametersSection bytes ≡ Done) where
 
   -- ---- the layers
 
-  module _ (five : sectionStart bytes 5 ≤ 2408) where
+  module _ (five : sectionStart bytes 5 ≤ longestFront) where
     -- where layer i begins
     position : (i : ℕ) → i ≤ r → ((j : ℕ) → j < i → dueOutcome bytes (layerSection j) (size j) ≡ Done)
-        → sectionStart bytes (layerSection i) + 16 * size i ≤ 2408 + 4 * i + 16 * 2 ^ k
+        → sectionStart bytes (layerSection i) + 16 * size i ≤ longestFront + 4 * i + 16 * 2 ^ k
     unfolding dimension
     position zero h passed = omega (arith, five)
     position (suc i) h passed =

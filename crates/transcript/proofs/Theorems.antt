@@ -1,50 +1,43 @@
 -- Judging bytes is judging the lists that they carry, and demand 3 of those lists. Assumes nothing.
 use mathlib.Core.Path.{_≡_, refl, sym, ap, _∙_, subst}
-use mathlib.Core.Logic.{_≢_, _⊎_, inl, inr}
-use mathlib.Core.Bool.{Bool, true, false, cond}
+use mathlib.Core.Logic.{_≢_, inl, inr}
+use mathlib.Core.Bool.{Bool, cond}
 use mathlib.Core.List.{List, [], _∷_}
 use Prim.Native.Nat.{ℕ, _-_, _≤_, _<_}
 use native.Mathlib.Omega.{arith}
-use lib.Dec.{leb}
 use lib.Pow.{pow-pos}
 use lib.ListN.{length, take, drop, take-append-drop}
-use lib.Seq.{take-all, length-take-le}
-use borrow.Author.Tests.{le-leb, lt-leb, leb-true, leb-false}
+use lib.Seq.{length-take-le}
+use borrow.Author.Tests.{le-leb, lt-leb}
 use Rattle.poly.specs.Polynomial.{All}
+use Rattle.poly.proofs.Entries.{of-first}
 use Rattle.refusal.specs.declared.Cause.{Cause}
-use Rattle.refusal.specs.declared.Cause.the-variants.{RoundCheckFails, InputTooLong}
+use Rattle.refusal.specs.declared.Cause.the-variants.{RoundCheckFails}
 use Rattle.refusal.specs.declared.Outcome.{Outcome}
 use Rattle.refusal.specs.declared.Outcome.the-variants.{Done, Refused}
 use Rattle.refusal.specs.Checks.{andThen}
 use Rattle.refusal.specs.Numbers.{numberOfOutcome}
-use Rattle.refusal.specs.declared.Position.the-variants.{At, Absent}
-use Rattle.refusal.proofs.Checks.{then-done, number-then, Either, which}
+use Rattle.refusal.proofs.Checks.{then-done, Either, which}
 use Rattle.fri.specs.declared.Answer.the-variants as answers
 use Rattle.fri.specs.declared.Verdict.{Verdict}
 use Rattle.fri.specs.Run.{Run}
 use Rattle.fri.specs.Run as run
 use Rattle.fri.specs.Rounds.{roundsOutcome}
 use Rattle.fri.specs.Reads.{entriesRead}
-use Rattle.fri.specs.Judge.{answerOf, readsAfter, verdictOf, numberOfAnswer, placeOfAnswer, roundOfAnswer}
+use Rattle.fri.specs.Judge.{answerOf, readsAfter, verdictOf}
 use Rattle.fri.specs.Demand.{Any, Accepted, Visits, Elements}
-use Rattle.fri.specs.Theorems.{Tells}
-use Rattle.fri.proofs.Rounds.{refused-by-round}
-use Rattle.fri.proofs.Verdicts.{done-of, refused-of, same-number}
+use Rattle.fri.proofs.Verdicts.{done-of, refused-of}
 use Rattle.fri.proofs.Soundness.{soundness}
 use Rattle.fri.proofs.Completeness.{completeness}
-use Rattle.transcript.specs.Sections.{sectionStart, runIn, queriesIn}
+use Rattle.transcript.specs.Sections.{runIn, queriesIn}
 use Rattle.transcript.specs.Checks.{transcriptOutcome}
-use Rattle.transcript.specs.Judge.{transcriptVerdict, longestTranscript, inputLimit, inputVerdict}
+use Rattle.transcript.specs.Judge.{transcriptVerdict, longestTranscript, inputLimit, longVerdict, inputVerdict}
 use Rattle.transcript.specs.Theorems.{Carries, JudgingBytes, TranscriptCompleteness}
-use Rattle.transcript.specs.Theorems.{OfRun, TranscriptSoundness, LongTranscripts, TranscriptNumber}
-use Rattle.transcript.specs.Theorems.{TranscriptNumbers}
+use Rattle.transcript.specs.Theorems.{OfRun, TranscriptSoundness, LongTranscripts}
 use Rattle.transcript.proofs.Sections.{run-fits}
 use Rattle.transcript.proofs.Refusals.{transcript-number}
 use Rattle.transcript.proofs.Fronts.{transcript-alone, longest}
 use Rattle.transcript.proofs.Carried.{fit, checks-are, passed-carries}
-
-abbrev too-long : Verdict
-too-long = record { answer = answers.Refused InputTooLong; reads = 0 }
 
 -- ---- where they carry lists
 
@@ -156,31 +149,16 @@ transcript-soundness sent transcripts of-run covers =
 
 -- ---- the program's answer
 
+abbrev program-by : (bytes : List ℕ) (test : Bool) → Verdict
+program-by bytes test = cond test (transcriptVerdict bytes) (longVerdict bytes)
+
 pub short : (bytes : List ℕ) → length bytes ≤ inputLimit → inputVerdict bytes ≡ transcriptVerdict bytes
 unfolding inputVerdict
-short bytes h = ap (λ (t : Bool). cond t (transcriptVerdict bytes) too-long) (le-leb (length bytes) inputLimit h)
+short bytes h = ap (program-by bytes) (le-leb (length bytes) inputLimit h)
 
-pub long : (bytes : List ℕ) → inputLimit < length bytes → inputVerdict bytes ≡ too-long
+pub long : (bytes : List ℕ) → inputLimit < length bytes → inputVerdict bytes ≡ longVerdict bytes
 unfolding inputVerdict
-long bytes h = ap (λ (t : Bool). cond t (transcriptVerdict bytes) too-long) (lt-leb (length bytes) inputLimit h)
-
-told : (verdict : Verdict) → verdict ≡ too-long → Tells verdict 14 Absent Absent 0
-told verdict e = (
-  ap (λ (v : Verdict). numberOfAnswer (v .answer)) e,
-  ap (λ (v : Verdict). placeOfAnswer (v .answer)) e,
-  ap (λ (v : Verdict). roundOfAnswer (v .answer)) e,
-  ap (λ (v : Verdict). v .reads) e,
-)
-
-either-accepted : (test : Bool) (verdict : Verdict) → cond test verdict too-long .answer ≡ answers.Accepted
-    → verdict .answer ≡ answers.Accepted
-either-accepted true verdict e = e
-either-accepted false verdict e = absurd (let impossible : _≡_ {A = ℕ} 0 1 = cc in omega arith)
-
-program-accepted : (bytes : List ℕ) → inputVerdict bytes .answer ≡ answers.Accepted
-    → transcriptVerdict bytes .answer ≡ answers.Accepted
-unfolding inputVerdict
-program-accepted bytes e = either-accepted (leb (length bytes) inputLimit) (transcriptVerdict bytes) e
+long bytes h = ap (program-by bytes) (lt-leb (length bytes) inputLimit h)
 
 pub judging-bytes : JudgingBytes
 judging-bytes =
@@ -190,8 +168,6 @@ judging-bytes =
       accepted = accepted-carries;
       refused = refused-carries;
       short = short;
-      long = λ bytes h. told (inputVerdict bytes) (long bytes h);
-      program-accepted = program-accepted;
     }
 
 -- ---- long files
@@ -203,17 +179,17 @@ same-refusal : (front bytes : List ℕ) (outcome : Outcome) → transcriptOutcom
 same-refusal front bytes Done e f h = absurd (omega (arith, longest front e))
 same-refusal front bytes (Refused cause) e f h = refused-verdict front cause e ∙ sym (refused-verdict bytes cause f)
 
-first-decide : (bytes : List ℕ) (read : ℕ) (test : Bool) → leb (length bytes) read ≡ test → longestTranscript < read
+first-decide : (bytes : List ℕ) (read : ℕ) → longestTranscript < read
     → transcriptVerdict (take read bytes) ≡ transcriptVerdict bytes
-first-decide bytes read true e h = ap transcriptVerdict (take-all read bytes (leb-true (length bytes) read e))
-first-decide bytes read false e h =
-    let size : length (take read bytes) ≡ read =
-    length-take-le read bytes (omega (arith, leb-false (length bytes) read e)) in
+first-decide bytes read h =
+    of-first transcriptVerdict read bytes
+    (λ (longer : read < length bytes).
+    let size : length (take read bytes) ≡ read = length-take-le read bytes (omega arith) in
     let more : longestTranscript < length (take read bytes) = omega arith in
     same-refusal (take read bytes) bytes (transcriptOutcome (take read bytes)) refl
     (ap transcriptOutcome (sym (take-append-drop read bytes))
     ∙ transcript-alone (take read bytes) (drop read bytes) more)
-    more
+    more)
 
 pub long-transcripts : LongTranscripts
 long-transcripts =
@@ -221,41 +197,5 @@ long-transcripts =
       size = refl;
       longest = longest;
       accepted = λ bytes e. longest bytes (passed-sections bytes e);
-      first = λ bytes read h. first-decide bytes read (leb (length bytes) read) refl h;
+      first = first-decide;
     }
-
--- ---- numbers
-
-rounds-number : (bytes : List ℕ) (o : Outcome) → roundsOutcome (runIn bytes) (queriesIn bytes) 0 ≡ o
-    → TranscriptNumber (numberOfOutcome o)
-rounds-number bytes Done e = inl (omega arith)
-rounds-number bytes (Refused cause) e = inl (omega (arith, refused-by-round (runIn bytes) (queriesIn bytes) cause e))
-
-library-number : (bytes : List ℕ) → TranscriptNumber (numberOfAnswer (transcriptVerdict bytes .answer))
-unfolding transcriptVerdict
-library-number bytes =
-    let rounds = roundsOutcome (runIn bytes) (queriesIn bytes) 0 in
-    subst TranscriptNumber (sym (same-number (andThen (transcriptOutcome bytes) rounds)))
-    (number-then TranscriptNumber (transcriptOutcome bytes) rounds
-    (transcript-number TranscriptNumber (λ n l. inl (omega arith)) (inr refl) bytes)
-    (rounds-number bytes rounds refl))
-
-abbrev ProgramNumber : Verdict → Type 0
-ProgramNumber verdict =
-    TranscriptNumber (numberOfAnswer (verdict .answer)) ⊎ (numberOfAnswer (verdict .answer) ≡ 14)
-
-either-number : (test : Bool) (verdict : Verdict) → TranscriptNumber (numberOfAnswer (verdict .answer))
-    → ProgramNumber (cond test verdict too-long)
-either-number true verdict h = inl h
-either-number false verdict h = inr refl
-
-program-number : (bytes : List ℕ) → ProgramNumber (inputVerdict bytes)
-unfolding inputVerdict
-program-number bytes = either-number (leb (length bytes) inputLimit) (transcriptVerdict bytes) (library-number bytes)
-
-empty : Tells (inputVerdict []) 1 (At 1) Absent 0
-unfolding inputVerdict transcriptVerdict sectionStart
-empty = (refl, refl, refl, refl)
-
-transcript-numbers : TranscriptNumbers
-transcript-numbers = record { library = library-number; program = program-number; empty = empty }

@@ -7,9 +7,10 @@ use Prim.Native.Nat.{ℕ, suc, _+_, _*_, _-_, _^_, _≤_, _<_}
 use lib.ListN.{length, take}
 use Rattle.poly.specs.Polynomial.{All}
 use Rattle.refusal.specs.declared.Cause.{Cause}
-use Rattle.refusal.specs.declared.Cause.the-variants.{RoundCheckFails, CosetShared}
+use Rattle.refusal.specs.declared.Cause.the-variants.{RoundCheckFails, InputTooLong, CosetShared}
 use Rattle.refusal.specs.declared.Outcome.the-variants.{Done, Refused}
 use Rattle.refusal.specs.declared.Position.the-variants.{At, Absent}
+use Rattle.refusal.specs.Numbers.{numberOf}
 use Rattle.coset.specs.Span.{Independent}
 use Rattle.fri.specs.declared.Answer.the-variants as answers
 use Rattle.fri.specs.Layout.{dimension, lastCount}
@@ -17,14 +18,15 @@ use Rattle.fri.specs.Run.{Run}
 use Rattle.fri.specs.Run as run
 use Rattle.fri.specs.Layers.{honest}
 use Rattle.fri.specs.Checks.{firstShared}
-use Rattle.fri.specs.Judge.{numberOfAnswer, verdictOf}
+use Rattle.fri.specs.Judge.{checksOutcome, numberOfAnswer, verdictOf}
 use Rattle.fri.specs.Demand.{ValidParameters, LowDegree, ValidQueries, Apart, Any, Visits, Sound}
 use Rattle.fri.specs.Theorems.{Tells}
 use Rattle.transcript.specs.Numerals.{AreBytes}
 use Rattle.transcript.specs.Sections.{sectionStart, sectionCount, layerSection, transcriptK, transcriptRate}
 use Rattle.transcript.specs.Sections.{transcriptStep, transcriptSteps, transcriptRounds, runIn, queriesIn}
-use Rattle.transcript.specs.Checks.{parametersSection, cosetSection, challengesSection, transcriptOutcome}
-use Rattle.transcript.specs.Judge.{transcriptVerdict, longestTranscript, inputLimit, inputVerdict}
+use Rattle.transcript.specs.Checks.{parametersSection, cosetSection, challengesSection, frontOutcome}
+use Rattle.transcript.specs.Checks.{transcriptOutcome}
+use Rattle.transcript.specs.Judge.{transcriptVerdict, longestTranscript, longestFront, inputLimit, inputVerdict}
 
 -- the bytes carry the lists that are read from them: parameters in range, the counts due but for the queries',
 -- and nothing follows the last section
@@ -50,12 +52,8 @@ pub record JudgingBytes : Type 0 where
   pub accepted : (bytes : List ℕ) → transcriptVerdict bytes .answer ≡ answers.Accepted → Carries bytes
   pub refused : (bytes : List ℕ) (query round : ℕ)
       → transcriptVerdict bytes .answer ≡ answers.Refused (RoundCheckFails query round) → Carries bytes
-  -- the program's answer: the same, unless there are bytes over the limit (14)
+  -- the program's answer: the same, up to the limit
   pub short : (bytes : List ℕ) → length bytes ≤ inputLimit → inputVerdict bytes ≡ transcriptVerdict bytes
-  pub long : (bytes : List ℕ) → inputLimit < length bytes → Tells (inputVerdict bytes) 14 Absent Absent 0
-  -- so what the program accepts the library accepts
-  pub program-accepted : (bytes : List ℕ) → inputVerdict bytes .answer ≡ answers.Accepted
-      → transcriptVerdict bytes .answer ≡ answers.Accepted
 
 -- number 17 over bytes: sections 1 to 3 pass, section 4 is there to its end with valid queries, and this one is the
 -- first that shares a first-layer coset with an earlier one, whatever follows section 4
@@ -77,6 +75,38 @@ pub record LongTranscripts : Type 0 where
   -- the first bytes, more than that, get the verdict of all
   pub first : (bytes : List ℕ) (read : ℕ) → longestTranscript < read
       → transcriptVerdict (take read bytes) ≡ transcriptVerdict bytes
+
+-- the numbers that sections 1 to 4 give where no byte of them is missing: 2, 4 to 10 and 17
+abbrev pub FrontNumber : (n : ℕ) → Type 0
+FrontNumber n = (n ≡ 2) ⊎ ((4 ≤ n) × (n ≤ 10)) ⊎ (n ≡ 17)
+
+-- the program's answer to inputs over the limit (02, Q-8)
+pub record LongInputs : Type 0 where
+  -- a refusal of sections 1 to 4 is the answer, with 0 reads, and the one that the library gives
+  pub refused : (bytes : List ℕ) (cause : Cause) → inputLimit < length bytes → frontOutcome bytes ≡ Refused cause
+      → (inputVerdict bytes ≡ record { answer = answers.Refused cause; reads = 0 })
+      × (inputVerdict bytes ≡ transcriptVerdict bytes)
+  -- else 14, with 0 reads
+  pub passed : (bytes : List ℕ) → inputLimit < length bytes → frontOutcome bytes ≡ Done
+      → inputVerdict bytes ≡ record { answer = answers.Refused InputTooLong; reads = 0 }
+  -- of bytes that carry lists sections 1 to 4 give what the judge over those lists does before its round checks
+  pub carried : (bytes : List ℕ) → Carries bytes → frontOutcome bytes ≡ checksOutcome (runIn bytes) (queriesIn bytes)
+  -- in as many bytes as the longest of them have, sections 1 to 4 are not cut off (1)
+  pub front-numbers : (bytes : List ℕ) (cause : Cause) → longestFront ≤ length bytes
+      → frontOutcome bytes ≡ Refused cause → FrontNumber (numberOf cause)
+  -- so no other numbers are given than 2, 4 to 10, 14 and 17: never 0, 1, 3 or 11
+  pub numbers : (bytes : List ℕ) → inputLimit < length bytes
+      → FrontNumber (numberOfAnswer (inputVerdict bytes .answer)) ⊎ (numberOfAnswer (inputVerdict bytes .answer) ≡ 14)
+  -- so what the program accepts is not over the limit, and the library accepts it
+  pub accepted : (bytes : List ℕ) → inputVerdict bytes .answer ≡ answers.Accepted
+      → (length bytes ≤ inputLimit) × (transcriptVerdict bytes .answer ≡ answers.Accepted)
+  -- sections 1 to 4, where they pass, end within 2,408 bytes, and these alone decide on them
+  pub front-size : longestFront ≡ 2408
+  pub front-ends : (bytes : List ℕ) → frontOutcome bytes ≡ Done → sectionStart bytes 5 ≤ longestFront
+  pub front-alone : (bytes : List ℕ) (read : ℕ) → longestFront ≤ read
+      → frontOutcome (take read bytes) ≡ frontOutcome bytes
+  -- so the first bytes, more than the limit, get the answer of the whole input, however long it is
+  pub first : (bytes : List ℕ) (read : ℕ) → inputLimit < read → inputVerdict (take read bytes) ≡ inputVerdict bytes
 
 -- demand 3, first half: bytes that carry an honest run of a word of low degree over an independent basis, and a valid
 -- query list in which no two queries share a first-layer coset, are accepted, whatever the offset and the challenges,

@@ -12,7 +12,10 @@ use Rattle.poly.specs.Polynomial.{All}
 use Rattle.poly.proofs.Entries.{all-take, all-drop}
 use Rattle.fri.specs.Layout.{stepsOf, dimension, lastCount, layerStart, storeLength, joinedLayers, storedLayer}
 use Rattle.fri.specs.Run.{Run, stepsIn, roundsIn, layerIn}
-use Rattle.fri.specs.Judge.{verdictOf}
+use Rattle.refusal.specs.declared.Cause.the-variants.{InputTooLong}
+use Rattle.refusal.specs.declared.Outcome.the-variants.{Done}
+use Rattle.fri.specs.declared.Answer.the-variants as answers
+use Rattle.fri.specs.Judge.{checksOutcome, verdictOf}
 use Rattle.fri.specs.Demand.{ValidParameters}
 use Rattle.fri.proofs.Layouts.{some-round, rounds-few}
 use Rattle.transcript.specs.Numerals.{AreBytes}
@@ -23,6 +26,7 @@ use Rattle.transcript.specs.Theorems.{Carries}
 use Rattle.transcript.proofs.Numerals.{length-entries}
 use Rattle.transcript.proofs.Sections.{first-start}
 use Rattle.transcript.proofs.Theorems.{judging-bytes}
+use Rattle.transcript.proofs.LongInputs.{long-inputs}
 use Rattle.written.specs.Transcript.{layersThenLast, listsOf, transcriptOf}
 use Rattle.written.specs.Theorems.{FitsSections, WrittenTranscripts}
 use Rattle.written.proofs.Only.{only, unique}
@@ -273,6 +277,12 @@ module _ (run : Run) (queries : List ℕ) (w : FitsSections run queries) where
   judged-by-program : length bytes ≤ inputLimit → inputVerdict bytes ≡ verdictOf run queries
   judged-by-program h = judging-bytes .short bytes h ∙ judged
 
+  over-limit : inputLimit < length bytes → checksOutcome run queries ≡ Done
+      → inputVerdict bytes ≡ record { answer = answers.Refused InputTooLong; reads = 0 }
+  over-limit h passed =
+      long-inputs .passed bytes h
+      (long-inputs .carried bytes carries ∙ ap₂ checksOutcome run-again queries-again ∙ passed)
+
 -- ---- the theorems
 
 all-bytes : (run : Run) (queries : List ℕ) → AreBytes (transcriptOf run queries)
@@ -292,4 +302,5 @@ written-transcripts =
       others-refused = others-refused;
       judged = judged;
       judged-by-program = judged-by-program;
+      over-limit = over-limit;
     }

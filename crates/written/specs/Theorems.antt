@@ -8,7 +8,7 @@ use lib.ListN.{length}
 use Rattle.gf64.specs.Field.{IsElement}
 use Rattle.poly.specs.Polynomial.{All}
 use Rattle.refusal.specs.declared.Cause.{Cause}
-use Rattle.refusal.specs.declared.Cause.the-variants.{WrongLength}
+use Rattle.refusal.specs.declared.Cause.the-variants.{WrongLength, InputTooLong}
 use Rattle.refusal.specs.declared.Outcome.the-variants.{Done, Refused}
 use Rattle.refusal.specs.Checks.{andThen}
 use Rattle.refusal.specs.Numbers.{numberOf, numberOfOutcome}
@@ -78,10 +78,13 @@ pub record WrittenTranscripts : Type 0 where
   -- judging the bytes by the library is judging the lists, at every length, verdict and reads
   pub judged : (run : Run) (queries : List ℕ) → FitsSections run queries
       → transcriptVerdict (transcriptOf run queries) ≡ verdictOf run queries
-  -- the program does so up to its limit; beyond it, it refuses as it did (`JudgingBytes.long`)
+  -- the program does so up to its limit; beyond it what passes the checks before the round checks gets 14
   pub judged-by-program : (run : Run) (queries : List ℕ) → FitsSections run queries
       → length (transcriptOf run queries) ≤ inputLimit
       → inputVerdict (transcriptOf run queries) ≡ verdictOf run queries
+  pub over-limit : (run : Run) (queries : List ℕ) → FitsSections run queries
+      → inputLimit < length (transcriptOf run queries) → checksOutcome run queries ≡ Done
+      → inputVerdict (transcriptOf run queries) ≡ record { answer = answers.Refused InputTooLong; reads = 0 }
 
 -- the numbers that the writer may give
 abbrev pub WriterNumber : (n : ℕ) → Type 0

@@ -39,8 +39,8 @@ pub enum Cause {
     /// or encoder coefficients, 4 store, 5 last coefficients, 6 output values, 7 next basis, 8
     /// bytes of a transcript.
     WrongLength = 13,
-    /// The input of the program `judge` has over 65,536 bytes. No call of this crate refuses
-    /// so.
+    /// The input of the program `judge` has over 65,536 bytes, and its sections 1 to 4 pass. No
+    /// call of this crate refuses so.
     InputTooLong = 14,
     /// Two queries share a first-layer coset; the place is the first query, from 0, that shares
     /// one with an earlier query.

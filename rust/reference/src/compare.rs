@@ -159,8 +159,8 @@ fn comparison<I: Input, A: Show + PartialEq>(
 fn shrink<I: Input>(input: I, differs: impl Fn(&I) -> bool) -> I {
     let mut smallest = input;
     loop {
-        let mut simpler = smallest.simpler();
-        simpler.retain(|simpler| simpler.size() < smallest.size());
+        let (size, mut simpler) = (smallest.size(), smallest.simpler());
+        simpler.retain(|simpler| simpler.size() < size);
         simpler.sort_by_cached_key(I::size);
         match simpler.into_iter().find(&differs) {
             Some(input) => smallest = input,

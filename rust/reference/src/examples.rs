@@ -38,7 +38,7 @@ pub fn write_to(folder: &Path) -> io::Result<()> {
 
 /// The same ones each time.
 fn all() -> Vec<Example> {
-    [of_table_a(), of_numbers(), of_limits()].concat()
+    [of_table_a(), of_numbers(), of_limits(), of_long_inputs()].concat()
 }
 
 // Table A.
@@ -86,7 +86,7 @@ fn of_numbers() -> Vec<Example> {
     ]
 }
 
-fn changed(change: impl FnOnce(&mut [Section])) -> Vec<u8> {
+fn changed(change: impl FnOnce(&mut Vec<Section>)) -> Vec<u8> {
     let mut sections = sections(&of_case_k(), &[5]);
     change(&mut sections);
     written(&sections)
@@ -107,6 +107,22 @@ fn of_limits() -> Vec<Example> {
     let largest = transcript(&run, &apart(random, parameters, 34));
     let one_more = [&largest[..], &[0]].concat();
     vec![("number_14", one_more), ("largest", largest)]
+}
+
+// Far more bytes than the program takes.
+
+/// Sections 1 to 4 of case K with zeros behind, which are no layers: with k made 21, and as they
+/// are.
+fn of_long_inputs() -> Vec<Example> {
+    let long = |k| {
+        let mut bytes = changed(|all| {
+            all.truncate(4);
+            all[0].entries[0] = k;
+        });
+        bytes.resize(70_000, 0);
+        bytes
+    };
+    vec![("long_with_k_21", long(21)), ("long_with_a_good_front", long(3))]
 }
 
 // Honest runs. They do not change with what is compared, and so the files stay.
@@ -149,6 +165,8 @@ fn challenges(random: &mut Random, cosets: &[Coset]) -> Vec<u64> {
 #[cfg(test)]
 mod tests {
     use super::*;
+    use crate::answer::{refused, refused_at};
+    use crate::transcript::judge;
 
     #[test]
     fn each_number_is_that_of_the_name() {
@@ -157,6 +175,20 @@ mod tests {
                 assert_eq!(format!("{:02}", judge_of_program(&bytes).number), number);
             }
         }
+    }
+
+    /// One byte makes the difference. To the library, which has no limit, a layer is at fault.
+    #[test]
+    fn the_front_of_a_long_input_comes_before_its_length() {
+        let [(_, with_k_21), (_, with_a_good_front)] = &of_long_inputs()[..] else {
+            panic!("two examples");
+        };
+        assert_eq!([with_k_21.len(), with_a_good_front.len()], [70_000; 2]);
+        let bytes = with_k_21.iter().zip(with_a_good_front);
+        assert_eq!(bytes.filter(|(one, other)| one != other).count(), 1);
+        assert_eq!([judge_of_program(with_k_21), judge(with_k_21)], [refused(4); 2]);
+        assert_eq!(judge_of_program(with_a_good_front), refused(14));
+        assert_eq!(judge(with_a_good_front), refused_at(2, 5));
     }
 
     /// Markers shall see that a sheet goes on behind a check that fails.

@@ -16,7 +16,7 @@ pub fn sheet(bytes: &[u8]) -> Vec<u8> {
     }
 }
 
-/// What the program prints: it takes no more bytes than the judging one does.
+/// What the program prints: nothing for more bytes than the judging one takes, whatever they hold.
 pub fn sheet_of_program(bytes: &[u8]) -> Vec<u8> {
     match bytes.len() {
         ..=LARGEST_INPUT => sheet(bytes),

@@ -112,11 +112,8 @@ pub struct Judging {
 
 /// What the bytes carry, or the first cause but a round check.
 pub fn read(bytes: &[u8]) -> Result<Judging, Answer> {
-    let reader = &mut Reader { bytes: bytes.iter(), section: 0 };
-    let parameters = parameters(reader)?;
-    let Coset { offset, basis } = coset(reader, parameters)?;
-    let challenges = reader.section_of(parameters.rounds())?;
-    let queries = queries(reader, parameters)?;
+    let reader = &mut Reader::of(bytes);
+    let Front { parameters, coset: Coset { offset, basis }, challenges, queries } = front(reader)?;
     let mut layer = |i| reader.section_of(parameters.layer_length(i) as u64);
     let word = layer(0)?;
     let mut store = Vec::new();
@@ -127,6 +124,22 @@ pub fn read(bytes: &[u8]) -> Result<Judging, Answer> {
     required(reader.bytes.next().is_none(), refused(BYTES_FOLLOW))?;
     let run = Run { parameters, offset, basis, challenges, word, store, last };
     Ok(Judging { run, queries })
+}
+
+/// What sections 1 to 4 carry.
+struct Front {
+    parameters: Parameters,
+    coset: Coset,
+    challenges: Vec<u64>,
+    queries: Vec<u64>,
+}
+
+fn front(reader: &mut Reader) -> Result<Front, Answer> {
+    let parameters = parameters(reader)?;
+    let coset = coset(reader, parameters)?;
+    let challenges = reader.section_of(parameters.rounds())?;
+    let queries = queries(reader, parameters)?;
+    Ok(Front { parameters, coset, challenges, queries })
 }
 
 fn parameters(reader: &mut Reader) -> Result<Parameters, Answer> {
@@ -159,6 +172,10 @@ struct Reader<'a> {
 }
 
 impl Reader<'_> {
+    fn of(bytes: &[u8]) -> Reader<'_> {
+        Reader { bytes: bytes.iter(), section: 0 }
+    }
+
     /// The entries of the next section, if its number and its count may be.
     fn section(
         &mut self,
@@ -189,12 +206,21 @@ impl Reader<'_> {
 /// The most bytes that the program takes.
 pub const LARGEST_INPUT: usize = 65_536;
 
-/// What the program answers: the length comes before all that the bytes say.
+/// What the program answers.
 pub fn judge_of_program(bytes: &[u8]) -> Answer {
-    if bytes.len() > LARGEST_INPUT {
-        return refused(INPUT_TOO_LONG);
+    match bytes.len() {
+        ..=LARGEST_INPUT => judge(bytes),
+        _ => judge_too_long(bytes),
     }
-    judge(bytes)
+}
+
+/// What it answers to more bytes than it takes: sections 1 to 4 come before the length, and what
+/// is behind them does not count.
+pub fn judge_too_long(bytes: &[u8]) -> Answer {
+    match front(&mut Reader::of(bytes)) {
+        Ok(_) => refused(INPUT_TOO_LONG),
+        Err(refusal) => refusal,
+    }
 }
 
 /// What the program prints for an answer: a header and a line.

@@ -1,5 +1,5 @@
--- `sheet::answer` meets its contract: the sheet is that of the bytes read, and the lent list has room for the largest.
--- Assumes nothing.
+-- `sheet::answer` meets its contract: the sheet is that of the bytes read, which is that of the whole input, and the
+-- lent list has room for the largest. Assumes nothing.
 use mathlib.Core.Path.{_≡_, refl, sym, ap, ap₂, subst, _∙_}
 use mathlib.Core.List.{List}
 use Prim.Native.Nat.{ℕ, _≤_}
@@ -9,9 +9,8 @@ use lib.Seq.{take-append-seam}
 use borrow.Author.Needs.{needs}
 use Rattle.sheet_text.specs.Sheet.{sheetOf, inFront}
 use Rattle.sheet_text.proofs.Theorems.{sheets}
-use Rattle.input.specs.Reading.{printedOf}
 use Rattle.sheet_text.proofs.Fronts.{in-front}
-use Rattle.input.proofs.Printed.{printed-nothing, printed-done, done-within}
+use Rattle.input.proofs.Printed.{prints-nothing, prints-whole, done-within}
 use Rattle.sheet.proofs.answer.Statement.{statement}
 use Rattle.sheet.proofs.answer.Tie as tie
 
@@ -41,7 +40,7 @@ enum-known-reading c = search needs
 
 returns : tie.Need-returns
 returns c = (
-  printed-nothing sheetOf (c .before .before .before .args .reading) (c .before .before .before .args .input .now)
+  prints-nothing sheetOf (c .before .before .before .args .reading) (c .before .before .before .args .input .now)
       (c .match .keys2),
   (search needs, refl),
 )
@@ -56,9 +55,11 @@ bytes-read c = take (c .reading .given .0 .0) (start c .args .input .now)
 within : (c : tie.After-reading) → c .reading .given .0 .0 ≤ length (start c .args .input .now)
 within c = done-within _ _ _ (c .reading .given .1) (start c .pre .1 .0)
 
-as-printed : (c : tie.After-reading)
-    → sheetOf (bytes-read c) ≡ printedOf sheetOf (start c .args .reading) (start c .args .input .now)
-as-printed c = printed-done sheetOf _ _ (start c .args .input .now) (c .reading .given .1)
+-- they have the sheet of every input that they are the first bytes of
+first-sheet : (c : tie.After-reading) (whole : List ℕ)
+    → sheetOf (take (length (start c .args .input .now)) whole) ≡ sheetOf whole
+first-sheet c whole =
+    let size = start c .pre .0 in sheets .whole whole (length (start c .args .input .now)) (omega arith)
 
 room : (c : tie.After-reading) → length (sheetOf (bytes-read c)) ≤ length (start c .args .out .now)
 room c =
@@ -79,8 +80,10 @@ returns-2 c =
     let call = c .before .before .sheet-input in
     let done = c .before .before .before .before .before .before in
     let held = start done .args .out .now in
-    let there = placed _ held (call .last .1 .0) (call .result) (call .ensures .0) (call .ensures .1) (room done) in
-    (there .0 ∙ as-printed done, there .1)
+    let there = placed _ held (call .last .1 .0) (call .result) (call .ensures .0) (call .ensures .1) (room done) in (
+      prints-whole sheetOf _ _ (start done .args .input .now) _ (first-sheet done) (done .reading .given .1) (there .0),
+      there .1,
+    )
 
 pub answer-spec : {M : Type 1} → statement M
 answer-spec =

@@ -120,4 +120,9 @@ fn what_is_too_long_for_the_program_has_no_lines() {
     assert_eq!(sheet(&longer).len(), 100 * 6 * LINE_LENGTH);
     assert!(sheet_of_program(&longer).is_empty());
     assert_eq!(judge_of_program(&longer).number, 14);
+    let far_longer = [&longer[..], &[0; 1_000_000]].concat();
+    let mut with_k_21 = longer;
+    with_k_21[4] = 21;
+    assert_eq!(judge_of_program(&with_k_21).number, 4);
+    assert!([far_longer, with_k_21].iter().all(|bytes| sheet_of_program(bytes).is_empty()));
 }

@@ -145,3 +145,75 @@ fn what_is_refused_is_left() {
         assert_eq!(bytes, transcript(&run, &queries));
     }
 }
+
+// The limit of the program.
+
+/// What is made of the sections, and the answer that is due.
+type Fault = (fn(&mut Vec<Section>), Answer);
+
+/// Case K with two queries and with a fault, and zeros behind.
+fn case_k_at(length: usize, fault: fn(&mut Vec<Section>)) -> Vec<u8> {
+    let mut all = sections(&of_case_k(), &[5, 0]);
+    fault(&mut all);
+    let mut bytes = written(&all);
+    bytes.resize(length, 0);
+    bytes
+}
+
+/// What the paper has as its example is the second of them, with 70,000 bytes.
+#[test]
+fn sections_1_to_4_come_before_the_length() {
+    let faults: [Fault; 14] = [
+        (|all| all[0].count = 2, refused_at(2, 1)),
+        (|all| all[0].entries[0] = 21, refused(4)),
+        (|all| all[0].entries[1] = 7, refused(5)),
+        (|all| all[0].entries[2] = 0, refused(6)),
+        (|all| all[0].entries[1] = 3, refused(7)),
+        (|all| all[1].count = 5, refused_at(2, 2)),
+        (|all| all[1].entries[3] = 3, refused_at(8, 2)),
+        (|all| all[2].count = 1, refused_at(2, 3)),
+        (|all| all[3].count = 0, refused(9)),
+        (|all| all[3].count = 257, refused(9)),
+        (|all| all[3].count = u32::MAX, refused(9)),
+        (|all| all[3].entries[1] = 8, refused_at(10, 1)),
+        (|all| all[3].entries[1] = 4, refused_at(17, 1)),
+        (|all| (all[3].entries[1], all[4].count) = (4, 7), refused_at(17, 1)),
+    ];
+    for (fault, due) in faults {
+        for length in [65_535, 65_536, 65_537, 70_000, 1_000_000] {
+            assert_eq!(judge_of_program(&case_k_at(length, fault)), due);
+        }
+    }
+}
+
+/// The library has no limit: its answer stays.
+#[test]
+fn the_length_comes_before_all_behind_section_4() {
+    let faults: [Fault; 5] = [
+        (|_| (), refused(3)),
+        (|all| all.truncate(4), refused_at(2, 5)),
+        (|all| all[4].count = 9, refused_at(2, 5)),
+        (|all| all[6].count = 0, refused_at(2, 7)),
+        (|all| all[6].entries[0] = 2, refused(3)),
+    ];
+    for (fault, due) in faults {
+        assert_eq!(judge_of_program(&case_k_at(65_536, fault)), due);
+        for length in [65_537, 70_000, 1_000_000] {
+            let bytes = case_k_at(length, fault);
+            assert_eq!((judge(&bytes), judge_of_program(&bytes)), (due, refused(14)));
+        }
+    }
+}
+
+/// So number 1 cannot be due for more bytes than the program takes.
+#[test]
+fn sections_1_to_4_have_at_most_2408_bytes() {
+    let front = |parameters: Parameters| 4 * 4 + 8 * (3 + 1 + parameters.k + parameters.rounds());
+    let longest = all_up_to(20).into_iter().map(|parameters| front(parameters) + 8 * 256).max();
+    assert_eq!(longest, Some(2_408));
+    let parameters = Parameters { k: 20, rate: 1, step: 1 };
+    let Judging { run, queries } = any(&mut Random::named("the longest front"), parameters, 256);
+    let bytes = written(&sections(&run, &queries)[..4]);
+    assert_eq!((bytes.len(), judge_too_long(&bytes)), (2_408, refused(14)));
+    assert_eq!(judge_too_long(&bytes[..2_407]), refused_at(1, 4));
+}

@@ -2,6 +2,7 @@
 //! the sections of honest transcripts, and any bytes.
 
 mod causes;
+mod fronts;
 mod limit;
 
 use super::{Amounts, Bytes};
@@ -38,7 +39,7 @@ enum Source {
     Others(fn(&mut Random, &Amounts) -> Vec<Bytes>),
 }
 
-pub const SORTS: [Sort; 34] = [
+pub const SORTS: [Sort; 36] = [
     Sort("honest runs", Turns([84, 42, 21, 12, 7, 5], &[right::honest_with_queries])),
     Sort("honest runs of large parameters", Honest(Amounts::large)),
     Sort("honest runs of the largest parameters", Honest(Amounts::largest)),
@@ -91,6 +92,8 @@ pub const SORTS: [Sort; 34] = [
     Sort("queries in one coset and faults behind them", Made(3, in_one_coset_with_faults)),
     Sort("several causes", Others(causes::several)),
     Sort("lengths near the limit and far longer", Others(limit::near_the_limit)),
+    Sort("long inputs with a good front", Others(fronts::good)),
+    Sort("long inputs with a bad front", Others(fronts::bad)),
 ];
 
 impl Sort {
@@ -300,8 +303,17 @@ fn with_others(
     place: usize,
     others: fn(&Section) -> Vec<Section>,
 ) -> Vec<Bytes> {
+    with_each(sections, place, |all| others(&all[place]))
+}
+
+/// With each of these, which are made of all sections, at a place.
+fn with_each(
+    sections: &[Section],
+    place: usize,
+    others: impl Fn(&[Section]) -> Vec<Section>,
+) -> Vec<Bytes> {
     let with = |other| changed(sections, |all| all[place] = other);
-    others(&sections[place]).into_iter().map(with).collect()
+    others(sections).into_iter().map(with).collect()
 }
 
 /// With the entries left as they were. The counts are near, far too many, and such that only some

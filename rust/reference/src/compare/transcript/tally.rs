@@ -49,20 +49,22 @@ fn line(name: &str, cell: impl Fn(u64) -> usize) -> String {
 #[cfg(test)]
 mod tests {
     use super::*;
+    use crate::cases::of_case_k;
+    use crate::transcript::transcript;
 
     #[test]
     fn each_byte_string_counts_once() {
         let mut tally = Tally::default();
         let all = |all: &[&[u8]]| all.iter().map(|bytes| bytes.to_vec()).collect();
         assert_eq!(tally.only_new(all(&[b"", b"abcd", b""])), [&b""[..], b"abcd"]);
-        let long = [0; 65_537];
+        let long = [&transcript(&of_case_k(), &[5])[..], &[0; 65_537]].concat();
         assert_eq!(tally.only_new(all(&[b"abcd", b"abcde", &long])), [&b"abcde"[..], &long]);
         let zeros = |count| "     0".repeat(count);
         let due = [
             "transcripts: 4 byte strings, no two of them equal",
             "  number      0     1     2     3     4     5     6     7     8     9    10    11    \
              12    13    14    17",
-            &format!("  library     0     1     3{}", zeros(13)),
+            &format!("  library     0     1     2     1{}", zeros(12)),
             &format!("  program     0     1     2{}     1{}", zeros(11), zeros(1)),
             "",
         ];

@@ -1,6 +1,7 @@
 //! Wrong libraries and wrong programs, and the comparisons that they differ in. No program is
 //! started here: a function stands for it.
 
+mod limit;
 pub(in crate::compare) mod readers;
 
 use super::inputs::Sort;
@@ -86,9 +87,14 @@ const SEVERAL: &str = "several causes";
 const SHARED_DAMAGED: &str = "queries in one coset of damaged runs";
 const FAULTS: &str = "queries in one coset and faults behind them";
 pub const LIMIT: &str = "lengths near the limit and far longer";
+const GOOD_FRONT: &str = "long inputs with a good front";
+const BAD_FRONT: &str = "long inputs with a bad front";
+
+/// The sorts in which the length counts.
+const OF_LENGTHS: [&str; 3] = [LIMIT, GOOD_FRONT, BAD_FRONT];
 
 /// The numbers that are due among the byte strings of each sort.
-const DUE: [(&str, &[u64]); 34] = [
+const DUE: [(&str, &[u64]); 36] = [
     (HONEST, &[0]),
     ("honest runs of large parameters", &[0]),
     ("honest runs of the largest parameters", &[0]),
@@ -123,6 +129,8 @@ const DUE: [(&str, &[u64]); 34] = [
     (FAULTS, &[1, 2, 9, 10, 17]),
     (SEVERAL, &[1, 2, 3, 4, 5, 6, 7, 8, 9, 10, 17]),
     (LIMIT, &[0, 1, 2, 3, 4, 11]),
+    (GOOD_FRONT, &[0, 1, 2, 3, 11]),
+    (BAD_FRONT, &[2, 4, 5, 6, 7, 8, 9, 10, 17]),
 ];
 
 /// All of them, but that few runs may all be accepted or all fail. The same byte strings come each
@@ -155,7 +163,8 @@ fn there_are_twenty_thousand_byte_strings() {
 /// due for them. The sorts that cost much are left out, and so is what takes many reads; of many
 /// byte strings only some are taken.
 static INPUTS: LazyLock<Vec<(&str, Vec<Bytes>, BTreeSet<u64>)>> = LazyLock::new(|| {
-    let sorts = SORTS.iter().filter(|sort| ![FLIPPED, LIMIT].contains(&sort.0));
+    let costs_much = |name| name == FLIPPED || OF_LENGTHS.contains(&name);
+    let sorts = SORTS.iter().filter(|sort| !costs_much(sort.0));
     let with_numbers = |sort: &Sort| {
         let mut inputs = sort.byte_strings(&FEW);
         inputs.retain(|bytes| judge(bytes).reads <= MOST_READS);
@@ -280,45 +289,6 @@ fn wrong_judges_differ_as_they_should() {
     hold_table(&right(), &rows, |judges| {
         INPUTS.iter().flat_map(|(name, inputs, _)| both(judges, name, inputs)).collect()
     });
-}
-
-// How much is taken.
-
-fn with_limit(limit: usize) -> Judges {
-    with_program(move |bytes| match bytes.len() > limit {
-        true => lines(&refused(14)).into_bytes(),
-        false => lines(&judge(bytes)).into_bytes(),
-    })
-}
-
-#[test]
-fn the_limit_is_that_of_the_program() {
-    let cut = with_program(|bytes| right_program(&bytes[..bytes.len().min(LARGEST_INPUT)]));
-    let last = with_program(|bytes| match judge(bytes).number {
-        0 | 3 | 11 => right_program(bytes),
-        _ => lines(&judge(bytes)).into_bytes(),
-    });
-    let placed = printing(|text| text.replace("refused 14 -", "refused 14 65536"));
-    let programs = [
-        row("the limit is one less", with_limit(LARGEST_INPUT - 1)),
-        row("the limit is one more", with_limit(LARGEST_INPUT + 1)),
-        row("there is no limit", with_limit(usize::MAX)),
-        row("what is over the limit is not read, and the rest is judged", cut),
-        row("the limit does not come first", last),
-        row("the limit has a place", placed),
-    ];
-    let programs = programs.map(|row| row.differs(&[format!("program, {LIMIT}")]));
-    let raw_judge =
-        Box::new(|bytes: &[u8], answer: &mut [u64]| into_five(answer, || judge_of_program(bytes)));
-    let library = row("the library has the limit", Judges { raw_judge, ..right() })
-        .differs(&[format!("transcript, {LIMIT}")])
-        .smallest(LIMIT, "65537 bytes: 00 (65537 times)");
-    let taking = row("bytes behind are taken", instead_of([3], readers::taking_behind));
-    let rows = programs.into_iter().chain([library, taking.differs(&[LIMIT])]);
-    let rows: Vec<Row<Judges>> = rows.collect();
-    let [.., limit] = &SORTS;
-    let inputs = limit.byte_strings(&FEW);
-    hold_table(&right(), &rows, |judges| both(judges, limit.0, &inputs).to_vec());
 }
 
 // All comparisons.

@@ -8,6 +8,7 @@ use crate::compare::cosets::any_dependent;
 use crate::parameters::all_up_to;
 use crate::random::Random;
 use crate::transcript::{written, Section};
+use std::ops::Range;
 
 /// The number of a cause, and how the sections of an honest transcript get it.
 type Cause = (u64, fn(&mut Random, &mut Vec<Section>));
@@ -46,6 +47,9 @@ const CAUSES: [Cause; 15] = [
     (11, |_, all| last(all).entries[0] ^= 1),
 ];
 
+/// So many of them, from the first on, are in sections 1 to 4.
+const AT_THE_FRONT: u32 = 11;
+
 /// The largest dimension.
 const LARGEST_K: u64 = 5;
 
@@ -66,13 +70,18 @@ fn take_out_of_range(random: &mut Random, all: &mut [Section], which: usize) {
     *number = wrong[random.below(wrong.len())];
 }
 
+/// A bit stands for each cause.
+const CHOICES: Range<u32> = 0..1 << CAUSES.len();
+
+fn of_two() -> impl Iterator<Item = u32> {
+    CHOICES.filter(|choice| choice.count_ones() == 2)
+}
+
 /// All choices of two causes, and any choices, some times each, and the same cut.
 pub fn several(random: &mut Random, amounts: &Amounts) -> Vec<Bytes> {
     let [times, drawn] = [3, 600].map(|times| amounts.turns.min(times));
-    let choices = 0..1u32 << CAUSES.len();
-    let two = choices.clone().filter(|choice| choice.count_ones() == 2);
-    let mut all: Vec<u32> = two.flat_map(|choice| vec![choice; times]).collect();
-    all.extend((0..drawn).map(|_| random.below(choices.len()) as u32));
+    let mut all: Vec<u32> = of_two().flat_map(|choice| vec![choice; times]).collect();
+    all.extend((0..drawn).map(|_| random.below(CHOICES.len()) as u32));
     let whole = all.into_iter().map(|choice| with_causes(random, choice));
     let whole: Vec<Bytes> = whole.collect();
     let cut = whole.iter().map(|bytes| bytes[..random.below(bytes.len())].to_vec());
@@ -80,8 +89,13 @@ pub fn several(random: &mut Random, amounts: &Amounts) -> Vec<Bytes> {
     [whole, cut].concat()
 }
 
-/// A bit of the choice stands for each cause. The last ones come first, so that none takes back
-/// what is looked for before it.
+/// All choices of two causes with one in sections 1 to 4.
+pub fn two_from_the_front(random: &mut Random) -> Vec<Bytes> {
+    let choices = of_two().filter(|choice| choice.trailing_zeros() < AT_THE_FRONT);
+    choices.map(|choice| with_causes(random, choice)).collect()
+}
+
+/// The last of the causes come first, so that none takes back what is looked for before it.
 fn with_causes(random: &mut Random, choice: u32) -> Bytes {
     let all = all_up_to(LARGEST_K);
     let (parameters, turn) = (all[random.below(all.len())], random.below(420));
@@ -102,9 +116,8 @@ mod tests {
     #[test]
     fn the_first_of_the_causes_is_due() {
         let random = &mut Random::named("several causes");
-        let all = 1..1u32 << CAUSES.len();
-        let few = all.clone().filter(|choice| choice.count_ones() <= 2);
-        for choice in few.chain(all.step_by(97)) {
+        let single = CHOICES.filter(|choice| choice.count_ones() == 1);
+        for choice in single.chain(of_two()).chain(CHOICES.skip(1).step_by(97)) {
             let (number, _) = CAUSES[choice.trailing_zeros() as usize];
             assert_eq!(judge(&with_causes(random, choice)).number, number, "{choice:b}");
         }

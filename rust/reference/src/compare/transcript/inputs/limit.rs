@@ -10,7 +10,7 @@ use crate::transcript::{sections, transcript, Section, LARGEST_INPUT};
 
 /// Parameters and a number of queries that make a transcript exactly as long as the program takes
 /// it.
-const FITTING: (Parameters, usize) = (Parameters { k: 12, rate: 5, step: 1 }, 34);
+pub const FITTING: (Parameters, usize) = (Parameters { k: 12, rate: 5, step: 1 }, 34);
 
 /// How much longer or shorter than the longest.
 const NEAR: [isize; 7] = [-8, -4, -1, 0, 1, 2, 8];
@@ -31,7 +31,7 @@ pub fn near_the_limit(random: &mut Random, _: &Amounts) -> Vec<Bytes> {
 }
 
 /// Cut, or with zeros behind.
-fn made(bytes: &[u8], length: usize) -> Bytes {
+pub fn made(bytes: &[u8], length: usize) -> Bytes {
     let mut bytes = bytes.to_vec();
     bytes.resize(length, 0);
     bytes

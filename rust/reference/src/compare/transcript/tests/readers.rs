@@ -4,7 +4,7 @@
 use super::*;
 use crate::answer::failed;
 use crate::parameters::Parameters;
-use crate::transcript::{written, Section};
+use crate::transcript::{judge_too_long, written, Section};
 
 /// What is answered in place of a refusal.
 type Other = fn(&[u8], Answer) -> Answer;
@@ -94,6 +94,18 @@ fn values_at_the_end(bytes: &[u8], refusal: Answer) -> Answer {
         sections.iter_mut().skip(3).take(1).for_each(|queries| *queries = Section::of(&[0]));
     });
     first_of(with_right_values, refusal)
+}
+
+/// The answer to too many bytes if the counts of sections 1 to 4 come before all their values.
+pub fn counts_first(bytes: &[u8]) -> Answer {
+    let refusal = judge_too_long(bytes);
+    if ![8, 10, 17].contains(&refusal.number) {
+        return refusal;
+    }
+    match values_at_the_end(bytes, refusal) {
+        first if comes_before(first) => first,
+        _ => refusal,
+    }
 }
 
 fn query_count_at_the_end(bytes: &[u8], refusal: Answer) -> Answer {
