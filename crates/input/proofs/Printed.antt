@@ -1,24 +1,28 @@
 -- What is printed, by how reading ended. Assumes nothing.
 use mathlib.Core.Path.{_≡_, refl, sym, ap, subst, _∙_}
 use mathlib.Core.Logic.{⊎-elim}
-use mathlib.Core.List.{List, [], _∷_}
+use mathlib.Core.List.{List, [], _∷_, _++_}
 use Prim.Native.Nat.{ℕ, _≤_}
 use native.Mathlib.Omega.{arith}
 use lib.ListN.{length, take, length-take}
-use lib.Seq.{take-all}
+use lib.Seq.{take-all, take-append-seam}
 use types.Run.{OneOf}
 use denote.Enum.Declared.{tagOf}
 use Rattle.input.specs.declared.Reading.{Reading}
 use Rattle.input.specs.declared.Reading.the-variants.{More, Done, Failed}
-use Rattle.input.specs.Reading.{Over, Prints, PrintsOfRead}
+use Rattle.input.specs.Reading.{Over, Prints, PrintsOfRead, PrintsOfWhole}
 use Rattle.input.proofs.Reading.{the-type}
 
+prints-of-whole : PrintsOfWhole
+prints-of-whole text list rest printed prints =
+    prints (list ++ rest) (take-all (length list) list (omega arith) ∙ sym (take-append-seam list rest))
+
 -- nothing, where the variant is not the second
-pub prints-nothing : (text : List ℕ → List ℕ) (reading : Reading) (list : List ℕ)
+pub prints-nothing : (text : List ℕ → List ℕ) (reading : Reading) (list : List ℕ) → Over (length list) reading
     → OneOf (0 ∷ 2 ∷ []) (tagOf the-type reading) → Prints text reading list []
-prints-nothing text (More count) list keys = refl
-prints-nothing text (Done count) list keys = absurd (⊎-elim (λ e. omega arith) (λ e. omega arith) keys)
-prints-nothing text Failed list keys = refl
+prints-nothing text (More count) list over keys = over
+prints-nothing text (Done count) list over keys = absurd (⊎-elim (λ e. omega arith) (λ e. omega arith) keys)
+prints-nothing text Failed list over keys = refl
 
 -- the text of the whole input, where it is, if the first bytes have the same
 pub prints-whole : (text : List ℕ → List ℕ) (reading : Reading) (count : ℕ) (list printed : List ℕ)

@@ -34,6 +34,7 @@ fn print(lines: &[u8], input: &[u8], reading: Reading)
     io::write_all(STDOUT_FILENO, lines);
 }
 
+// To be read here, since no contract can say it: the reading is what `read` answered, and it is printed once.
 fn main() {
     let mut input = [0u8; 65537];
     let reading = input::read(&mut input);

@@ -43,7 +43,8 @@ pub fn judge(bytes: &[u8]) -> Verdict
     Reader::new(bytes, sections).verdict()
 }
 
-// The whole answer of the program `judge`: up to 65,536 bytes as `judge` says.
+// The whole answer of the program `judge`: up to 65,536 bytes as `judge` says; to more, the first refusal of sections 1
+// to 4, else the length (14).
 pub fn judge_input(bytes: &[u8]) -> Verdict
     ensures { λ r. ⌜ r ≡ inputVerdict (now (bytes .entry)) ⌝ }
 {
@@ -53,7 +54,7 @@ pub fn judge_input(bytes: &[u8]) -> Verdict
     judge(bytes)
 }
 
-// Its answer to more bytes than that: the refusals of sections 1 to 4, then the length (14).
+// Its answer to more bytes than that.
 fn judge_long(bytes: &[u8]) -> Verdict
     ensures { λ r. ⌜ r ≡ longVerdict (now (bytes .entry)) ⌝ }
 {

@@ -76,24 +76,27 @@ pub which : (first after : Outcome) (cause : Cause) → andThen first after ≡ 
 which Done after cause e = inr (refl, e)
 which (Refused other) after cause e = inl e
 
--- ---- what holds of every number that checks may give
+-- ---- what holds of every outcome that checks may have, and of every number
+
+pub holds-unless : (Q : Outcome → Type 0) (test : Bool) (cause : Cause) (after : Outcome) → Q (Refused cause) → Q after
+    → Q (refusedUnless test cause after)
+holds-unless Q true cause after c a = a
+holds-unless Q false cause after c a = c
+
+-- those after the first are asked for where it has passed
+pub holds-after : (Q : Outcome → Type 0) (first after : Outcome) → Q first → (first ≡ Done → Q after)
+    → Q (andThen first after)
+holds-after Q Done after f a = a refl
+holds-after Q (Refused cause) after f a = f
 
 pub number-unless : (P : ℕ → Type 0) (test : Bool) (cause : Cause) (after : Outcome) → P (numberOf cause)
     → P (numberOfOutcome after)
     → P (numberOfOutcome (refusedUnless test cause after))
-number-unless P true cause after c a = a
-number-unless P false cause after c a = c
-
--- where those after it are asked for once the first has passed
-pub number-after : (P : ℕ → Type 0) (first after : Outcome) → P (numberOfOutcome first)
-    → (first ≡ Done → P (numberOfOutcome after))
-    → P (numberOfOutcome (andThen first after))
-number-after P Done after f a = a refl
-number-after P (Refused cause) after f a = f
+number-unless P test cause after c a = holds-unless (λ o. P (numberOfOutcome o)) test cause after c a
 
 pub number-then : (P : ℕ → Type 0) (first after : Outcome) → P (numberOfOutcome first) → P (numberOfOutcome after)
     → P (numberOfOutcome (andThen first after))
-number-then P first after f a = number-after P first after f (λ done. a)
+number-then P first after f a = holds-after (λ o. P (numberOfOutcome o)) first after f (λ done. a)
 
 -- ---- two tests in one
 

@@ -1,5 +1,6 @@
 // The marking program: reads a transcript from standard input and prints its marking sheet. One byte over the limit of
-// 65,536 is read, so that a longer input is known. Where a read fails nothing is printed.
+// 65,536 is read, so that a longer input is known; what follows it decides nothing. Where a read fails nothing is
+// printed.
 use input::Reading;
 use libc::STDOUT_FILENO;
 ghost use mathlib.Core.Path.{_≡_};
@@ -31,6 +32,7 @@ fn print(lines: &[u8], input: &[u8], reading: Reading)
     io::write_all(STDOUT_FILENO, lines);
 }
 
+// To be read here, since no contract can say it: the reading is what `read` answered, and it is printed once.
 fn main() {
     let mut input = [0u8; 65537];
     let reading = input::read(&mut input);

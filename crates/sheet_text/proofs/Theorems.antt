@@ -27,7 +27,7 @@ use Rattle.transcript.specs.Judge.{transcriptVerdict, longestTranscript, inputL
 use Rattle.transcript.specs.Theorems.{FrontNumber}
 use Rattle.transcript.proofs.Carried.{checks-are, passed-carries}
 use Rattle.transcript.proofs.Theorems.{judging-bytes, long-transcripts}
-use Rattle.transcript.proofs.LongInputs.{long-inputs}
+use Rattle.transcript.proofs.LongInputs.{long-inputs, never}
 use Rattle.transcript.proofs.Theorems as transcripts
 use Rattle.line_text.specs.Digits.{bytes, digits, placesWithin, decimal}
 use Rattle.line_text.proofs.Decimals.{length-digits}
@@ -243,13 +243,7 @@ beside judge agrees =
 
 -- over the limit the program gives neither 0 nor 11
 other-numbers : (n : ℕ) → FrontNumber n ⊎ (n ≡ 14) → (eqb n 0 || eqb n 11) ≡ false
-other-numbers n given = let others = by given in ap₂ _||_ (ne-eqb n 0 (others .0)) (ne-eqb n 11 (others .1))
-  where
-    by : FrontNumber n ⊎ (n ≡ 14) → (n ≢ 0) × (n ≢ 11)
-    by (inl (inl two)) = (λ e. omega arith, λ e. omega arith)
-    by (inl (inr (inl range))) = (λ e. omega arith, λ e. omega arith)
-    by (inl (inr (inr seventeen))) = (λ e. omega arith, λ e. omega arith)
-    by (inr fourteen) = (λ e. omega arith, λ e. omega arith)
+other-numbers n given = let others = never n given in ap₂ _||_ (ne-eqb n 0 (others .0)) (ne-eqb n 11 (others .3))
 
 long-lines : (input : List ℕ) → inputLimit < length input → hasLines (inputVerdict input .answer) ≡ false
 long-lines input h = other-numbers (numberOfAnswer (inputVerdict input .answer)) (long-inputs .numbers input h)

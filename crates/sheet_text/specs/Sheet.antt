@@ -72,7 +72,7 @@ sheetBy judge input = cond (hasLines (judge input .answer)) (sheetLines (runIn i
 abbrev pub transcriptSheet : (input : List ℕ) → List ℕ
 transcriptSheet = sheetBy transcriptVerdict
 
--- what the program `sheet` prints of its input: nothing over the limit
+-- what the program `sheet` prints of its input: nothing over the limit (`Sheets.long`)
 abbrev pub sheetOf : (input : List ℕ) → List ℕ
 sheetOf = sheetBy inputVerdict
 

@@ -28,12 +28,12 @@ use Rattle.fri.proofs.Verdicts.{refused-of}
 use Rattle.transcript.specs.Sections.{sectionStart, sectionCount, transcriptK, transcriptRate, transcriptStep}
 use Rattle.transcript.specs.Sections.{transcriptSteps, transcriptRounds, runIn, queriesIn}
 use Rattle.transcript.specs.Checks.{sectionOutcome, dueOutcome, parametersSection, cosetSection}
-use Rattle.transcript.specs.Checks.{challengesSection, queriesSection, listsOutcome, frontOutcome, layersFrom}
-use Rattle.transcript.specs.Checks.{endOutcome, layersOutcome, transcriptOutcome}
+use Rattle.transcript.specs.Checks.{challengesSection, queriesSection, listsOutcome, frontOutcome}
+use Rattle.transcript.specs.Checks.{layersOutcome, transcriptOutcome}
 use Rattle.transcript.specs.Judge.{transcriptVerdict}
 use Rattle.transcript.specs.Theorems.{SharedInBytes}
 use Rattle.transcript.proofs.Checks.{section-done}
-use Rattle.transcript.proofs.Refusals.{section-number, due-number, layers-number, end-number}
+use Rattle.transcript.proofs.Refusals.{section-number, due-number, behind-number}
 use Rattle.transcript.proofs.Carried.{queries-section}
 use Rattle.transcript.proofs.Theorems.{refused-verdict}
 
@@ -73,9 +73,7 @@ module _ (bytes : List ℕ) (query : ℕ) where
       (basis-number Other (low 0 (omega arith)) (small 8 (omega arith)) (runIn bytes .basis))
 
   layers-other : Other (numberOfOutcome (layersOutcome bytes))
-  layers-other =
-      number-then Other (layersFrom bytes 0 (transcriptRounds bytes)) (endOutcome bytes)
-      (layers-number Other low bytes 0 (transcriptRounds bytes)) (end-number Other low bytes)
+  layers-other = behind-number Other low bytes
 
   abbrev counted : Bool
   counted = leb 1 (sectionCount bytes 4) && leb (sectionCount bytes 4) 256

@@ -22,13 +22,13 @@ transcriptVerdict bytes =
       reads = readsAfter (transcriptOutcome bytes) (entriesRead (runIn bytes) (queriesIn bytes));
     }
 
--- the bytes of the longest sections 1 to 4 that pass, with k 20, R 1, η 1 and 256 queries: 4 counts of 4 bytes; 3
--- parameters, offset and basis, 19 challenges, 256 queries
+-- how many bytes the longest sections 1 to 4 that pass have, with k 20, R 1, η 1 and 256 queries: 4 counts of 4 bytes;
+-- 3 parameters, 21 of offset and basis, 19 challenges and 256 queries of 8
 abbrev pub longestFront : ℕ
 longestFront = 4 * 4 + 8 * (3 + 21 + 19 + 256)
 
--- those of the longest transcript that passes, of the same parameters: behind them 20 counts, layers of 2^20 to 2^2
--- entries and one last coefficient
+-- how many the longest transcript that passes has, of the same parameters: behind these 20 counts, layers of 2^20 to
+-- 2^2 entries and one last coefficient
 abbrev pub longestTranscript : ℕ
 longestTranscript = longestFront + 4 * 20 + 8 * (2 ^ 21 - 2 ^ 2 + 1)
 

@@ -7,11 +7,12 @@ use Prim.Native.Nat.{ℕ, suc, _+_, _*_, _-_, _^_, _≤_, _<_}
 use lib.ListN.{length, take}
 use Rattle.poly.specs.Polynomial.{All}
 use Rattle.refusal.specs.declared.Cause.{Cause}
-use Rattle.refusal.specs.declared.Cause.the-variants.{RoundCheckFails, InputTooLong, CosetShared}
+use Rattle.refusal.specs.declared.Cause.the-variants.{CountDiffers, RoundCheckFails, InputTooLong, CosetShared}
 use Rattle.refusal.specs.declared.Outcome.the-variants.{Done, Refused}
 use Rattle.refusal.specs.declared.Position.the-variants.{At, Absent}
 use Rattle.refusal.specs.Numbers.{numberOf}
 use Rattle.coset.specs.Span.{Independent}
+use Rattle.fri.specs.declared.Answer.{Answer}
 use Rattle.fri.specs.declared.Answer.the-variants as answers
 use Rattle.fri.specs.Layout.{dimension, lastCount}
 use Rattle.fri.specs.Run.{Run}
@@ -80,8 +81,15 @@ pub record LongTranscripts : Type 0 where
 abbrev pub FrontNumber : (n : ℕ) → Type 0
 FrontNumber n = (n ≡ 2) ⊎ ((4 ≤ n) × (n ≤ 10)) ⊎ (n ≡ 17)
 
+-- a refusal by such a number, in one of sections 1 to 4: 2 is given for other sections too, the others are not
+abbrev pub RefusedInFront : (answer : Answer) → Type 0
+RefusedInFront answer =
+    ((section : ℕ) × (section ≤ 3) × (answer ≡ answers.Refused (CountDiffers section)))
+    ⊎ ((4 ≤ numberOfAnswer answer) × (numberOfAnswer answer ≤ 10)) ⊎ (numberOfAnswer answer ≡ 17)
+
 -- the program's answer to inputs over the limit (02, Q-8)
 pub record LongInputs : Type 0 where
+  pub limit : inputLimit ≡ 65536
   -- a refusal of sections 1 to 4 is the answer, with 0 reads, and the one that the library gives
   pub refused : (bytes : List ℕ) (cause : Cause) → inputLimit < length bytes → frontOutcome bytes ≡ Refused cause
       → (inputVerdict bytes ≡ record { answer = answers.Refused cause; reads = 0 })
@@ -89,9 +97,17 @@ pub record LongInputs : Type 0 where
   -- else 14, with 0 reads
   pub passed : (bytes : List ℕ) → inputLimit < length bytes → frontOutcome bytes ≡ Done
       → inputVerdict bytes ≡ record { answer = answers.Refused InputTooLong; reads = 0 }
+  -- said by the library's verdict alone: a refusal of sections 1 to 4 stands, every other verdict becomes 14
+  pub by-library : (bytes : List ℕ) → inputLimit < length bytes
+      → (RefusedInFront (transcriptVerdict bytes .answer) → inputVerdict bytes ≡ transcriptVerdict bytes)
+      × ((RefusedInFront (transcriptVerdict bytes .answer) → ⊥)
+      → inputVerdict bytes ≡ record { answer = answers.Refused InputTooLong; reads = 0 })
+  -- 02's own case: k is over 20
+  pub large-dimension : (bytes : List ℕ) → inputLimit < length bytes → sectionCount bytes 1 ≡ 3
+      → 20 < transcriptK bytes → Tells (inputVerdict bytes) 4 Absent Absent 0
   -- of bytes that carry lists sections 1 to 4 give what the judge over those lists does before its round checks
   pub carried : (bytes : List ℕ) → Carries bytes → frontOutcome bytes ≡ checksOutcome (runIn bytes) (queriesIn bytes)
-  -- in as many bytes as the longest of them have, sections 1 to 4 are not cut off (1)
+  -- from 2,408 bytes on none of sections 1 to 4 is cut off (1)
   pub front-numbers : (bytes : List ℕ) (cause : Cause) → longestFront ≤ length bytes
       → frontOutcome bytes ≡ Refused cause → FrontNumber (numberOf cause)
   -- so no other numbers are given than 2, 4 to 10, 14 and 17: never 0, 1, 3 or 11
@@ -105,7 +121,8 @@ pub record LongInputs : Type 0 where
   pub front-ends : (bytes : List ℕ) → frontOutcome bytes ≡ Done → sectionStart bytes 5 ≤ longestFront
   pub front-alone : (bytes : List ℕ) (read : ℕ) → longestFront ≤ read
       → frontOutcome (take read bytes) ≡ frontOutcome bytes
-  -- so the first bytes, more than the limit, get the answer of the whole input, however long it is
+  -- so the first bytes, if more than the limit, as the 65,537 that the program reads, get the answer of the whole
+  -- input, however long it is
   pub first : (bytes : List ℕ) (read : ℕ) → inputLimit < read → inputVerdict (take read bytes) ≡ inputVerdict bytes
 
 -- demand 3, first half: bytes that carry an honest run of a word of low degree over an independent basis, and a valid

@@ -19,6 +19,7 @@ enum-known-reading c = search needs
 returns : tie.Need-returns
 returns c = (
   prints-nothing verdictLines (c .before .before .args .reading) (c .before .before .args .input .now)
+      (c .before .before .pre .1)
       (c .match .keys2),
   (search needs, refl),
 )

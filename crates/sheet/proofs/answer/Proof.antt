@@ -41,7 +41,7 @@ enum-known-reading c = search needs
 returns : tie.Need-returns
 returns c = (
   prints-nothing sheetOf (c .before .before .before .args .reading) (c .before .before .before .args .input .now)
-      (c .match .keys2),
+      (c .before .before .before .pre .1 .0) (c .match .keys2),
   (search needs, refl),
 )
 
