@@ -1,7 +1,8 @@
 -- `reader::judge_input` meets its contract. Assumes nothing.
 use mathlib.Core.Path.{sym, _∙_}
-use Rattle.transcript.proofs.Theorems.{short, long}
+use native.Mathlib.Omega.{arith}
 use borrow.Author.Needs.{needs}
+use Rattle.transcript.proofs.Theorems.{short, long}
 use Rattle.reader.proofs.judge_input.Statement.{statement}
 use Rattle.reader.proofs.judge_input.Tie as tie
 
@@ -10,7 +11,8 @@ judge-long-requires c κs = search needs
 
 returns : tie.Need-returns
 returns c =
-    c .judge-long .ensures ∙ sym (long (c .before .before .before .args .bytes .now) (c .before .if1 .taken))
+    c .judge-long .ensures
+    ∙ sym (long (c .before .before .before .args .bytes .now) (omega (arith, c .before .if1 .taken)))
 
 judge-requires : tie.Need-judge-requires
 judge-requires c κs = search needs
