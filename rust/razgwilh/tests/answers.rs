@@ -1,14 +1,23 @@
-//! The causes are those of docs/NUMBERS.md, and no answer reads as accepted but number 0.
+//! The causes are those of docs/NUMBERS.md and docs/CALLERS.md, and no answer reads as accepted
+//! but number 0.
 
 use razgwilh::raw::{self, Answer, NONE};
 use razgwilh::{inverse, judge, transcript_length, write_transcript, Cause, Refusal, Run};
 
-#[test]
-fn causes_are_those_of_the_table() {
-    let table = include_str!("../../../docs/NUMBERS.md")
+/// The rows of a document's table of numbers.
+fn rows(document: &str) -> impl Iterator<Item = &str> {
+    let table = document
         .lines()
         .skip_while(|line| !line.starts_with("| number | cause | place | round |"));
-    let rows: Vec<&str> = table.skip(2).take_while(|line| line.starts_with('|')).collect();
+    table.skip(2).take_while(|line| line.starts_with('|'))
+}
+
+#[test]
+fn causes_are_those_of_the_tables() {
+    let operators = rows(include_str!("../../../docs/NUMBERS.md"));
+    let callers = rows(include_str!("../../../docs/CALLERS.md"));
+    let mut rows: Vec<&str> = operators.chain(callers).collect();
+    rows.sort_by_key(|row| row.split('|').nth(1).and_then(|cell| cell.trim().parse::<u64>().ok()));
     assert_eq!(rows.len(), Cause::ALL.len());
     let declared = include_str!("../src/refusal.rs").lines().filter(|line| line.contains(" = "));
     assert_eq!(declared.filter(|line| line.ends_with(',')).count(), rows.len());

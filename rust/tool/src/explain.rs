@@ -1,9 +1,11 @@
-//! Verdicts in words, and what an operator does next, as docs/NUMBERS.md has it.
+//! Verdicts in words, and what an operator or a caller does next, as docs/NUMBERS.md and
+//! docs/CALLERS.md have it.
 
 use crate::lines::Verdict;
 use razgwilh::Cause;
 
 const NUMBERS: &str = include_str!("../../../docs/NUMBERS.md");
+const CALLERS: &str = include_str!("../../../docs/CALLERS.md");
 
 /// What an operator does next after an acceptance.
 const AFTER_ACCEPTANCE: &str =
@@ -25,10 +27,10 @@ pub fn after_refusal(cause: Cause) -> &'static str {
     documented(cause).unwrap_or("Hold.")
 }
 
-/// The same in the table of numbers, behind number, cause, place and round.
+/// The same in the tables of numbers, behind number, cause, place and round.
 fn documented(cause: Cause) -> Option<&'static str> {
     let front = format!("| {} | {} |", cause.number(), cause.words());
-    let rest = NUMBERS.lines().find_map(|line| line.strip_prefix(&front))?;
+    let rest = NUMBERS.lines().chain(CALLERS.lines()).find_map(|line| line.strip_prefix(&front))?;
     rest.split('|').nth(2).map(str::trim)
 }
 
