@@ -24,10 +24,10 @@
 #include <stddef.h>
 #include <stdint.h>
 
-#define RZ_VERSION "0.9.0"
+#define RZ_VERSION "0.9.1"
 #define RZ_VERSION_MAJOR 0
 #define RZ_VERSION_MINOR 9
-#define RZ_VERSION_PATCH 0
+#define RZ_VERSION_PATCH 1
 
 #ifdef __cplusplus
 extern "C" {

@@ -1,0 +1,178 @@
+//! What every document keeps to: the width of its lines, words that strangers know, links that lead
+//! somewhere, files that are there, and causes that stand behind their own number.
+
+use crate::markdown::{self, Document, Part};
+use crate::Checked;
+use razgwilh::Cause;
+use std::path::Path;
+
+/// Prose and code end before this column; rows of tables may be longer.
+const WIDTH: usize = 100;
+
+/// Words that only those who wrote the library would know; in quotation marks they are explained.
+const UNEXPLAINED: [&str; 5] = ["buyer", "demand 1", "demand 2", "demand 3", "Table A"];
+
+/// Words in the names of files that stand for others, as in `crates/NAME/src`.
+const PLACEHOLDERS: [&str; 4] = ["NAME", "CRATE", "LABEL", "NN"];
+
+/// The folders at the root that documents name files of.
+const FOLDERS: [&str; 7] = ["crates/", "docs/", "examples/", "include/", "rust/", "tests/", ".ci/"];
+
+pub fn check(root: &Path) -> Checked {
+    let documents = markdown::documents(root)?;
+    let mut wrong = Vec::new();
+    let (mut links, mut files, mut causes) = (0, 0, 0);
+    for document in &documents {
+        let told = wrong.len();
+        check_lines(document, &mut wrong);
+        links += check_links(root, document, &mut wrong);
+        files += check_files(root, document, &mut wrong);
+        causes += check_causes(document, &mut wrong);
+        for line in &mut wrong[told..] {
+            *line = format!("{}: {line}", document.name);
+        }
+    }
+    if !wrong.is_empty() {
+        return Err(wrong.join("\n    "));
+    }
+    let count = documents.len();
+    Ok(format!("{count} documents, {links} links, {files} files, {causes} causes by their number"))
+}
+
+fn check_lines(document: &Document, wrong: &mut Vec<String>) {
+    for (i, line) in document.lines.iter().enumerate() {
+        let width = line.text.chars().count();
+        if width >= WIDTH && line.part != Part::Table {
+            wrong.push(format!("line {} has {width} columns", i + 1));
+        }
+        if line.text.ends_with(char::is_whitespace) {
+            wrong.push(format!("line {} ends with white space", i + 1));
+        }
+    }
+    let words = document.words();
+    let unexplained = |word: &&&str| words.replace(&format!("\"{word}\""), "").contains(**word);
+    for word in UNEXPLAINED.iter().filter(unexplained) {
+        wrong.push(format!("\"{word}\" is no stranger's word"));
+    }
+}
+
+/// Each `](TARGET)` is a file, or a heading of this document.
+fn check_links(root: &Path, document: &Document, wrong: &mut Vec<String>) -> usize {
+    let words = document.words();
+    let folder = Path::new(&document.name).parent().unwrap_or(Path::new(""));
+    let targets: Vec<&str> = words
+        .split("](")
+        .skip(1)
+        .filter_map(|rest| rest.split_once(')'))
+        .map(|(to, _)| to)
+        .collect();
+    for target in &targets {
+        let there = match target.strip_prefix('#') {
+            Some(heading) => headings(document).any(|known| known == heading),
+            None => root.join(folder).join(target).exists(),
+        };
+        if !there {
+            wrong.push(format!("a link leads to {target}, which is not there"));
+        }
+    }
+    targets.len()
+}
+
+/// The headings, as links name them.
+fn headings(document: &Document) -> impl Iterator<Item = String> + '_ {
+    let lines = document.lines.iter().filter(|line| line.part == Part::Prose);
+    lines.filter(|line| line.text.starts_with('#')).map(|line| {
+        let heading = line.text.trim_start_matches('#').trim().to_lowercase();
+        let kept = heading.chars().filter(|c| c.is_alphanumeric() || " -_".contains(*c));
+        kept.map(|c| if c == ' ' { '-' } else { c }).collect()
+    })
+}
+
+/// Each name between backticks that begins with a folder of the root is there. Release notes may
+/// name what is gone, as decisions that are superseded may.
+fn check_files(root: &Path, document: &Document, wrong: &mut Vec<String>) -> usize {
+    if ["RELEASE_NOTES.md", "docs/DECISIONS.md"].contains(&&document.name[..]) {
+        return 0;
+    }
+    let words = document.words();
+    let quoted = words.split('`').skip(1).step_by(2);
+    let plain = |name: &&str| name.chars().all(|c| c.is_ascii_alphanumeric() || "/._-".contains(c));
+    let files = quoted.filter(|name| FOLDERS.iter().any(|folder| name.starts_with(folder)));
+    let placeholder = |name: &str| name.split(['/', '.', '_']).any(|w| PLACEHOLDERS.contains(&w));
+    let files: Vec<&str> = files.filter(plain).filter(|name| !placeholder(name)).collect();
+    for name in files.iter().filter(|name| !there(root, name)) {
+        wrong.push(format!("`{name}` is not there"));
+    }
+    files.len()
+}
+
+/// What a build makes, or a file, whose ending may be left off, as in `examples/largest`.
+fn there(root: &Path, name: &str) -> bool {
+    let endings = ["", ".antt", ".transcript"];
+    name.starts_with("rust/target/")
+        || endings.iter().any(|ending| root.join(format!("{name}{ending}")).exists())
+}
+
+/// Wherever a document says a cause, its number stands near before it or, in parentheses, right
+/// behind it: "number 11, a round check fails", "bytes after the last section (3)".
+fn check_causes(document: &Document, wrong: &mut Vec<String>) -> usize {
+    let words = document.words();
+    let mut count = 0;
+    for cause in Cause::ALL {
+        let (number, text) = (cause.number().to_string(), cause.words());
+        for (at, _) in words.match_indices(text).filter(|(at, _)| !words[..*at].ends_with("no ")) {
+            count += 1;
+            let (before, behind) = (last(&words[..at], NEAR), &words[at + text.len()..]);
+            let numbered = before.split(|c: char| !c.is_ascii_digit()).any(|word| word == number);
+            if !numbered && !behind.starts_with(&format!(" ({number})")) {
+                wrong.push(format!("a cause without its number: ..{before}{text}"));
+            }
+        }
+    }
+    count
+}
+
+/// How many characters may stand between a number and its cause.
+const NEAR: usize = 48;
+
+/// The last so many characters of a text.
+fn last(text: &str, count: usize) -> &str {
+    text.char_indices().rev().nth(count - 1).map_or(text, |(i, _)| &text[i..])
+}
+
+#[cfg(test)]
+mod tests {
+    use super::*;
+
+    fn wrong_causes(text: &str) -> usize {
+        let mut wrong = Vec::new();
+        check_causes(&Document::new("", text), &mut wrong);
+        wrong.len()
+    }
+
+    #[test]
+    fn a_cause_has_its_number_near() {
+        let right = [
+            "11 (a round\ncheck fails)",
+            "| 4 | k out of range |",
+            "bytes after the last section (3)",
+            "no two queries share a first-layer coset",
+        ];
+        let wrong = ["a round check fails", "12 (a round check fails)", "14: k out of range (5)"];
+        assert!(right.iter().all(|text| wrong_causes(text) == 0));
+        assert!(wrong.iter().all(|text| wrong_causes(text) == 1));
+    }
+
+    #[test]
+    fn lines_links_and_words() {
+        let mut wrong = Vec::new();
+        let wide = format!("| {} |\n{}\n", "x".repeat(120), "y".repeat(WIDTH));
+        check_lines(&Document::new("", &wide), &mut wrong);
+        assert_eq!(wrong, ["line 2 has 100 columns"]);
+        let document = Document::new("", "# A b\n[a](#a-b) [b](#b) \"Table A\" demand\n3");
+        check_lines(&document, &mut wrong);
+        assert_eq!(check_links(Path::new(""), &document, &mut wrong), 2);
+        let due = ["\"demand 3\" is no stranger's word", "a link leads to #b, which is not there"];
+        assert_eq!(wrong[1..], due);
+    }
+}
