@@ -39,9 +39,9 @@ extern "C" {
  * modulo t^64 + t^4 + t^3 + t + 1.
  *
  * A coset of dimension k has an offset, any element, and a basis of k independent elements; its
- * point j, for j below 2^k, is the offset plus the sum of all basis elements t whose bit t of j is
- * set. A word lists 2^k values in point order. A polynomial is the list of its coefficients,
- * constant first. */
+ * point j, for j below 2^k, is the offset plus the sum of the basis elements b_t for which bit t
+ * of j is set. A word lists 2^k values in point order. A polynomial is the list of its
+ * coefficients, constant first. */
 
 /* 2. THE ANSWER
  *
@@ -88,10 +88,11 @@ static inline int rz_done(struct rz_answer answer);
 
 /* 3. THE NUMBERS
  *
- * Each with its cause, in the words of docs/NUMBERS.md, which says what an operator does next. A
- * number, once given, keeps its cause for good. Retired, and not used again: 15, the inverse of
- * zero, which versions up to 0.6 gave; 16, a later layer's basis is dependent, for which versions
- * up to 0.7 checked and which never came about. Beside RZ_NONE there are no others. */
+ * Each with its cause, in the words of docs/NUMBERS.md, which says what an operator does next, and
+ * of docs/CALLERS.md, with rate for R and step for eta. A number, once given, keeps its cause for
+ * good. Retired, and not used again: 15, the inverse of zero, which versions up to 0.6 gave; 16, a
+ * later layer's basis is dependent, for which versions up to 0.7 checked and which never came
+ * about. Beside RZ_NONE there are no others. */
 enum rz_number {
     RZ_ACCEPTED = 0,
     /* the bytes end in a count or its entries */

@@ -91,12 +91,12 @@ impl Folder {
     /// Where output is due, the commands print it, whatever their status; else they succeed.
     fn run(&self, commands: &str, due: Option<&Block>) -> Result<(), String> {
         let path = std::env::var("PATH").unwrap_or_default();
-        let output = Command::new("bash")
+        let output = Command::new("sh")
             .args(["-c", commands])
             .current_dir(&self.0)
             .env("PATH", format!("{}:{path}", self.0.join("commands").display()))
             .output()
-            .map_err(|error| format!("bash: {error}"))?;
+            .map_err(|error| format!("sh: {error}"))?;
         match due {
             Some(due) => compare(&String::from_utf8_lossy(&output.stdout), due),
             None if output.status.success() => Ok(()),

@@ -88,8 +88,8 @@ fn headings(document: &Document) -> impl Iterator<Item = String> + '_ {
     })
 }
 
-/// Each name between backticks that begins with a folder of the root is there. Release notes may
-/// name what is gone, as decisions that are superseded may.
+/// Each name between backticks that begins with a folder of the root or with a crate is there.
+/// Release notes may name what is gone, as decisions that are superseded may.
 fn check_files(root: &Path, document: &Document, wrong: &mut Vec<String>) -> usize {
     if ["RELEASE_NOTES.md", "docs/DECISIONS.md"].contains(&&document.name[..]) {
         return 0;
@@ -97,7 +97,10 @@ fn check_files(root: &Path, document: &Document, wrong: &mut Vec<String>) -> usi
     let words = document.words();
     let quoted = words.split('`').skip(1).step_by(2);
     let plain = |name: &&str| name.chars().all(|c| c.is_ascii_alphanumeric() || "/._-".contains(c));
-    let files = quoted.filter(|name| FOLDERS.iter().any(|folder| name.starts_with(folder)));
+    let in_crate = |name: &str| {
+        name.split_once('/').is_some_and(|(first, _)| root.join("crates").join(first).is_dir())
+    };
+    let files = quoted.filter(|name| FOLDERS.iter().any(|f| name.starts_with(f)) || in_crate(name));
     let placeholder = |name: &str| name.split(['/', '.', '_']).any(|w| PLACEHOLDERS.contains(&w));
     let files: Vec<&str> = files.filter(plain).filter(|name| !placeholder(name)).collect();
     for name in files.iter().filter(|name| !there(root, name)) {
@@ -106,11 +109,16 @@ fn check_files(root: &Path, document: &Document, wrong: &mut Vec<String>) -> usi
     files.len()
 }
 
-/// What a build makes, or a file, whose ending may be left off, as in `examples/largest`.
+/// What a build makes, or a file or folder, whose ending may be left off, as in `examples/largest`;
+/// in a crate also an edit, as in `field/sum_is_not_or`.
 fn there(root: &Path, name: &str) -> bool {
     let endings = ["", ".antt", ".transcript"];
-    name.starts_with("rust/target/")
-        || endings.iter().any(|ending| root.join(format!("{name}{ending}")).exists())
+    let mut names: Vec<String> = endings.iter().map(|ending| format!("{name}{ending}")).collect();
+    names.extend(endings.iter().map(|ending| format!("crates/{name}{ending}")));
+    names.extend(
+        name.split_once('/').map(|(own, edit)| format!("crates/{own}/must-fail/{edit}.edit")),
+    );
+    name.starts_with("rust/target/") || names.iter().any(|name| root.join(name).exists())
 }
 
 /// Wherever a document says a cause, its number stands near before it or, in parentheses, right

@@ -2,8 +2,8 @@
 //!
 //! An element is a 64-bit number: bit i is the coefficient of t^i, and elements multiply modulo
 //! t^64 + t^4 + t^3 + t + 1. A coset has an offset, any element, and a basis of k independent
-//! elements; its point j is the offset plus the sum of all basis elements t whose bit t of j is
-//! set. A word lists 2^k values in point order. A polynomial is the list of its coefficients,
+//! elements; its point j is the offset plus the sum of the basis elements b_t for which bit t of j
+//! is set. A word lists 2^k values in point order. A polynomial is the list of its coefficients,
 //! constant first.
 //!
 //! There is arithmetic ([`sum`], [`product`], [`inverse`], and [`invert`] for a whole list),

@@ -17,7 +17,7 @@ pub fn text(run: &Folding) -> String {
             lines += &page.round(layer);
         }
     }
-    lines
+    lines + "Indices are decimal, all else is hexadecimal; brackets mark the path of the query.\n"
 }
 
 struct Page<'a> {
