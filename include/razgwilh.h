@@ -422,9 +422,9 @@ static inline struct rz_answer rz_judge_transcript_answer(const uint8_t *bytes, 
  *         0        0   0 000000000000000b 000000000000000b ok
  *
  * Gives the length of the sheet in bytes: 56 * queries * r where rz_judge_transcript_answer gives
- * number 0 or 11, and 0, for no lines, where it gives another. Every line is `ok` exactly where
- * number is 0; else the first `no` stands at the query and round of number 11. No number of part 3
- * is given.
+ * number 0 or 11, and 0, for no lines, where it gives another. Where there are lines, all are `ok`
+ * exactly where number is 0; else the first `no` stands at the query and round of number 11. No
+ * number of part 3 is given.
  *
  * Where the sheet is not longer than `room`, how many bytes `out` has, the front of `out` becomes
  * the sheet and the rest stays as it was; else all of `out` stays as it was. So the length can be

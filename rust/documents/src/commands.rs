@@ -8,43 +8,60 @@ use std::os::unix::fs::{symlink, PermissionsExt};
 use std::path::{Path, PathBuf};
 use std::process::Command;
 
-/// Stands in for `rt` and `./library`, whose work is done where documents are checked: the programs
-/// and the static library that they make are there, or it fails.
-const DONE_BEFORE: &str = "#!/bin/sh\n[ -x target/bin/judge ] && [ -x target/bin/sheet ] && \
-                           [ -f target/staticlib/librazgwilh.a ]\n";
+/// Stands in for `./library`, whose work is done where documents are checked: the programs and the
+/// static library are there, or it fails.
+const LIBRARY: &str = "#!/bin/sh\n[ -x target/bin/judge ] && [ -x target/bin/sheet ] && \
+                       [ -f target/staticlib/librazgwilh.a ]\n";
 
-/// A block that has one of these is shown and not run: the gate itself, and what would wait for a
-/// person.
-const NOT_RUN: [&str; 1] = ["./test"];
+/// Stands in for `rt check CRATE..`, as `./library` does; it knows the crates and no other command.
+const RT: &str = "#!/bin/sh\n[ \"$1\" = check ] && shift && \
+                  for name; do [ -d \"crates/$name\" ] || exit 1; done && ./library\n";
+
+/// The gate itself is shown and not run.
+const GATE: &str = "./test";
+
+/// The languages of blocks.
+const LANGUAGES: [&str; 4] = ["sh", "text", "c", "rust,no_run"];
 
 pub fn check(root: &Path) -> Checked {
     let (mut run, mut compared) = (0, 0);
     for document in markdown::documents(root)? {
         let blocks = document.blocks();
-        if !blocks.iter().any(|block| block.language == "sh") {
-            continue;
-        }
         let folder = Folder::new(root)?;
-        for (block, next) in blocks.iter().zip(blocks.iter().skip(1).map(Some).chain([None])) {
-            let place = format!("{}, line {}", document.name, block.line);
-            let due = next.filter(|next| next.follows && next.language == "text");
-            match &block.language[..] {
-                "sh" if NOT_RUN.iter().any(|command| block.text.contains(command)) => (),
-                "sh" => {
-                    folder.run(&block.text, due).map_err(|error| format!("{place}: {error}"))?;
-                    run += 1;
-                    compared += usize::from(due.is_some());
-                }
-                _ => folder.keep(block)?,
+        for (i, block) in blocks.iter().enumerate() {
+            let place = |wrong: String| format!("{}, line {}: {wrong}", document.name, block.line);
+            fits(block, i.checked_sub(1).map(|i| &blocks[i])).map_err(place)?;
+            let gate = block.text.split_whitespace().any(|word| word == GATE);
+            if block.language == "sh" && !gate {
+                let due = blocks.get(i + 1).filter(|next| next.language == "text");
+                folder.run(&block.text, due).map_err(place)?;
+                run += 1;
+                compared += usize::from(due.is_some());
             }
+            folder.keep(block).map_err(place)?;
         }
     }
-    Ok(format!("{run} blocks of commands run, of {compared} the output compared"))
+    match compared {
+        0 => Err("no output is compared".into()),
+        _ => Ok(format!("{run} blocks of commands run, of {compared} the output compared")),
+    }
 }
 
-/// What is due, where a line of two points stands for lines that are not shown.
+/// Output stands right behind its commands, so that none is left out for another fence.
+fn fits(block: &Block, before: Option<&Block>) -> Result<(), String> {
+    if !LANGUAGES.contains(&&block.language[..]) {
+        return Err(format!("a block of {:?}, which is none of {LANGUAGES:?}", block.language));
+    }
+    let behind_commands = block.follows && before.is_some_and(|before| before.language == "sh");
+    match block.language == "text" && !behind_commands {
+        true => Err("output that follows no commands".into()),
+        false => Ok(()),
+    }
+}
+
+/// What is due, where two points in the first line stand for lines that are not shown.
 fn compare(printed: &str, due: &Block) -> Result<(), String> {
-    let shown = due.text.rsplit_once("..\n").map_or(&due.text[..], |(_, shown)| shown);
+    let shown = due.text.strip_prefix("..\n").unwrap_or(&due.text);
     if shown == printed {
         return Ok(());
     }
@@ -68,8 +85,8 @@ impl Folder {
         }
         fs::remove_file(folder.0.join("library"))?;
         fs::create_dir(folder.0.join("commands"))?;
-        for name in ["library", "commands/rt"] {
-            fs::write(folder.0.join(name), DONE_BEFORE)?;
+        for (name, script) in [("library", LIBRARY), ("commands/rt", RT)] {
+            fs::write(folder.0.join(name), script)?;
             fs::set_permissions(folder.0.join(name), fs::Permissions::from_mode(0o755))?;
         }
         Ok(folder)

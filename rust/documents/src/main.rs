@@ -5,6 +5,7 @@ mod commands;
 mod counts;
 mod course;
 mod markdown;
+mod orders;
 mod pictures;
 mod words;
 
@@ -17,9 +18,10 @@ type Checked = Result<String, String>;
 type Check = fn(&Path) -> Checked;
 
 /// The checks, by the name that their lines begin with.
-const CHECKS: [(&str, Check); 5] = [
+const CHECKS: [(&str, Check); 6] = [
     ("words", words::check),
     ("counts", counts::check),
+    ("orders", orders::check),
     ("commands", commands::check),
     ("course", course::check),
     ("pictures", pictures::check),

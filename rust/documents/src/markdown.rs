@@ -40,7 +40,6 @@ impl Document {
             let fence = text.trim_start().starts_with("```");
             let part = match text.trim_start() {
                 _ if fence || inside => Part::Code,
-                // Indented code stands behind four spaces, as do lines of a list in a list.
                 start if start.starts_with('|') => Part::Table,
                 _ => Part::Prose,
             };

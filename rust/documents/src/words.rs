@@ -1,16 +1,18 @@
-//! What every document keeps to: the width of its lines, words that strangers know, links that lead
-//! somewhere, files that are there, and causes that stand behind their own number.
+//! What every document keeps to: the width of its lines, words that strangers know, links that
+//! lead somewhere, files and names that are there, and causes beside their own number.
 
 use crate::markdown::{self, Document, Part};
 use crate::Checked;
 use razgwilh::Cause;
-use std::path::Path;
+use std::collections::HashSet;
+use std::fs;
+use std::path::{Path, PathBuf};
 
 /// Prose and code end before this column; rows of tables may be longer.
 const WIDTH: usize = 100;
 
 /// Words that only those who wrote the library would know; in quotation marks they are explained.
-const UNEXPLAINED: [&str; 5] = ["buyer", "demand 1", "demand 2", "demand 3", "Table A"];
+const UNEXPLAINED: [&str; 6] = ["buyer", "demand 1", "demand 2", "demand 3", "Demand 3", "Table A"];
 
 /// Words in the names of files that stand for others, as in `crates/NAME/src`.
 const PLACEHOLDERS: [&str; 4] = ["NAME", "CRATE", "LABEL", "NN"];
@@ -21,13 +23,15 @@ const FOLDERS: [&str; 7] = ["crates/", "docs/", "examples/", "include/", "rust/"
 pub fn check(root: &Path) -> Checked {
     let documents = markdown::documents(root)?;
     let mut wrong = Vec::new();
-    let (mut links, mut files, mut causes) = (0, 0, 0);
+    let known = known_words(root)?;
+    let (mut links, mut files, mut causes, mut names) = (0, 0, 0, 0);
     for document in &documents {
         let told = wrong.len();
         check_lines(document, &mut wrong);
         links += check_links(root, document, &mut wrong);
         files += check_files(root, document, &mut wrong);
         causes += check_causes(document, &mut wrong);
+        names += check_names(&known, document, &mut wrong);
         for line in &mut wrong[told..] {
             *line = format!("{}: {line}", document.name);
         }
@@ -36,7 +40,7 @@ pub fn check(root: &Path) -> Checked {
         return Err(wrong.join("\n    "));
     }
     let count = documents.len();
-    Ok(format!("{count} documents, {links} links, {files} files, {causes} causes by their number"))
+    Ok(format!("{count} documents, {links} links, {files} files, {names} names, {causes} causes"))
 }
 
 fn check_lines(document: &Document, wrong: &mut Vec<String>) {
@@ -50,6 +54,9 @@ fn check_lines(document: &Document, wrong: &mut Vec<String>) {
         }
     }
     let words = document.words();
+    if words.matches('`').count() % 2 == 1 {
+        wrong.push("a backtick without another".to_owned());
+    }
     let unexplained = |word: &&&str| words.replace(&format!("\"{word}\""), "").contains(**word);
     for word in UNEXPLAINED.iter().filter(unexplained) {
         wrong.push(format!("\"{word}\" is no stranger's word"));
@@ -91,7 +98,7 @@ fn headings(document: &Document) -> impl Iterator<Item = String> + '_ {
 /// Each name between backticks that begins with a folder of the root or with a crate is there.
 /// Release notes may name what is gone, as decisions that are superseded may.
 fn check_files(root: &Path, document: &Document, wrong: &mut Vec<String>) -> usize {
-    if ["RELEASE_NOTES.md", "docs/DECISIONS.md"].contains(&&document.name[..]) {
+    if tells_of_the_past(document) {
         return 0;
     }
     let words = document.words();
@@ -121,19 +128,83 @@ fn there(root: &Path, name: &str) -> bool {
     name.starts_with("rust/target/") || names.iter().any(|name| root.join(name).exists())
 }
 
+/// Release notes and decisions may name what is gone.
+fn tells_of_the_past(document: &Document) -> bool {
+    ["RELEASE_NOTES.md", "docs/DECISIONS.md"].contains(&&document.name[..])
+}
+
+/// Each name between backticks, as `Element::sum`, `Subspaces.zero` or `rz_fold`, is made of words
+/// that stand in code, definitions, tests or the names of files.
+fn check_names(known: &HashSet<String>, document: &Document, wrong: &mut Vec<String>) -> usize {
+    if tells_of_the_past(document) {
+        return 0;
+    }
+    let words = document.words();
+    let quoted = words.split('`').skip(1).step_by(2);
+    let names = quoted.filter(|name| name.chars().all(|c| is_in_word(c) || ":.".contains(c)));
+    let names: Vec<&str> = names.filter(|name| name.contains(char::is_alphabetic)).collect();
+    for name in &names {
+        // A word that ends with a stroke is the front of others.
+        let whole = |word: &str| !word.is_empty() && !word.ends_with(['_', '-']);
+        let unknown = |word: &&str| whole(word) && !known.contains(*word);
+        if let Some(word) = name.split([':', '.']).find(unknown) {
+            wrong.push(format!("`{name}`: nothing is called {word}"));
+        }
+    }
+    names.len()
+}
+
+fn is_in_word(c: char) -> bool {
+    c.is_ascii_alphanumeric() || "_-".contains(c)
+}
+
+/// The words of all files that are no documents, and of the names of all files.
+fn known_words(root: &Path) -> Result<HashSet<String>, String> {
+    let mut known = HashSet::new();
+    let mut open: Vec<PathBuf> = FOLDERS.iter().map(|folder| root.join(folder)).collect();
+    open.extend(
+        ["crates.txt", "test", "library", "install", "README.md"].map(|name| root.join(name)),
+    );
+    while let Some(path) = open.pop() {
+        let name = path.file_name().unwrap_or_default().to_string_lossy().into_owned();
+        known.extend(name.split('.').map(str::to_owned));
+        if path.is_dir() {
+            let entries = fs::read_dir(&path).map_err(|e| format!("{}: {e}", path.display()))?;
+            open.extend(
+                entries.flatten().map(|e| e.path()).filter(|path| !path.ends_with("target")),
+            );
+        } else if !name.ends_with(".md") {
+            let text = String::from_utf8_lossy(&fs::read(&path).unwrap_or_default()).into_owned();
+            let words = text.split(|c| !is_in_word(c)).filter(|word| !word.is_empty());
+            known.extend(words.map(str::to_owned));
+        }
+    }
+    Ok(known)
+}
+
+/// The cause that no number has any more and that no other sentence says.
+const RETIRED: (u64, &str) = (16, "a later layer's basis is dependent");
+
 /// Wherever a document says a cause, its number stands near before it or, in parentheses, right
-/// behind it: "number 11, a round check fails", "bytes after the last section (3)".
+/// behind it: "number 11, a round check fails", "bytes after the last section (3)". And where it
+/// says "number 11 (..", the cause of 11 follows.
 fn check_causes(document: &Document, wrong: &mut Vec<String>) -> usize {
     let words = document.words();
+    let causes = Cause::ALL.iter().map(|cause| (cause.number(), cause.words()));
     let mut count = 0;
-    for cause in Cause::ALL {
-        let (number, text) = (cause.number().to_string(), cause.words());
+    for (number, text) in causes.chain([RETIRED]) {
+        let number = number.to_string();
         for (at, _) in words.match_indices(text).filter(|(at, _)| !words[..*at].ends_with("no ")) {
             count += 1;
             let (before, behind) = (last(&words[..at], NEAR), &words[at + text.len()..]);
             let numbered = before.split(|c: char| !c.is_ascii_digit()).any(|word| word == number);
             if !numbered && !behind.starts_with(&format!(" ({number})")) {
                 wrong.push(format!("a cause without its number: ..{before}{text}"));
+            }
+        }
+        for (at, opened) in words.match_indices(&format!("number {number} (")) {
+            if !words[at + opened.len()..].starts_with(text.split(':').next().unwrap_or(text)) {
+                wrong.push(format!("number {number} and not its cause: {}", &words[at..at + 20]));
             }
         }
     }
