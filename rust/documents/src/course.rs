@@ -38,8 +38,9 @@ mod sheets;
 mod text;
 mod transcript;
 
+use crate::coset::Coset;
 use crate::{markdown, Checked};
-use cases::{Case, Coset, Sections};
+use cases::{Case, Sections};
 use document::{ensure, Document, Held};
 use programs::{Line, Programs};
 use std::fs;

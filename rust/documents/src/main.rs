@@ -2,6 +2,7 @@
 
 mod assignment;
 mod commands;
+mod coset;
 mod counts;
 mod course;
 mod markdown;

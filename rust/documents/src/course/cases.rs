@@ -4,50 +4,10 @@ use super::document::{ensure, Held};
 use super::pair::Pair;
 use super::text::list;
 use crate::assignment::Assignment;
-use razgwilh::{product, sum, Fold, Run};
+use crate::coset::Coset;
+use razgwilh::{product, sum, Run};
 use std::fmt::{self, Display, Formatter};
 use std::slice;
-
-#[derive(Clone)]
-pub struct Coset {
-    pub offset: u64,
-    pub basis: Vec<u64>,
-}
-
-impl Coset {
-    pub fn of(offset: u64, basis: &[u64]) -> Coset {
-        Coset { offset, basis: basis.to_vec() }
-    }
-
-    pub fn encode(&self, coefficients: &[u64]) -> Held<Vec<u64>> {
-        let mut values = vec![0; 1 << self.basis.len()];
-        razgwilh::encode(self.offset, &self.basis, coefficients, &mut values)?;
-        Ok(values)
-    }
-
-    pub fn interpolate(&self, word: &[u64]) -> Held<Vec<u64>> {
-        let mut coefficients = vec![0; word.len()];
-        razgwilh::interpolate(self.offset, &self.basis, word, &mut coefficients)?;
-        Ok(coefficients)
-    }
-
-    /// The points: the values of X.
-    pub fn points(&self) -> Held<Vec<u64>> {
-        self.encode(&[0, 1])
-    }
-
-    pub fn fold(&self, word: &[u64], step: usize, challenge: u64) -> Held<(Coset, Vec<u64>)> {
-        let k = self.basis.len();
-        let (mut values, mut basis) = (vec![0; word.len() >> step], vec![0; k - step]);
-        let given = Fold { k, step, offset: self.offset, basis: &self.basis, word, challenge };
-        let offset = razgwilh::fold(given, &mut values, &mut basis)?;
-        Ok((Coset { offset, basis }, values))
-    }
-
-    pub fn next(&self, step: usize) -> Held<Coset> {
-        Ok(self.fold(&vec![0; 1 << self.basis.len()], step, 0)?.0)
-    }
-}
 
 /// `offset 0, basis 1, 2`
 impl Display for Coset {

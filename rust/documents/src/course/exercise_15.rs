@@ -1,12 +1,13 @@
 //! Exercise 15: values of every layer, and the prover that drops the inner offset.
 
-use super::cases::{Case, Coset, Steps};
+use super::cases::{Case, Steps};
 use super::document::Place::{Answer, Exercise};
 use super::document::{ensure, Held};
 use super::faults::every_line_fails;
 use super::rounds::visited;
 use super::text::{decimals, hex, list, thousands};
 use super::Course;
+use crate::coset::Coset;
 use razgwilh::{product, sum};
 
 pub fn check(course: &Course) -> Held {

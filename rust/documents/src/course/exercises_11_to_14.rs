@@ -1,12 +1,13 @@
 //! Exercises 11 to 14: judging, writing and marking.
 
-use super::cases::{Case, Coset, Sections};
+use super::cases::{Case, Sections};
 use super::document::Place::{Answer, Exercise};
 use super::document::{ensure, Held};
 use super::programs::cause;
 use super::rounds::visited;
 use super::text::{decimals, thousands};
 use super::Course;
+use crate::coset::Coset;
 use razgwilh::rounds;
 
 pub fn check(course: &Course) -> Held {

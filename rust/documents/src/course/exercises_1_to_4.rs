@@ -1,12 +1,13 @@
 //! Exercises 1 to 4: the field, cosets, encoding, and folds by hand.
 
-use super::cases::{Case, Coset};
+use super::cases::Case;
 use super::document::Place::{Answer, Exercise};
 use super::document::{ensure, Held};
 use super::field::{line_for_basis, reduced, reduction};
 use super::programs::cause;
 use super::text::{hex, list, polynomial};
 use super::Course;
+use crate::coset::Coset;
 use razgwilh::{inverse, product, sum};
 
 pub fn check(course: &Course) -> Held {

@@ -1,11 +1,12 @@
 //! Exercises 5 to 9: whole runs, a damaged entry, and exceptional challenges.
 
-use super::cases::{Case, Coset};
+use super::cases::Case;
 use super::document::Place::{Answer, Exercise};
 use super::document::{ensure, Held};
 use super::pair::Pair;
 use super::text::{decimals, list};
 use super::Course;
+use crate::coset::Coset;
 use razgwilh::{product, sum};
 
 pub fn check(course: &Course) -> Held {

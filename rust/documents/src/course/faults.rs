@@ -1,10 +1,11 @@
 //! Section 11: the four faults that are explained, each made and judged.
 
-use super::cases::{fold_pairs, Case, Coset, Sections};
+use super::cases::{fold_pairs, Case, Sections};
 use super::document::{ensure, Held, Place::Section};
 use super::programs::Line;
 use super::text::list;
 use super::Course;
+use crate::coset::Coset;
 
 pub fn check(course: &Course) -> Held {
     paired_with_half(course)?;
@@ -77,7 +78,7 @@ fn folded_over(case: &Case, points: &[u64]) -> Held<(Sections, Vec<u64>)> {
 
 /// Points of the first two elements of the basis, from this offset.
 fn points_over(case: &Case, offset: u64) -> Held<Vec<u64>> {
-    Coset::of(offset, &case.coset.basis[..2]).points()
+    Ok(Coset::of(offset, &case.coset.basis[..2]).points()?)
 }
 
 /// Fault 2.

@@ -1,10 +1,11 @@
 //! Sections 3 and 4: the field, cosets and bases.
 
-use super::cases::{Coset, Sections};
+use super::cases::Sections;
 use super::document::{ensure, Held, Place::Section};
 use super::programs::{cause, Line};
 use super::text::{hex, list, polynomial};
 use super::Course;
+use crate::coset::Coset;
 use razgwilh::{inverse, product, sum};
 
 pub fn check(course: &Course) -> Held {

@@ -1,10 +1,11 @@
 //! Sections 5 and 6: evaluation, interpolation and the fold of one coset.
 
-use super::cases::{fold_pairs, Coset, Steps};
+use super::cases::{fold_pairs, Steps};
 use super::document::{ensure, Held, Place::Section};
 use super::pair::Pair;
 use super::text::list;
 use super::Course;
+use crate::coset::Coset;
 use razgwilh::{inverse, product, sum};
 
 pub fn check(course: &Course) -> Held {

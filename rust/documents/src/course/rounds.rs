@@ -1,11 +1,12 @@
 //! Sections 7 and 8: the rounds of case K, and what the judge checks and reads.
 
-use super::cases::{Coset, Sections};
+use super::cases::Sections;
 use super::document::{ensure, Held, Place::Section};
 use super::pair::Pair;
 use super::programs::Line;
 use super::text::{decimals, list};
 use super::Course;
+use crate::coset::Coset;
 use razgwilh::{last_length, rounds, sum};
 
 pub fn check(course: &Course) -> Held {

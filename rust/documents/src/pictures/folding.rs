@@ -23,11 +23,11 @@ fn rows(run: &Folding, layer: usize) -> [(&'static str, Vec<String>); 3] {
 }
 
 fn offset(run: &Folding, layer: usize) -> String {
-    format!("offset {}", element(run.layers[layer].offset))
+    format!("offset {}", element(run.layers[layer].coset.offset))
 }
 
 fn basis(run: &Folding, layer: usize) -> String {
-    format!("basis {}", listed(&run.layers[layer].basis, |b| element(*b)))
+    format!("basis {}", listed(&run.layers[layer].coset.basis, |b| element(*b)))
 }
 
 fn fold(run: &Folding, round: usize) -> String {

@@ -1,7 +1,8 @@
 //! A run, layer after layer, as the proved library computes it.
 
 use crate::assignment::Assignment;
-use razgwilh::{encode, fold, interpolate, judge, prove, Fold, Refusal, Run};
+use crate::coset::Coset;
+use razgwilh::{judge, prove, Refusal, Run};
 
 /// The most points that a picture has room for are 2^6.
 const LARGEST: usize = 6;
@@ -25,8 +26,7 @@ pub struct Folding {
 }
 
 pub struct Layer {
-    pub offset: u64,
-    pub basis: Vec<u64>,
+    pub coset: Coset,
     pub points: Vec<u64>,
     pub values: Vec<u64>,
 }
@@ -41,7 +41,8 @@ impl Folding {
         let [query] = assignment.queries[..] else {
             return Err("a picture has one query".into());
         };
-        let word = encoded(*offset, basis, &assignment.coefficients).map_err(shown)?;
+        let coset = Coset::of(*offset, basis);
+        let word = coset.encode(&assignment.coefficients).map_err(shown)?;
         let (k, rate, step) = (*k, *rate, *step);
         let run = Run { k, rate, step, offset: *offset, basis, challenges, word: &word };
         let (mut store, mut last) = (vec![0; run.store_length()], vec![0; run.last_length()]);
@@ -85,39 +86,17 @@ impl Folding {
 }
 
 impl Layer {
-    /// The points are the values of X.
-    fn new(offset: u64, basis: Vec<u64>, values: Vec<u64>) -> Result<Layer, Refusal> {
-        let points = encoded(offset, &basis, &[0, 1])?;
-        Ok(Layer { offset, basis, points, values })
+    fn new(coset: Coset, values: Vec<u64>) -> Result<Layer, Refusal> {
+        Ok(Layer { points: coset.points()?, coset, values })
     }
-
-    fn folded(&self, step: usize, challenge: u64) -> Result<Layer, Refusal> {
-        let k = self.basis.len();
-        let (mut values, mut basis) = (vec![0; 1 << (k - step)], vec![0; k - step]);
-        let given = Fold {
-            k,
-            step,
-            offset: self.offset,
-            basis: &self.basis,
-            word: &self.values,
-            challenge,
-        };
-        let offset = fold(given, &mut values, &mut basis)?;
-        Layer::new(offset, basis, values)
-    }
-}
-
-fn encoded(offset: u64, basis: &[u64], coefficients: &[u64]) -> Result<Vec<u64>, Refusal> {
-    let mut values = vec![0; 1 << basis.len()];
-    encode(offset, basis, coefficients, &mut values)?;
-    Ok(values)
 }
 
 /// By folds alone.
 fn layers(run: Run) -> Result<Vec<Layer>, Refusal> {
-    let mut layers = vec![Layer::new(run.offset, run.basis.to_vec(), run.word.to_vec())?];
+    let mut layers = vec![Layer::new(Coset::of(run.offset, run.basis), run.word.to_vec())?];
     for (i, challenge) in run.challenges.iter().enumerate() {
-        layers.push(layers[i].folded(run.step, *challenge)?);
+        let (coset, values) = layers[i].coset.fold(&layers[i].values, run.step, *challenge)?;
+        layers.push(Layer::new(coset, values)?);
     }
     Ok(layers)
 }
@@ -127,8 +106,7 @@ fn layers(run: Run) -> Result<Vec<Layer>, Refusal> {
 fn compare(layers: &[Layer], store: &[u64], last: &[u64]) -> Result<(), String> {
     let [_, between @ .., end] = layers else { return Err("no round".into()) };
     let values: Vec<u64> = between.iter().flat_map(|layer| layer.values.clone()).collect();
-    let mut coefficients = vec![0; end.values.len()];
-    interpolate(end.offset, &end.basis, &end.values, &mut coefficients).map_err(shown)?;
+    let coefficients = end.coset.interpolate(&end.values).map_err(shown)?;
     let (first, others) = coefficients.split_at(last.len());
     if values != store || first != last || others.iter().any(|other| *other != 0) {
         return Err("the folds and the prover differ".into());
