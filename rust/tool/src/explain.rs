@@ -11,9 +11,9 @@ const CALLERS: &str = include_str!("../../../docs/CALLERS.md");
 const AFTER_ACCEPTANCE: &str =
     "Before settling, compare sections 1 to 4 of the file with what was agreed and drawn: the \
      judge takes parameters, offset, basis, challenges and queries as the file has them. See also \
-     that word and layers are those that were fixed before the challenges were drawn, and that no \
-     judging of the same layers was refused with 11 (a round check fails): entries that no query \
-     reads may hold anything.";
+     that each layer is the one that was fixed before its challenge was drawn, and that no judging \
+     of the same layers was refused with 11 (a round check fails): entries that no query reads may \
+     hold anything.";
 
 /// Number and cause in words, and what to do next: two indented lines, without the last one's
 /// end.
