@@ -6,9 +6,8 @@ use razgwilh::{inverse, judge, transcript_length, write_transcript, Cause, Refus
 
 /// The rows of a document's table of numbers.
 fn rows(document: &str) -> impl Iterator<Item = &str> {
-    let table = document
-        .lines()
-        .skip_while(|line| !line.starts_with("| number | cause | place | round |"));
+    let table =
+        document.lines().skip_while(|line| !line.starts_with("| number | cause | place | round |"));
     table.skip(2).take_while(|line| line.starts_with('|'))
 }
 
