@@ -144,7 +144,7 @@ fn check_names(known: &HashSet<String>, document: &Document, wrong: &mut Vec<Str
     let names = quoted.filter(|name| name.chars().all(|c| is_in_word(c) || ":.".contains(c)));
     let names: Vec<&str> = names.filter(|name| name.contains(char::is_alphabetic)).collect();
     for name in &names {
-        // A word that ends with a stroke is the front of others.
+        // A word that ends with a stroke is the front of others, as `c_`.
         let whole = |word: &str| !word.is_empty() && !word.ends_with(['_', '-']);
         let unknown = |word: &&str| whole(word) && !known.contains(*word);
         if let Some(word) = name.split([':', '.']).find(unknown) {
@@ -202,9 +202,11 @@ fn check_causes(document: &Document, wrong: &mut Vec<String>) -> usize {
                 wrong.push(format!("a cause without its number: ..{before}{text}"));
             }
         }
+        // Of the lists that the cause of 13 goes on with, a document may say none.
+        let cause = text.split(':').next().unwrap_or(text);
         for (at, opened) in words.match_indices(&format!("number {number} (")) {
-            if !words[at + opened.len()..].starts_with(text.split(':').next().unwrap_or(text)) {
-                wrong.push(format!("number {number} and not its cause: {}", &words[at..at + 20]));
+            if !words[at + opened.len()..].starts_with(cause) {
+                wrong.push(format!("\"{opened}\" without its cause: {cause}"));
             }
         }
     }
@@ -237,7 +239,7 @@ mod tests {
             "bytes after the last section (3)",
             "no two queries share a first-layer coset",
         ];
-        let wrong = ["a round check fails", "12 (a round check fails)", "14: k out of range (5)"];
+        let wrong = ["a round check fails", "14: k out of range (5)", "number 12 (é"];
         assert!(right.iter().all(|text| wrong_causes(text) == 0));
         assert!(wrong.iter().all(|text| wrong_causes(text) == 1));
     }
