@@ -1,11 +1,11 @@
 // The verdict on the run that the bytes of a transcript carry.
 ghost use Rattle.std.specs.Prelude.{◌≡◌};
 ghost use Rattle.refusal.specs.declared.Outcome.TheVariants as outcomes;
-ghost use Rattle.fri.specs.Judge.{verdictOf};
-ghost use Rattle.transcript.specs.Sections.{runIn, queriesIn};
-ghost use Rattle.transcript.specs.Checks.{transcriptOutcome};
-ghost use Rattle.transcript.specs.Judge.{transcriptVerdict};
-ghost use Rattle.sections.specs.Views.{sectionsIn};
+ghost use Rattle.fri.specs.Judge.{verdict_of};
+ghost use Rattle.transcript.specs.Sections.{run_in, queries_in};
+ghost use Rattle.transcript.specs.Checks.{transcript_outcome};
+ghost use Rattle.transcript.specs.Judge.{transcript_verdict};
+ghost use Rattle.sections.specs.Views.{sections_in};
 
 use fri::{Answer, Verdict};
 use refusal::Outcome;
@@ -13,8 +13,8 @@ use sections::Sections;
 
 // The verdict on a transcript whose sections begin there.
 pub fn verdict(bytes: &[u8], sections: Sections) -> Verdict
-    requires { sections ≡ sectionsIn bytes.now }
-    ensures { result ≡ transcriptVerdict bytes.now }
+    requires { sections ≡ sections_in bytes.now }
+    ensures { result ≡ transcript_verdict bytes.now }
 {
     let outcome = layer_sections::checked(bytes, sections);
     match outcome {
@@ -28,8 +28,8 @@ pub fn verdict(bytes: &[u8], sections: Sections) -> Verdict
 
 // The verdict where all sections pass.
 fn judge_checked(bytes: &[u8], sections: Sections) -> Verdict
-    requires { (sections ≡ sectionsIn bytes.now) × (transcriptOutcome bytes.now ≡ outcomes.Done) }
-    ensures { let sent = bytes.now in result ≡ verdictOf (runIn sent) (queriesIn sent) }
+    requires { (sections ≡ sections_in bytes.now) × (transcript_outcome bytes.now ≡ outcomes.Done) }
+    ensures { let sent = bytes.now in result ≡ verdict_of (run_in sent) (queries_in sent) }
 {
     let lists = small_lists::read(bytes, sections);
     let basis = lists.basis;

@@ -5,164 +5,164 @@ use mathlib.Core.List.{List}
 use Prim.Native.Nat.{ℕ, zero, suc, ◌+◌, ◌≤◌}
 use native.Mathlib.Omega.{arith}
 use lib.ListN.{length, take, length-take}
-use Rattle.poly.proofs.Filling.{padded-taken}
+use Rattle.poly.proofs.Filling.{padded_taken}
 use Rattle.refusal.specs.declared.Outcome.TheVariants.{Done}
 use Rattle.fri.specs.Run.{Run}
-use Rattle.fri.specs.Judge.{checksOutcome}
+use Rattle.fri.specs.Judge.{checks_outcome}
 use Rattle.layout.specs.declared.Parameters.{Parameters}
 use Rattle.transcript.specs.Numerals.{AreBytes, entries_at}
-use Rattle.transcript.specs.Sections.{sectionStart, sectionCount, layerSection, transcriptK, transcriptSteps}
-use Rattle.transcript.specs.Sections.{transcriptRounds, runIn, queriesIn}
-use Rattle.transcript.specs.Checks.{transcriptOutcome}
+use Rattle.transcript.specs.Sections.{section_start, section_count, layer_section, transcript_k, transcript_steps}
+use Rattle.transcript.specs.Sections.{transcript_rounds, run_in, queries_in}
+use Rattle.transcript.specs.Checks.{transcript_outcome}
 use Rattle.transcript.specs.Theorems.{Carries}
-use Rattle.transcript.proofs.Numerals.{length-entries}
-use Rattle.transcript.proofs.Sections.{start-next, start-below}
-use Rattle.transcript.proofs.Carried.{passed-carries, layer-is, checks-are}
+use Rattle.transcript.proofs.Numerals.{length_entries}
+use Rattle.transcript.proofs.Sections.{start_next, start_below}
+use Rattle.transcript.proofs.Carried.{passed_carries, layer_is, checks_are}
 use Rattle.sections.specs.declared.Sections.{Sections}
-use Rattle.sections.specs.Views.{sectionsIn, parametersIn}
-use Rattle.sections.proofs.Places.{basis-is}
+use Rattle.sections.specs.Views.{sections_in, parameters_in}
+use Rattle.sections.proofs.Places.{basis_is}
 use Rattle.small_lists.specs.declared.Lists.{Lists}
-use Rattle.small_lists.specs.Lists.{lastCountIn, listsIn}
-use Rattle.byte_rounds.specs.Layers.{sentIn, layerAt, LaidOut}
+use Rattle.small_lists.specs.Lists.{last_count_in, lists_in}
+use Rattle.byte_rounds.specs.Layers.{sent_in, layer_at, LaidOut}
 use Rattle.byte_rounds.proofs.LayerPlaces.{at_first, at_next}
 
 -- what was read is the run that the bytes carry
-sent_is : (bytes : List ℕ) (p : Parameters) (offset : ℕ) (basis challenges last : List ℕ) → p ≡ parametersIn bytes
-    → offset ≡ (runIn bytes).offset → basis ≡ (runIn bytes).basis → challenges ≡ (runIn bytes).challenges
-    → last ≡ (runIn bytes).last → sentIn p offset basis challenges bytes last ≡ runIn bytes
+sent_is : (bytes : List ℕ) (p : Parameters) (offset : ℕ) (basis challenges last : List ℕ) → p ≡ parameters_in bytes
+    → offset ≡ (run_in bytes).offset → basis ≡ (run_in bytes).basis → challenges ≡ (run_in bytes).challenges
+    → last ≡ (run_in bytes).last → sent_in p offset basis challenges bytes last ≡ run_in bytes
 sent_is bytes p offset basis challenges last ep eo eb ec el =
-    let run = runIn bytes in
-    ap₂ (λ (q : Parameters) (o : ℕ). sentIn q o basis challenges bytes last) ep eo
-    ∙ ap₂ (λ (b x : List ℕ). sentIn (parametersIn bytes) run.offset b x bytes last) eb ec
-    ∙ ap (λ (l : List ℕ). sentIn (parametersIn bytes) run.offset run.basis run.challenges bytes l) el
+    let run = run_in bytes in
+    ap₂ (λ (q : Parameters) (o : ℕ). sent_in q o basis challenges bytes last) ep eo
+    ∙ ap₂ (λ (b x : List ℕ). sent_in (parameters_in bytes) run.offset b x bytes last) eb ec
+    ∙ ap (λ (l : List ℕ). sent_in (parameters_in bytes) run.offset run.basis run.challenges bytes l) el
 
-taken-fits : (n : ℕ) (l : List ℕ) → length (take n l) ≡ n → n ≤ length l
-taken-fits n l e = omega (arith, length-take n l)
+taken_fits : (n : ℕ) (l : List ℕ) → length (take n l) ≡ n → n ≤ length l
+taken_fits n l e = omega (arith, length-take n l)
 
-module _ (bytes : List ℕ) (done : transcriptOutcome bytes ≡ Done) where
+module _ (bytes : List ℕ) (done : transcript_outcome bytes ≡ Done) where
   abbrev carries : Carries bytes
-  carries = passed-carries bytes done
+  carries = passed_carries bytes done
 
   abbrev k : ℕ
-  k = transcriptK bytes
+  k = transcript_k bytes
 
   -- ---- the layers
 
   -- the entries of layer i begin after the count of its section
-  layer-begins : (i : ℕ) → i ≤ transcriptRounds bytes
-      → layerAt k (transcriptSteps bytes) (sectionStart bytes 5 + 4) i ≡ sectionStart bytes (layerSection i) + 4
-  layer-begins zero h = sym (at_first k (transcriptSteps bytes) (sectionStart bytes 5 + 4))
-  layer-begins (suc i) h =
-      let one : layerSection (suc i) ≡ suc (layerSection i) = omega arith in
+  layer_begins : (i : ℕ) → i ≤ transcript_rounds bytes
+      → layer_at k (transcript_steps bytes) (section_start bytes 5 + 4) i ≡ section_start bytes (layer_section i) + 4
+  layer_begins zero h = sym (at_first k (transcript_steps bytes) (section_start bytes 5 + 4))
+  layer_begins (suc i) h =
+      let one : layer_section (suc i) ≡ suc (layer_section i) = omega arith in
       omega (
         arith,
-        at_next k (transcriptSteps bytes) (sectionStart bytes 5 + 4) i,
-        layer-begins i (omega arith),
-        ap (sectionStart bytes) one,
-        start-next bytes (layerSection i) (omega arith),
-        carries.layer-counts i h,
+        at_next k (transcript_steps bytes) (section_start bytes 5 + 4) i,
+        layer_begins i (omega arith),
+        ap (section_start bytes) one,
+        start_next bytes (layer_section i) (omega arith),
+        carries.layer_counts i h,
       )
 
-  laid_out : AreBytes bytes → LaidOut bytes (sectionStart bytes 5 + 4) (runIn bytes)
+  laid_out : AreBytes bytes → LaidOut bytes (section_start bytes 5 + 4) (run_in bytes)
   laid_out known =
       record {
         entries =
             λ i h.
-            layer-is bytes carries i h
-            ∙ ap₂ (entries_at bytes) (sym (layer-begins i (omega arith))) (carries.layer-counts i h);
-        begins = omega (arith, start-below bytes known 5 (omega arith));
+            layer_is bytes carries i h
+            ∙ ap₂ (entries_at bytes) (sym (layer_begins i (omega arith))) (carries.layer_counts i h);
+        begins = omega (arith, start_below bytes known 5 (omega arith));
       }
 
   -- ---- the lengths of the small lists
 
-  basis-count : length (runIn bytes).basis ≡ k
-  basis-count =
-      ap length (sym (basis-is bytes k carries.coset-count))
-      ∙ length-entries bytes (sectionStart bytes 2 + 12) k
+  basis_count : length (run_in bytes).basis ≡ k
+  basis_count =
+      ap length (sym (basis_is bytes k carries.coset_count))
+      ∙ length_entries bytes (section_start bytes 2 + 12) k
 
-  challenges-count : length (runIn bytes).challenges ≡ transcriptRounds bytes
-  challenges-count =
-      length-entries bytes (sectionStart bytes 3 + 4) (sectionCount bytes 3) ∙ carries.challenges-count
+  challenges_count : length (run_in bytes).challenges ≡ transcript_rounds bytes
+  challenges_count =
+      length_entries bytes (section_start bytes 3 + 4) (section_count bytes 3) ∙ carries.challenges_count
 
-  pub queries-count : length (queriesIn bytes) ≡ sectionCount bytes 4
-  queries-count = length-entries bytes (sectionStart bytes 4 + 4) (sectionCount bytes 4)
+  pub queries_count : length (queries_in bytes) ≡ section_count bytes 4
+  queries_count = length_entries bytes (section_start bytes 4 + 4) (section_count bytes 4)
 
-  last-count : length (runIn bytes).last ≡ lastCountIn bytes
+  last-count : length (run_in bytes).last ≡ last_count_in bytes
   last-count =
-      let section = layerSection (transcriptRounds bytes) in
-      length-entries bytes (sectionStart bytes section + 4) (sectionCount bytes section) ∙ carries.last-count
+      let section = layer_section (transcript_rounds bytes) in
+      length_entries bytes (section_start bytes section + 4) (section_count bytes section) ∙ carries.last-count
 
   -- ---- the arrays
 
-  module _ {lists : Lists} (held : lists ≡ listsIn bytes) where
-    parameters-are : lists.parameters ≡ parametersIn bytes
-    parameters-are = ap (λ (l : Lists). l.parameters) held
+  module _ {lists : Lists} (held : lists ≡ lists_in bytes) where
+    parameters_are : lists.parameters ≡ parameters_in bytes
+    parameters_are = ap (λ (l : Lists). l.parameters) held
 
     -- the lists in front of the arrays, and that they have these lengths
-    basis-front : take lists.parameters.k lists.basis ≡ (runIn bytes).basis
-    basis-front =
+    basis_front : take lists.parameters.k lists.basis ≡ (run_in bytes).basis
+    basis_front =
         ap (λ (l : Lists). take l.parameters.k l.basis) held
-        ∙ padded-taken 20 k (runIn bytes).basis (listsIn bytes).basis refl basis-count
+        ∙ padded_taken 20 k (run_in bytes).basis (lists_in bytes).basis refl basis_count
 
-    pub basis-length : length (take lists.parameters.k lists.basis) ≡ lists.parameters.k
-    basis-length = ap length basis-front ∙ basis-count ∙ sym (ap (λ (l : Lists). l.parameters.k) held)
+    pub basis_length : length (take lists.parameters.k lists.basis) ≡ lists.parameters.k
+    basis_length = ap length basis_front ∙ basis_count ∙ sym (ap (λ (l : Lists). l.parameters.k) held)
 
-    challenges-front : take lists.rounds lists.challenges ≡ (runIn bytes).challenges
-    challenges-front =
+    challenges_front : take lists.rounds lists.challenges ≡ (run_in bytes).challenges
+    challenges_front =
         ap (λ (l : Lists). take l.rounds l.challenges) held
-        ∙ padded-taken 20 (transcriptRounds bytes) (runIn bytes).challenges (listsIn bytes).challenges refl
-        challenges-count
+        ∙ padded_taken 20 (transcript_rounds bytes) (run_in bytes).challenges (lists_in bytes).challenges refl
+        challenges_count
 
-    pub challenges-length : length (take lists.rounds lists.challenges) ≡ lists.rounds
-    challenges-length = ap length challenges-front ∙ challenges-count ∙ sym (ap (λ (l : Lists). l.rounds) held)
+    pub challenges_length : length (take lists.rounds lists.challenges) ≡ lists.rounds
+    challenges_length = ap length challenges_front ∙ challenges_count ∙ sym (ap (λ (l : Lists). l.rounds) held)
 
-    pub queries-front : take lists.query_count lists.queries ≡ queriesIn bytes
-    queries-front =
+    pub queries_front : take lists.query_count lists.queries ≡ queries_in bytes
+    queries_front =
         ap (λ (l : Lists). take l.query_count l.queries) held
-        ∙ padded-taken 256 (sectionCount bytes 4) (queriesIn bytes) (listsIn bytes).queries refl queries-count
+        ∙ padded_taken 256 (section_count bytes 4) (queries_in bytes) (lists_in bytes).queries refl queries_count
 
-    pub queries-length : length (take lists.query_count lists.queries) ≡ lists.query_count
-    queries-length = ap length queries-front ∙ queries-count ∙ sym (ap (λ (l : Lists). l.query_count) held)
+    pub queries_length : length (take lists.query_count lists.queries) ≡ lists.query_count
+    queries_length = ap length queries_front ∙ queries_count ∙ sym (ap (λ (l : Lists). l.query_count) held)
 
-    last-front : take lists.last_count lists.last ≡ (runIn bytes).last
-    last-front =
+    last_front : take lists.last_count lists.last ≡ (run_in bytes).last
+    last_front =
         ap (λ (l : Lists). take l.last_count l.last) held
-        ∙ padded-taken 20 (lastCountIn bytes) (runIn bytes).last (listsIn bytes).last refl last-count
+        ∙ padded_taken 20 (last_count_in bytes) (run_in bytes).last (lists_in bytes).last refl last-count
 
     pub last-length : length (take lists.last_count lists.last) ≡ lists.last_count
-    last-length = ap length last-front ∙ last-count ∙ sym (ap (λ (l : Lists). l.last_count) held)
+    last-length = ap length last_front ∙ last-count ∙ sym (ap (λ (l : Lists). l.last_count) held)
 
     -- so that they can be lent
-    pub basis-fits : lists.parameters.k ≤ length lists.basis
-    basis-fits = taken-fits lists.parameters.k lists.basis basis-length
+    pub basis_fits : lists.parameters.k ≤ length lists.basis
+    basis_fits = taken_fits lists.parameters.k lists.basis basis_length
 
-    pub challenges-fit : lists.rounds ≤ length lists.challenges
-    challenges-fit = taken-fits lists.rounds lists.challenges challenges-length
+    pub challenges_fit : lists.rounds ≤ length lists.challenges
+    challenges_fit = taken_fits lists.rounds lists.challenges challenges_length
 
-    pub queries-fit : lists.query_count ≤ length lists.queries
-    queries-fit = taken-fits lists.query_count lists.queries queries-length
+    pub queries_fit : lists.query_count ≤ length lists.queries
+    queries_fit = taken_fits lists.query_count lists.queries queries_length
 
     pub last_fits : lists.last_count ≤ length lists.last
-    last_fits = taken-fits lists.last_count lists.last last-length
+    last_fits = taken_fits lists.last_count lists.last last-length
 
     -- ---- the run
 
     abbrev sent : Run
     sent =
-        sentIn lists.parameters lists.offset.0 (take lists.parameters.k lists.basis)
+        sent_in lists.parameters lists.offset.0 (take lists.parameters.k lists.basis)
         (take lists.rounds lists.challenges) bytes (take lists.last_count lists.last)
 
-    pub sent-run : sent ≡ runIn bytes
-    sent-run =
+    pub sent_run : sent ≡ run_in bytes
+    sent_run =
         sent_is bytes lists.parameters lists.offset.0 (take lists.parameters.k lists.basis)
         (take lists.rounds lists.challenges) (take lists.last_count lists.last)
-        parameters-are (ap (λ (l : Lists). l.offset.0) held) basis-front challenges-front last-front
+        parameters_are (ap (λ (l : Lists). l.offset.0) held) basis_front challenges_front last_front
 
-    pub sent-checks : checksOutcome sent (take lists.query_count lists.queries) ≡ Done
-    sent-checks = ap₂ checksOutcome sent-run queries-front ∙ sym (checks-are bytes carries) ∙ done
+    pub sent_checks : checks_outcome sent (take lists.query_count lists.queries) ≡ Done
+    sent_checks = ap₂ checks_outcome sent_run queries_front ∙ sym (checks_are bytes carries) ∙ done
 
-    pub sent-layers : AreBytes bytes → {sections : Sections} → sections ≡ sectionsIn bytes
+    pub sent_layers : AreBytes bytes → {sections : Sections} → sections ≡ sections_in bytes
         → LaidOut bytes (sections.layers + 4) sent
-    sent-layers known begin =
+    sent_layers known begin =
         subst (λ (s : Sections). LaidOut bytes (s.layers + 4) sent) (sym begin)
-        (subst (LaidOut bytes (sectionStart bytes 5 + 4)) (sym sent-run) (laid_out known))
+        (subst (LaidOut bytes (section_start bytes 5 + 4)) (sym sent_run) (laid_out known))

@@ -4,36 +4,36 @@ use Rattle.std.specs.Prelude.{◌≡◌, Bool, cond, List, ℕ, zero, suc, ◌+�
 use Rattle.poly.specs.Carrier.{gf64}
 use Rattle.poly.specs.Polynomial.{evaluate}
 use Rattle.fri.specs.Layout.{dimension}
-use Rattle.fri.specs.Run.{Run, stepsIn, roundsIn, layerIn}
+use Rattle.fri.specs.Run.{Run, steps_in, rounds_in, layer_in}
 use Rattle.layout.specs.declared.Parameters.{Parameters}
 use Rattle.layout.specs.Parameters.{run_of}
 use Rattle.round_checks.specs.declared.QueryPoint.{QueryPoint}
-use Rattle.round_checks.specs.Rounds.{partBegin}
-use Rattle.transcript.specs.Numerals.{entryAt, entries_at}
-use Rattle.transcript.specs.Sections.{runIn}
+use Rattle.round_checks.specs.Rounds.{part_begin}
+use Rattle.transcript.specs.Numerals.{entry_at, entries_at}
+use Rattle.transcript.specs.Sections.{run_in}
 
 -- a run whose word and store are those that the bytes carry
-abbrev pub sentIn : (p : Parameters) (offset : ℕ) (basis challenges bytes last : List ℕ) → Run
-sentIn p offset basis challenges bytes last =
-    run_of p offset basis challenges (runIn bytes).word (runIn bytes).store last
+abbrev pub sent_in : (p : Parameters) (offset : ℕ) (basis challenges bytes last : List ℕ) → Run
+sent_in p offset basis challenges bytes last =
+    run_of p offset basis challenges (run_in bytes).word (run_in bytes).store last
 
 -- where the entries of layer i begin, if those of layer 0 begin at `at`: a count stands between two layers
-unfoldable pub layerAt : (k : ℕ) (steps : List ℕ) (at i : ℕ) → ℕ
-layerAt k steps at zero = at
-layerAt k steps at (suc i) = layerAt k steps at i + 8 * 2 ^ dimension k steps i + 4
+unfoldable pub layer_at : (k : ℕ) (steps : List ℕ) (at i : ℕ) → ℕ
+layer_at k steps at zero = at
+layer_at k steps at (suc i) = layer_at k steps at i + 8 * 2 ^ dimension k steps i + 4
 
 -- the layers of the run lie in the bytes, the first from `at` on. The sections of a transcript begin before 2^40, since
 -- there are at most 24, each of at most 4 + 8 · 2^32 bytes; whatever is well below 2^64 would do
 pub record LaidOut (bytes : List ℕ) (at : ℕ) (run : Run) : Type 0 where
-  pub entries : (i : ℕ) → i < roundsIn run
-      → layerIn run i ≡ entries_at bytes (layerAt run.k (stepsIn run) at i) (2 ^ dimension run.k (stepsIn run) i)
+  pub entries : (i : ℕ) → i < rounds_in run
+      → layer_in run i ≡ entries_at bytes (layer_at run.k (steps_in run) at i) (2 ^ dimension run.k (steps_in run) i)
   pub begins : at ≤ 2 ^ 41
 
 -- the entries of the coset that holds the query's index, in a layer whose entries begin there
 abbrev pub part_at : (bytes : List ℕ) (at step : ℕ) (here : QueryPoint) → List ℕ
-part_at bytes at step here = entries_at bytes (at + 8 * partBegin step here) (2 ^ step)
+part_at bytes at step here = entries_at bytes (at + 8 * part_begin step here) (2 ^ step)
 
 -- the value found: an entry of the next layer, whose entries begin there, or, in the last round, the last polynomial's
-abbrev pub valueReadAt : (bytes : List ℕ) (at : ℕ) (stored : Bool) (next : QueryPoint) (last : List ℕ) → ℕ
-valueReadAt bytes at stored next last =
-    cond stored (entryAt bytes (at + 8 * next.index)) (evaluate gf64 last next.point.0)
+abbrev pub value_read_at : (bytes : List ℕ) (at : ℕ) (stored : Bool) (next : QueryPoint) (last : List ℕ) → ℕ
+value_read_at bytes at stored next last =
+    cond stored (entry_at bytes (at + 8 * next.index)) (evaluate gf64 last next.point.0)

@@ -4,11 +4,11 @@ ghost use Rattle.std.specs.Prelude.{◌≡◌, ◌+◌, ◌*◌, ◌^◌, ◌≤
 ghost use Rattle.refusal.specs.declared.Outcome.TheVariants as outcomes;
 ghost use Rattle.fri.specs.Layout.{dimension};
 ghost use Rattle.fri.specs.Run.{Run};
-ghost use Rattle.fri.specs.Judge.{checksOutcome, verdictOf};
-ghost use Rattle.layout.specs.Parameters.{stepsBy, Valid};
-ghost use Rattle.round_checks.specs.Rounds.{valueFolded};
+ghost use Rattle.fri.specs.Judge.{checks_outcome, verdict_of};
+ghost use Rattle.layout.specs.Parameters.{steps_by, Valid};
+ghost use Rattle.round_checks.specs.Rounds.{value_folded};
 ghost use Rattle.transcript.specs.Numerals.{entries_at};
-ghost use Rattle.byte_rounds.specs.Layers.{sentIn, LaidOut, part_at, valueReadAt};
+ghost use Rattle.byte_rounds.specs.Layers.{sent_in, LaidOut, part_at, value_read_at};
 
 use field::Element;
 use fri::{Answer, Verdict};
@@ -29,10 +29,10 @@ pub fn judge_rounds(
     last: &[u64],
 ) -> Verdict
     ghost run: { Run }
-    requires last_value { sentIn parameters offset.0 basis.now challenges.now bytes.now last.now ≡ run }
-    requires queries_value { checksOutcome run queries.now ≡ outcomes.Done }
+    requires last_value { sent_in parameters offset.0 basis.now challenges.now bytes.now last.now ≡ run }
+    requires queries_value { checks_outcome run queries.now ≡ outcomes.Done }
     requires laid_out { LaidOut bytes.now begin run }
-    ensures { result ≡ verdictOf run queries.now }
+    ensures { result ≡ verdict_of run queries.now }
 {
     let count = parameters.rounds();
     let table = round_checks::set_up(parameters, basis, challenges);
@@ -76,8 +76,8 @@ pub fn judge_rounds(
 // Where the entries of the next layer begin, after those of layer i, which begin there, and a count. Layer 0 begins
 // before 2^41 (LaidOut), and twenty layers of at most 2^20 entries end before 2^42.
 pub fn after_layer(parameters: Parameters, at: usize, i: usize) -> usize
-    requires { Valid parameters × (i ≤ length (stepsBy parameters)) × (at ≤ 2 ^ 42) }
-    ensures { result ≡ at + 8 * 2 ^ dimension parameters.k (stepsBy parameters) i + 4 }
+    requires { Valid parameters × (i ≤ length (steps_by parameters)) × (at ≤ 2 ^ 42) }
+    ensures { result ≡ at + 8 * 2 ^ dimension parameters.k (steps_by parameters) i + 4 }
 {
     let size: usize = 1 << parameters.dimension(i);
     at + 8 * size + 4
@@ -87,7 +87,7 @@ pub fn after_layer(parameters: Parameters, at: usize, i: usize) -> usize
 // a layer has at most 2^20 of them, so that the coset begins before 2^43.
 pub fn computed(bytes: &[u8], at: usize, step: usize, round: Round, here: QueryPoint) -> Element
     requires { (1 ≤ step) × (step ≤ 3) × (at ≤ 2 ^ 42) × (here.index ≤ 2 ^ 20) }
-    ensures { result.0 ≡ valueFolded step round here (part_at bytes.now at step here) }
+    ensures { result.0 ≡ value_folded step round here (part_at bytes.now at step here) }
 {
     let size = 1 << step;
     let begin = here.index / size * size;
@@ -105,7 +105,7 @@ fn folded(
     part: &mut [u64],
 ) -> Element
     requires { (1 ≤ step) × (step ≤ 3) × (length part.old ≡ 2 ^ step) × (at ≤ 2 ^ 43) }
-    ensures { result.0 ≡ valueFolded step round here (entries_at bytes.now at (2 ^ step)) }
+    ensures { result.0 ≡ value_folded step round here (entries_at bytes.now at (2 ^ step)) }
 {
     entries::read(bytes, at, part);
     round.folded(step, here, &part[..])
@@ -115,7 +115,7 @@ fn folded(
 // last polynomial's.
 pub fn found(bytes: &[u8], at: usize, stored: bool, next: QueryPoint, last: &[u64]) -> Element
     requires { (at ≤ 2 ^ 42) × (next.index ≤ 2 ^ 20) }
-    ensures { result.0 ≡ valueReadAt bytes.now at stored next last.now }
+    ensures { result.0 ≡ value_read_at bytes.now at stored next last.now }
 {
     if stored {
         Element(entries::entry_at(bytes, at + 8 * next.index))

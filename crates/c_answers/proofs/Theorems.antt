@@ -1,13 +1,13 @@
 -- The statements of specs/Theorems.antt, proved. Assumes nothing.
 use mathlib.Core.Path.{refl}
-use Rattle.layout.proofs.Parts.{part-taken}
+use Rattle.layout.proofs.Parts.{part_taken}
 use Rattle.c_answers.specs.Theorems.{FoldNumbers, RunNumbers}
 
-pub fold-numbers : FoldNumbers
-fold-numbers = record { done = refl; wrong-length = refl }
+pub fold_numbers : FoldNumbers
+fold_numbers = record { done = refl; wrong_length = refl }
 
-pub run-numbers : RunNumbers
-run-numbers =
+pub run_numbers : RunNumbers
+run_numbers =
     record {
       proved = refl;
       degree = refl;
@@ -15,5 +15,5 @@ run-numbers =
       accepted = refl;
       refused = refl;
       shared = refl;
-      part = part-taken;
+      part = part_taken;
     }

@@ -4,11 +4,11 @@ use Rattle.refusal.specs.declared.Cause.{Cause}
 use Rattle.refusal.specs.declared.Outcome.{Outcome}
 use Rattle.refusal.specs.declared.Position.{Position}
 use Rattle.refusal.specs.declared.Position.TheVariants.{At, Absent}
-use Rattle.refusal.specs.Numbers.{number_of, place_of, roundOf, numberOfOutcome, placeOfOutcome, roundOfOutcome}
+use Rattle.refusal.specs.Numbers.{number_of, place_of, round_of, number_of_outcome, place_of_outcome, round_of_outcome}
 use Rattle.fold.specs.declared.Folded.{Folded}
 use Rattle.fold.specs.Answers.{numberOfFolded, placeOfFolded, roundOfFolded, valueOfFolded}
 use Rattle.fri.specs.declared.Verdict.{Verdict}
-use Rattle.fri.specs.Judge.{numberOfAnswer, placeOfAnswer, roundOfAnswer}
+use Rattle.fri.specs.Judge.{number_of_answer, place_of_answer, round_of_answer}
 use Rattle.layout.specs.declared.Part.{Part}
 use Rattle.c_answers.specs.declared.Answer.{Answer}
 
@@ -31,7 +31,7 @@ answerOfCause cause reads =
     record {
       number = number_of cause;
       place = orNone (place_of cause);
-      round = orNone (roundOf cause);
+      round = orNone (round_of cause);
       reads = reads;
       value = none;
     }
@@ -51,9 +51,9 @@ answerOfFolded folded =
 abbrev pub answerOfOutcome : (outcome : Outcome) → Answer
 answerOfOutcome outcome =
     record {
-      number = numberOfOutcome outcome;
-      place = orNone (placeOfOutcome outcome);
-      round = orNone (roundOfOutcome outcome);
+      number = number_of_outcome outcome;
+      place = orNone (place_of_outcome outcome);
+      round = orNone (round_of_outcome outcome);
       reads = 0;
       value = none;
     }
@@ -62,11 +62,11 @@ answerOfOutcome outcome =
 abbrev pub answerOfProved : (outcome : Outcome) → Answer
 answerOfProved outcome =
     record {
-      number = numberOfOutcome outcome;
-      place = orNone (placeOfOutcome outcome);
-      round = orNone (roundOfOutcome outcome);
+      number = number_of_outcome outcome;
+      place = orNone (place_of_outcome outcome);
+      round = orNone (round_of_outcome outcome);
       reads = 0;
-      value = cond (eqb (numberOfOutcome outcome) 12) (orNone (placeOfOutcome outcome)) none;
+      value = cond (eqb (number_of_outcome outcome) 12) (orNone (place_of_outcome outcome)) none;
     }
 
 -- the answer of the layer lookup: where the part begins and how long it is
@@ -77,9 +77,9 @@ answerOfPart part = record { number = 0; place = part.start; round = none; reads
 abbrev pub answerOfVerdict : (verdict : Verdict) → Answer
 answerOfVerdict verdict =
     record {
-      number = numberOfAnswer verdict.answer;
-      place = orNone (placeOfAnswer verdict.answer);
-      round = orNone (roundOfAnswer verdict.answer);
+      number = number_of_answer verdict.answer;
+      place = orNone (place_of_answer verdict.answer);
+      round = orNone (round_of_answer verdict.answer);
       reads = verdict.reads;
       value = none;
     }

@@ -5,7 +5,7 @@ use Rattle.refusal.specs.declared.Cause.TheVariants.{WrongLength, DegreeTooLarge
 use Rattle.refusal.specs.declared.Outcome.TheVariants as outcomes
 use Rattle.fold.specs.declared.Folded.TheVariants.{NextOffset, Refused}
 use Rattle.fri.specs.declared.Answer.TheVariants as answers
-use Rattle.fri.specs.Lookup.{layerPart}
+use Rattle.fri.specs.Lookup.{layer_part}
 use Rattle.layout.specs.declared.Parameters.{Parameters}
 use Rattle.layout.specs.Parts.{part_of}
 use Rattle.c_answers.specs.Answers.{none, numbersOf, answerOfFolded, answerOfProved, answerOfPart}
@@ -13,7 +13,7 @@ use Rattle.c_answers.specs.Answers.{answerOfVerdict}
 
 pub record FoldNumbers : Type 0 where
   pub done : numbersOf (answerOfFolded (NextOffset (record { 0 = 0x48 }))) ≡ 0 ∷ none ∷ none ∷ 0 ∷ 0x48 ∷ []
-  pub wrong-length : numbersOf (answerOfFolded (Refused (WrongLength 7))) ≡ 13 ∷ 7 ∷ none ∷ 0 ∷ none ∷ []
+  pub wrong_length : numbersOf (answerOfFolded (Refused (WrongLength 7))) ≡ 13 ∷ 7 ∷ none ∷ 0 ∷ none ∷ []
 
 -- prover, judge and lookup
 pub record RunNumbers : Type 0 where
@@ -26,10 +26,10 @@ pub record RunNumbers : Type 0 where
       ≡ 0 ∷ none ∷ none ∷ 4 ∷ none ∷ []
   pub refused : numbersOf (answerOfVerdict (record { answer = answers.Refused (RoundCheckFails 1 0); reads = 4 }))
       ≡ 11 ∷ 1 ∷ 0 ∷ 4 ∷ none ∷ []
-  -- two queries in one first-layer coset
+  -- two queries in one first_layer coset
   pub shared : numbersOf (answerOfVerdict (record { answer = answers.Refused (CosetShared 1); reads = 0 }))
       ≡ 17 ∷ 1 ∷ none ∷ 0 ∷ none ∷ []
   -- as many entries as the value says, from the place on, are what the lookup hands back
   pub part : (p : Parameters) (store : List ℕ) (i : ℕ)
       → (let answer = answerOfPart (part_of p (length store) i) in take answer.value (drop answer.place store))
-      ≡ layerPart p.k p.rate p.step store i
+      ≡ layer_part p.k p.rate p.step store i

@@ -1,8 +1,8 @@
 // The C interface: the judges over lists and over the bytes of a transcript. include/razgwilh.h says the same to C.
 ghost use Rattle.std.specs.Prelude.{◌≡◌};
-ghost use Rattle.fri.specs.Judge.{verdictOf};
+ghost use Rattle.fri.specs.Judge.{verdict_of};
 ghost use Rattle.layout.specs.Parameters.{run_of};
-ghost use Rattle.transcript.specs.Judge.{transcriptVerdict};
+ghost use Rattle.transcript.specs.Judge.{transcript_verdict};
 ghost use Rattle.c_answers.specs.Answers.{answerOfVerdict, answered};
 
 use c_answers::Answer;
@@ -25,7 +25,7 @@ pub extern "C" fn rz_judge(
 )
     ensures { let run = run_of (record { k = k; rate = rate; step = step }) offset basis.now
         challenges.now word.now store.now last.now in
-        let verdict = verdictOf run queries.now in
+        let verdict = verdict_of run queries.now in
         answer.new ≡ answered (answerOfVerdict verdict) answer.old }
 {
     if answer.len() != Answer::LENGTH {
@@ -47,7 +47,7 @@ pub extern "C" fn rz_judge(
 
 #[unsafe(no_mangle)]
 pub extern "C" fn rz_judge_transcript(bytes: &[u8], answer: &mut [u64])
-    ensures { let verdict = transcriptVerdict bytes.now in
+    ensures { let verdict = transcript_verdict bytes.now in
         answer.new ≡ answered (answerOfVerdict verdict) answer.old }
 {
     if answer.len() != Answer::LENGTH {

@@ -1,7 +1,7 @@
 // The C interface: the lengths of a run and the layer lookup. include/razgwilh.h says the same to C.
 ghost use Rattle.std.specs.Prelude.{◌≡◌, length};
 ghost use Rattle.layout.specs.Parts.{part_of};
-ghost use Rattle.layout.specs.Lengths.{lengthsOf};
+ghost use Rattle.layout.specs.Lengths.{lengths_of};
 ghost use Rattle.c_answers.specs.Answers.{answerOfPart, answered};
 
 use c_answers::Answer;
@@ -9,7 +9,7 @@ use layout::Parameters;
 
 #[unsafe(no_mangle)]
 pub extern "C" fn rz_rounds(k: usize, rate: usize, step: usize) -> usize
-    ensures { result ≡ (lengthsOf (record { k = k; rate = rate; step = step })).rounds }
+    ensures { result ≡ (lengths_of (record { k = k; rate = rate; step = step })).rounds }
 {
     let parameters = Parameters { k, rate, step };
     parameters.lengths().rounds
@@ -17,7 +17,7 @@ pub extern "C" fn rz_rounds(k: usize, rate: usize, step: usize) -> usize
 
 #[unsafe(no_mangle)]
 pub extern "C" fn rz_store_length(k: usize, rate: usize, step: usize) -> usize
-    ensures { result ≡ (lengthsOf (record { k = k; rate = rate; step = step })).store }
+    ensures { result ≡ (lengths_of (record { k = k; rate = rate; step = step })).store }
 {
     let parameters = Parameters { k, rate, step };
     parameters.lengths().store
@@ -25,7 +25,7 @@ pub extern "C" fn rz_store_length(k: usize, rate: usize, step: usize) -> usize
 
 #[unsafe(no_mangle)]
 pub extern "C" fn rz_last_length(k: usize, rate: usize, step: usize) -> usize
-    ensures { result ≡ (lengthsOf (record { k = k; rate = rate; step = step })).last }
+    ensures { result ≡ (lengths_of (record { k = k; rate = rate; step = step })).last }
 {
     let parameters = Parameters { k, rate, step };
     parameters.lengths().last

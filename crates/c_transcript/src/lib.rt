@@ -1,8 +1,8 @@
 // The C interface: writing a transcript, and its marking sheet. include/razgwilh.h says the same to C.
 ghost use Rattle.std.specs.Prelude.{◌≡◌, length};
 ghost use Rattle.layout.specs.Parameters.{run_of};
-ghost use Rattle.sheet_text.specs.Sheet.{transcriptSheet, inFront};
-ghost use Rattle.writer.specs.Lengths.{transcriptLengthOf};
+ghost use Rattle.sheet_text.specs.Sheet.{transcript_sheet, in_front};
+ghost use Rattle.writer.specs.Lengths.{transcript_length_of};
 ghost use Rattle.c_transcript.specs.Calls.{WriteAnswered};
 
 use c_answers::Answer;
@@ -11,15 +11,15 @@ use layout::Parameters;
 
 #[unsafe(no_mangle)]
 pub extern "C" fn rz_sheet(bytes: &[u8], out: &mut [u8]) -> u64
-    ensures length { result ≡ length (transcriptSheet bytes.now) }
-    ensures list { out.new ≡ inFront (transcriptSheet bytes.now) out.old }
+    ensures length { result ≡ length (transcript_sheet bytes.now) }
+    ensures list { out.new ≡ in_front (transcript_sheet bytes.now) out.old }
 {
     marking::sheet(bytes, out) as u64
 }
 
 #[unsafe(no_mangle)]
 pub extern "C" fn rz_transcript_length(k: usize, rate: usize, step: usize, queries: usize) -> u64
-    ensures { result ≡ transcriptLengthOf (record { k = k; rate = rate; step = step }) queries }
+    ensures { result ≡ transcript_length_of (record { k = k; rate = rate; step = step }) queries }
 {
     let parameters = Parameters { k, rate, step };
     writer::transcript_length(parameters, queries)

@@ -10,20 +10,20 @@ use lib.Seq.{get_or-set_same, get_or-set_other}
 use lib.Bits.{bit_xor}
 use borrow.Author.Count.{below_more}
 use Rattle.gf64.specs.Polynomial.{carryless}
-use Rattle.gf64.proofs.Carryless.{carryless-step, carryless-lt, carryless-zero-l}
+use Rattle.gf64.proofs.Carryless.{carryless_step, carryless_lt, carryless-zero_l}
 
 -- the entries below n are the multiples
 abbrev pub Filled : ℕ → List ℕ → ℕ → Type 0
 Filled a t n = (m : ℕ) → m < n → get_or t m 0 ≡ carryless m a
 
-pub first-multiple : (a : ℕ) (t : List ℕ) → get_or t 0 0 ≡ 0 → Filled a t 1
-first-multiple a t e m h =
-    subst (λ (k : ℕ). get_or t k 0 ≡ carryless k a) (sym (lt-one h)) (e ∙ sym (carryless-zero-l a))
+pub first_multiple : (a : ℕ) (t : List ℕ) → get_or t 0 0 ≡ 0 → Filled a t 1
+first_multiple a t e m h =
+    subst (λ (k : ℕ). get_or t k 0 ≡ carryless k a) (sym (lt-one h)) (e ∙ sym (carryless-zero_l a))
 
 -- a multiple of fewer than four bits can be doubled in 64
-pub half-multiple-lt : (a x n : ℕ) → a < 2 ^ 32 → n < 16 → x ≡ carryless n a → x < 2 ^ 63
-half-multiple-lt a x n ha hn e = subst (λ (y : ℕ). y < 2 ^ 63) (sym e)
-    (le_trans (carryless-lt 4 32 n a hn ha) (omega arith))
+pub half_multiple_lt : (a x n : ℕ) → a < 2 ^ 32 → n < 16 → x ≡ carryless n a → x < 2 ^ 63
+half_multiple_lt a x n ha hn e = subst (λ (y : ℕ). y < 2 ^ 63) (sym e)
+    (le_trans (carryless_lt 4 32 n a hn ha) (omega arith))
 
 pub next_multiple : (a : ℕ) (t : List ℕ) (n v : ℕ) → 0 < n → n < length t → Filled a t n
     → v ≡ bit_xor (n % 2 * a) (get_or t (n / 2) 0 * 2) → Filled a (set t n v) (n + 1)
@@ -31,4 +31,4 @@ next_multiple a t n v pos inside filled e =
     below_more (λ k. get_or (set t n v) k 0 ≡ carryless k a) n
     (λ k l. get_or-set_other t n k v 0 (omega arith) ∙ filled k l)
     (get_or-set_same t n v 0 inside ∙ e ∙ ap (λ (x : ℕ). bit_xor (n % 2 * a) (x * 2)) (filled (n / 2) (omega arith))
-    ∙ sym (carryless-step n a))
+    ∙ sym (carryless_step n a))

@@ -27,14 +27,14 @@ ProductsBy table₀ table₁ x y p =
     (a₀ a₁ : ℕ) → Multiples a₀ table₀ → Multiples a₁ table₁ → Sums a₀ a₁ x y p
 
 -- v shifted up in 64 bits, and w
-abbrev pub shiftedSum : (v shift w : ℕ) → ℕ
-shiftedSum v shift w = bit_xor (v * 2 ^ shift % 2 ^ 64) w
+abbrev pub shifted_sum : (v shift w : ℕ) → ℕ
+shifted_sum v shift w = bit_xor (v * 2 ^ shift % 2 ^ 64) w
 
 -- each sum of p shifted up, and that of q
-abbrev pub joinedOf : (p : Products) (shift : ℕ) (q : Products) → Products
-joinedOf p shift q =
+abbrev pub joined_of : (p : Products) (shift : ℕ) (q : Products) → Products
+joined_of p shift q =
     record {
-      low = shiftedSum p.low shift q.low;
-      middle = shiftedSum p.middle shift q.middle;
-      high = shiftedSum p.high shift q.high;
+      low = shifted_sum p.low shift q.low;
+      middle = shifted_sum p.middle shift q.middle;
+      high = shifted_sum p.high shift q.high;
     }

@@ -3,7 +3,7 @@
 ghost use Rattle.std.specs.Prelude.{◌≡◌, ◌*◌, ◌%◌, ◌^◌, ◌<◌};
 ghost use Rattle.std.specs.Int.Bits.{bit_xor};
 ghost use Rattle.gf64.specs.Polynomial.{carryless};
-ghost use Rattle.carryless.specs.Window.{wide_of, Multiples, ProductsBy, joinedOf};
+ghost use Rattle.carryless.specs.Window.{wide_of, Multiples, ProductsBy, joined_of};
 
 // A polynomial of 128 bits.
 #[derive(Drop)]
@@ -89,7 +89,7 @@ impl Products {
     // t^k · self + lower, without what t^k moves out of 64 bits.
     fn joined(self, k: u64, lower: Products) -> Products
         requires { k < 64 }
-        ensures { result ≡ joinedOf self k lower }
+        ensures { result ≡ joined_of self k lower }
     {
         Products {
             low: (self.low << k) ^ lower.low,

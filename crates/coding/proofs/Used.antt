@@ -11,19 +11,19 @@ use Rattle.poly.specs.Polynomial.{Zeros, DegreeBelow, padded}
 use Rattle.poly.proofs.Entries.{all_drop, all_replicate}
 
 -- the least m with count ≤ 2^m is at most every other
-pub used-within : (r k count : ℕ) → ((m : ℕ) → m < r → 2 ^ m < count) → count ≤ 2 ^ k → r ≤ k
-used-within r k count least h = ⊎_elim (λ l. l) (λ l. absurd (omega (arith, least k l))) (by r k)
+pub used_within : (r k count : ℕ) → ((m : ℕ) → m < r → 2 ^ m < count) → count ≤ 2 ^ k → r ≤ k
+used_within r k count least h = ⊎_elim (λ l. l) (λ l. absurd (omega (arith, least k l))) (by r k)
   where
     by : (j i : ℕ) → (j ≤ i) ⊎ (i < j)
     by zero i = inl (omega arith)
     by (suc j) zero = inr (omega arith)
     by (suc j) (suc i) = ⊎_elim (λ l. inl (omega arith)) (λ l. inr (omega arith)) (by j i)
 
-zeros-from : (m n : ℕ) (p : List ℕ) → length p ≤ m → Zeros gf64 (drop m (p ++ replicate n 0))
-zeros-from m n [] h = all_drop (λ c. c ≡ 0) m (replicate n 0) (all_replicate (λ c. c ≡ 0) n 0 refl)
-zeros-from zero n (c ∷ p) h = absurd (omega arith)
-zeros-from (suc m) n (c ∷ p) h = zeros-from m n p (omega arith)
+zeros_from : (m n : ℕ) (p : List ℕ) → length p ≤ m → Zeros gf64 (drop m (p ++ replicate n 0))
+zeros_from m n [] h = all_drop (λ c. c ≡ 0) m (replicate n 0) (all_replicate (λ c. c ≡ 0) n 0 refl)
+zeros_from zero n (c ∷ p) h = absurd (omega arith)
+zeros_from (suc m) n (c ∷ p) h = zeros_from m n p (omega arith)
 
-pub zeros-behind : (m n : ℕ) (p : List ℕ) → length p ≤ m → DegreeBelow gf64 m (padded gf64 n p)
+pub zeros_behind : (m n : ℕ) (p : List ℕ) → length p ≤ m → DegreeBelow gf64 m (padded gf64 n p)
 unfolding padded
-zeros-behind m n p h = zeros-from m (n - length p) p h
+zeros_behind m n p h = zeros_from m (n - length p) p h

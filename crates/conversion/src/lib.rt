@@ -2,8 +2,8 @@
 // subspace polynomial of the first j basis elements, divided by its value e_j at basis element j. Regrouping is a
 // recursion on halves of the slice.
 ghost use Rattle.std.specs.Prelude.{◌≡◌, ◌+◌, ◌/◌, ◌%◌, ◌^◌, ◌≤◌, ◌<◌, length};
-ghost use Rattle.transform.specs.Transform.{quarters, quartersBack, regrouped, regroupedBack, scaledRuns};
-ghost use Rattle.transform.specs.Transform.{converted, convertedBack, ratioOf};
+ghost use Rattle.transform.specs.Transform.{quarters, quarters_back, regrouped, regrouped_back, scaled_runs};
+ghost use Rattle.transform.specs.Transform.{converted, converted_back, ratio_of};
 
 use field::Element;
 
@@ -11,7 +11,7 @@ use field::Element;
 pub fn convert(levels: usize, elements: &[u64], inverses: &[u64], slice: &mut [u64])
     requires { (levels ≤ length elements.now) × (levels ≤ length inverses.now) × (levels ≤ 20)
         × (length slice.old ≡ 2 ^ levels) }
-    ensures { let ratio = ratioOf elements.now inverses.now in
+    ensures { let ratio = ratio_of elements.now inverses.now in
         slice.new ≡ converted ratio 0 levels slice.old }
 {
     let mut j: usize = 0;
@@ -25,8 +25,8 @@ pub fn convert(levels: usize, elements: &[u64], inverses: &[u64], slice: &mut [u
 pub fn convert_back(levels: usize, elements: &[u64], inverses: &[u64], slice: &mut [u64])
     requires { (levels ≤ length elements.now) × (levels ≤ length inverses.now) × (levels ≤ 20)
         × (length slice.old ≡ 2 ^ levels) }
-    ensures { let ratio = ratioOf inverses.now elements.now in
-        slice.new ≡ convertedBack ratio 0 levels slice.old }
+    ensures { let ratio = ratio_of inverses.now elements.now in
+        slice.new ≡ converted_back ratio 0 levels slice.old }
 {
     let mut j = levels;
     while j > 0 {
@@ -39,7 +39,7 @@ pub fn convert_back(levels: usize, elements: &[u64], inverses: &[u64], slice: &m
 // e_j / e_(j-1)^2, or e_0; with the lists exchanged the inverse of that.
 fn ratio(elements: &[u64], inverses: &[u64], j: usize) -> Element
     requires { (j < length elements.now) × (j < length inverses.now) }
-    ensures { result.0 ≡ ratioOf elements.now inverses.now j }
+    ensures { result.0 ≡ ratio_of elements.now inverses.now j }
 {
     let e = elements[j];
     if j == 0 {
@@ -52,7 +52,7 @@ fn ratio(elements: &[u64], inverses: &[u64], j: usize) -> Element
 // Run i of the 2^upper runs of 2^lower entries times r^i.
 fn scale_runs(lower: usize, upper: usize, r: Element, slice: &mut [u64])
     requires { (upper + lower ≤ 20) × (length slice.old ≡ 2 ^ (upper + lower)) }
-    ensures { slice.new ≡ scaledRuns lower r.0 slice.old }
+    ensures { slice.new ≡ scaled_runs lower r.0 slice.old }
 {
     let run = power_of_two(lower);
     let mut power = Element::ONE;
@@ -82,7 +82,7 @@ fn regroup(lower: usize, upper: usize, slice: &mut [u64])
 
 fn regroup_back(lower: usize, upper: usize, slice: &mut [u64])
     requires { length slice.old ≡ 2 ^ (upper + lower) }
-    ensures { slice.new ≡ regroupedBack lower upper slice.old }
+    ensures { slice.new ≡ regrouped_back lower upper slice.old }
 {
     if upper <= 1 {
         return;
@@ -107,7 +107,7 @@ fn quarters(slice: &mut [u64])
 
 fn quarters_back(slice: &mut [u64])
     requires { length slice.old % 4 ≡ 0 }
-    ensures { slice.new ≡ quartersBack (length slice.old / 4) slice.old }
+    ensures { slice.new ≡ quarters_back (length slice.old / 4) slice.old }
 {
     let quarter = slice.len() / 4;
     let half = quarter + quarter;

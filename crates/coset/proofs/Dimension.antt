@@ -17,10 +17,10 @@ use Rattle.poly.specs.Polynomial.{All, Distinct}
 use Rattle.refusal.specs.declared.Position.{Position}
 use Rattle.refusal.specs.declared.Position.TheVariants.{At, Absent}
 use Rattle.coset.specs.Coset.{points}
-use Rattle.coset.specs.Span.{in_span, firstDependentAfter, firstDependent, Independent}
-use Rattle.coset.proofs.Points.{length-points, points-distinct, points-elements}
-use Rattle.coset.proofs.Dependence.{first_found, none-dependent}
-use Rattle.coset.proofs.Span.{at-not-absent}
+use Rattle.coset.specs.Span.{in_span, first_dependent_after, first_dependent, Independent}
+use Rattle.coset.proofs.Points.{length-points, points_distinct, points-elements}
+use Rattle.coset.proofs.Dependence.{first_found, none_dependent}
+use Rattle.coset.proofs.Span.{at_not_absent}
 use Rattle.poly.proofs.Entries.{all_take}
 
 -- ---- distinct numbers below n are at most n
@@ -33,9 +33,9 @@ record Without (m : ℕ) (xs : List ℕ) : Type 1 where
   shorter : length xs ≤ suc (length others)
   keeps : (P : ℕ → Type 0) → All P xs → All P others
 
-below-and-not : (m : ℕ) (xs : List ℕ) → All (λ x. x < suc m) xs → All (λ x. x ≢ m) xs → All (λ x. x < m) xs
-below-and-not m [] b n = record {}
-below-and-not m (x ∷ xs) b n = (lt_of_le-ne (le_of_suc-le-suc b.0) n.0, below-and-not m xs b.1 n.1)
+below_and_not : (m : ℕ) (xs : List ℕ) → All (λ x. x < suc m) xs → All (λ x. x ≢ m) xs → All (λ x. x < m) xs
+below_and_not m [] b n = record {}
+below_and_not m (x ∷ xs) b n = (lt_of_le-ne (le_of_suc-le-suc b.0) n.0, below_and_not m xs b.1 n.1)
 
 with_first : (m x : ℕ) (xs : List ℕ) → x < m → All (λ y. y ≢ x) xs → Without m xs → Without m (x ∷ xs)
 with_first m x xs l n w =
@@ -51,7 +51,7 @@ first_out : (m : ℕ) (xs : List ℕ) → All (λ x. x < suc m) xs → All (λ x
 first_out m xs b n d =
     record {
       others = xs;
-      below = below-and-not m xs b n;
+      below = below_and_not m xs b n;
       distinct = d;
       shorter = le_refl (suc (length xs));
       keeps = λ P h. h.1;
@@ -69,55 +69,55 @@ without m (x ∷ xs) b d =
         subst (λ (y : ℕ). Without m (y ∷ xs)) (sym e)
         (first_out m xs b.1 (subst (λ (y : ℕ). All (λ z. z ≢ y) xs) e d.0) d.1)
 
-pub distinct-bound : (n : ℕ) (xs : List ℕ) → All (λ x. x < n) xs → Distinct xs → length xs ≤ n
-distinct-bound zero [] b d = omega arith
-distinct-bound zero (x ∷ xs) b d = absurd (not-suc-le-zero b.0)
-distinct-bound (suc m) xs b d =
+pub distinct_bound : (n : ℕ) (xs : List ℕ) → All (λ x. x < n) xs → Distinct xs → length xs ≤ n
+distinct_bound zero [] b d = omega arith
+distinct_bound zero (x ∷ xs) b d = absurd (not-suc-le-zero b.0)
+distinct_bound (suc m) xs b d =
     let w = without m xs b d in
-    omega (arith, w.shorter, distinct-bound m w.others w.below w.distinct)
+    omega (arith, w.shorter, distinct_bound m w.others w.below w.distinct)
 
 -- ---- the dimension
 
-pub independent-short : (basis : List ℕ) → All IsElement basis → Independent basis → length basis ≤ 64
-independent-short basis e d = le_of_suc-le-suc (lt_of_not-le too_long)
+pub independent_short : (basis : List ℕ) → All IsElement basis → Independent basis → length basis ≤ 64
+independent_short basis e d = le_of_suc-le-suc (lt_of_not-le too_long)
   where
     fits : length (points 0 basis) ≤ 2 ^ 64
     fits =
-        distinct-bound (2 ^ 64) (points 0 basis) (points-elements 0 basis (omega arith) e) (points-distinct 0 basis d)
+        distinct_bound (2 ^ 64) (points 0 basis) (points-elements 0 basis (omega arith) e) (points_distinct 0 basis d)
 
     too_long : 65 ≤ length basis → ⊥
     too_long h = not-le_of_lt (pow-lt h) (subst (λ (n : ℕ). n ≤ 2 ^ 64) (length-points 0 basis) fits)
 
 -- ---- the first dependent place of a list by that of its first elements
 
-prefix-found : (n : ℕ) (earlier elements : List ℕ) (place i : ℕ)
-    → firstDependentAfter earlier (take n elements) place ≡ At i
-    → firstDependentAfter earlier elements place ≡ At i
-unfolding firstDependentAfter
-prefix-found zero earlier elements place i e = absurd (at-not-absent i (sym e))
-prefix-found (suc n) earlier [] place i e = e
-prefix-found (suc n) earlier (b ∷ elements) place i e =
-    by-test (in_span earlier b) e (prefix-found n (earlier ++ (b ∷ [])) elements (suc place) i)
+prefix_found : (n : ℕ) (earlier elements : List ℕ) (place i : ℕ)
+    → first_dependent_after earlier (take n elements) place ≡ At i
+    → first_dependent_after earlier elements place ≡ At i
+unfolding first_dependent_after
+prefix_found zero earlier elements place i e = absurd (at_not_absent i (sym e))
+prefix_found (suc n) earlier [] place i e = e
+prefix_found (suc n) earlier (b ∷ elements) place i e =
+    by_test (in_span earlier b) e (prefix_found n (earlier ++ (b ∷ [])) elements (suc place) i)
   where
-    by-test : (t : Bool)
-        → cond t (At place) (firstDependentAfter (earlier ++ (b ∷ [])) (take n elements) (suc place)) ≡ At i
-        → (firstDependentAfter (earlier ++ (b ∷ [])) (take n elements) (suc place) ≡ At i
-        → firstDependentAfter (earlier ++ (b ∷ [])) elements (suc place) ≡ At i)
-        → cond t (At place) (firstDependentAfter (earlier ++ (b ∷ [])) elements (suc place)) ≡ At i
-    by-test true h later = h
-    by-test false h later = later h
+    by_test : (t : Bool)
+        → cond t (At place) (first_dependent_after (earlier ++ (b ∷ [])) (take n elements) (suc place)) ≡ At i
+        → (first_dependent_after (earlier ++ (b ∷ [])) (take n elements) (suc place) ≡ At i
+        → first_dependent_after (earlier ++ (b ∷ [])) elements (suc place) ≡ At i)
+        → cond t (At place) (first_dependent_after (earlier ++ (b ∷ [])) elements (suc place)) ≡ At i
+    by_test true h later = h
+    by_test false h later = later h
 
-pub found-in-prefix : (n : ℕ) (basis : List ℕ) (i : ℕ) → firstDependent (take n basis) ≡ At i
-    → firstDependent basis ≡ At i
-unfolding firstDependent
-found-in-prefix n basis i e = prefix-found n [] basis 0 i e
+pub found_in_prefix : (n : ℕ) (basis : List ℕ) (i : ℕ) → first_dependent (take n basis) ≡ At i
+    → first_dependent basis ≡ At i
+unfolding first_dependent
+found_in_prefix n basis i e = prefix_found n [] basis 0 i e
 
-pub independent-prefix : (n : ℕ) (basis : List ℕ) → Independent basis → Independent (take n basis)
-independent-prefix n basis d = by (firstDependent (take n basis)) refl
+pub independent_prefix : (n : ℕ) (basis : List ℕ) → Independent basis → Independent (take n basis)
+independent_prefix n basis d = by (first_dependent (take n basis)) refl
   where
-    by : (q : Position) → firstDependent (take n basis) ≡ q → firstDependent (take n basis) ≡ Absent
+    by : (q : Position) → first_dependent (take n basis) ≡ q → first_dependent (take n basis) ≡ Absent
     by Absent f = f
-    by (At i) f = absurd (at-not-absent i (sym (found-in-prefix n basis i f) ∙ d))
+    by (At i) f = absurd (at_not_absent i (sym (found_in_prefix n basis i f) ∙ d))
 
 -- a place of a prefix is the same place of the list
 same_test : (n : ℕ) (basis : List ℕ) (t : ℕ) → t < n
@@ -125,26 +125,26 @@ same_test : (n : ℕ) (basis : List ℕ) (t : ℕ) → t < n
 same_test n basis t h = ap₂ in_span (take-take t n basis (le_of_lt h)) (get_or-take n basis t 0 h)
 
 -- where the first 64 of more elements are independent the next is dependent
-pub sixty-fifth : (basis : List ℕ) → All IsElement basis → 64 < length basis → Independent (take 64 basis)
-    → firstDependent basis ≡ At 64
-sixty-fifth basis e h d = by (firstDependent (take 65 basis)) refl
+pub sixty_fifth : (basis : List ℕ) → All IsElement basis → 64 < length basis → Independent (take 64 basis)
+    → first_dependent basis ≡ At 64
+sixty_fifth basis e h d = by (first_dependent (take 65 basis)) refl
   where
     both : (t : Bool) → t ≡ true → t ≡ false → ⊥
     both t p q = let impossible : ◌≡◌ {A = ℕ} 0 1 = cc in omega arith
 
-    at : (i : ℕ) → firstDependent (take 65 basis) ≡ At i → i < 65 → (i ≡ 64) ⊎ (i < 64) → firstDependent basis ≡ At 64
-    at i f l (inl s) = found-in-prefix 65 basis i f ∙ ap At s
+    at : (i : ℕ) → first_dependent (take 65 basis) ≡ At i → i < 65 → (i ≡ 64) ⊎ (i < 64) → first_dependent basis ≡ At 64
+    at i f l (inl s) = found_in_prefix 65 basis i f ∙ ap At s
     at i f l (inr s) =
         absurd
         (both (in_span (take i basis) (get_or basis i 0))
         (sym (same_test 65 basis i l) ∙ (first_found (take 65 basis) i f).1)
         (sym (same_test 64 basis i s)
-        ∙ none-dependent (take 64 basis) i d (omega (arith, length-take-le 64 basis (le_of_lt h)))))
+        ∙ none_dependent (take 64 basis) i d (omega (arith, length-take-le 64 basis (le_of_lt h)))))
 
-    by : (q : Position) → firstDependent (take 65 basis) ≡ q → firstDependent basis ≡ At 64
+    by : (q : Position) → first_dependent (take 65 basis) ≡ q → first_dependent basis ≡ At 64
     by Absent f =
         absurd
-        (omega (arith, independent-short (take 65 basis) (all_take IsElement 65 basis e) f, length-take-le 65 basis h))
+        (omega (arith, independent_short (take 65 basis) (all_take IsElement 65 basis e) f, length-take-le 65 basis h))
     by (At i) f =
         let l : i < 65 = omega (arith, (first_found (take 65 basis) i f).0, length-take-le 65 basis h) in
         at i f l (eq-or-lt_of_le (le_of_suc-le-suc l))

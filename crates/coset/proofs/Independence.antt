@@ -6,22 +6,22 @@ use Rattle.refusal.specs.declared.Cause.TheVariants.{BasisDependent}
 use Rattle.refusal.specs.declared.Outcome.TheVariants.{Done}
 use Rattle.refusal.specs.declared.Position.{Position}
 use Rattle.refusal.specs.declared.Position.TheVariants.{At, Absent}
-use Rattle.refusal.specs.Numbers.{numberOfOutcome}
-use Rattle.refusal.proofs.Checks.{refused-not-done}
-use Rattle.coset.specs.Span.{firstDependent, Independent}
+use Rattle.refusal.specs.Numbers.{number_of_outcome}
+use Rattle.refusal.proofs.Checks.{refused_not_done}
+use Rattle.coset.specs.Span.{first_dependent, Independent}
 use Rattle.coset.specs.Answers.{outcomeOfBasis, basisOutcome}
 
-pub independent-of : (basis : List ℕ) → basisOutcome basis ≡ Done → Independent basis
-independent-of basis e = by (firstDependent basis) e
+pub independent_of : (basis : List ℕ) → basisOutcome basis ≡ Done → Independent basis
+independent_of basis e = by (first_dependent basis) e
   where
     by : (p : Position) → outcomeOfBasis p ≡ Done → p ≡ Absent
-    by (At place) f = absurd (refused-not-done (BasisDependent place) f)
+    by (At place) f = absurd (refused_not_done (BasisDependent place) f)
     by Absent f = refl
 
 -- what holds of 0 and of 8 holds of its number
-pub basis-number : (P : ℕ → Type 0) → P 0 → P 8 → (basis : List ℕ) → P (numberOfOutcome (basisOutcome basis))
-basis-number P p0 p8 basis = by (firstDependent basis)
+pub basis_number : (P : ℕ → Type 0) → P 0 → P 8 → (basis : List ℕ) → P (number_of_outcome (basisOutcome basis))
+basis_number P p0 p8 basis = by (first_dependent basis)
   where
-    by : (p : Position) → P (numberOfOutcome (outcomeOfBasis p))
+    by : (p : Position) → P (number_of_outcome (outcomeOfBasis p))
     by (At place) = p8
     by Absent = p0

@@ -12,7 +12,7 @@ use Rattle.refusal.specs.declared.Position.{Position}
 use Rattle.refusal.specs.declared.Position.TheVariants.{At, Absent}
 use Rattle.poly.specs.Polynomial.{All}
 use Rattle.poly.proofs.Entries.{all_append}
-use Rattle.coset.specs.Span.{in_span, firstDependentAfter}
+use Rattle.coset.specs.Span.{in_span, first_dependent_after}
 use native.Mathlib.Omega.{arith}
 
 -- among the numbers of which P holds, f sends to zero exactly 0 and b
@@ -23,8 +23,8 @@ Kernel P f b = (a : ℕ) → P a → eqb (f a) 0 ≡ (eqb a 0 || eqb (bit_xor a 
 abbrev pub Closed : (ℕ → Type 0) → Type 0
 Closed P = (a b : ℕ) → P a → P b → P (bit_xor a b)
 
-pub at-not-absent : (place : ℕ) → At place ≡ Absent → ⊥
-at-not-absent place e = let impossible : ◌≡◌ {A = ℕ} 0 1 = cc in omega arith
+pub at_not_absent : (place : ℕ) → At place ≡ Absent → ⊥
+at_not_absent place e = let impossible : ◌≡◌ {A = ℕ} 0 1 = cc in omega arith
 
 or_swap : (a b c d : Bool) → ((a || b) || (c || d)) ≡ ((a || c) || (b || d))
 or_swap true b c d = refl
@@ -34,14 +34,14 @@ or_swap false false true d = refl
 or_swap false false false d = refl
 
 module _ (P : ℕ → Type 0) (closed : Closed P) (f : ℕ → ℕ) (b : ℕ) (additive : Additive f) (kernel : Kernel P f b) where
-  pub span-image : (elements : List ℕ) (a : ℕ) → All P elements → P a
+  pub span_image : (elements : List ℕ) (a : ℕ) → All P elements → P a
       → in_span (map f elements) (f a) ≡ in_span (b ∷ elements) a
   unfolding in_span
-  span-image [] a pe pa = kernel a pa
-  span-image (c ∷ elements) a pe pa =
-      ap₂ ◌||◌ (span-image elements a pe.1 pa)
+  span_image [] a pe pa = kernel a pa
+  span_image (c ∷ elements) a pe pa =
+      ap₂ ◌||◌ (span_image elements a pe.1 pa)
       (ap (in_span (map f elements)) (sym (additive a c))
-      ∙ span-image elements (bit_xor a c) pe.1 (closed a c pa pe.0))
+      ∙ span_image elements (bit_xor a c) pe.1 (closed a c pa pe.0))
       ∙ or_swap (in_span elements a) (in_span elements (bit_xor a b)) (in_span elements (bit_xor a c))
       (in_span elements (bit_xor (bit_xor a c) b))
       ∙ ap (λ (s : ℕ). (in_span elements a || in_span elements (bit_xor a c))
@@ -50,12 +50,12 @@ module _ (P : ℕ → Type 0) (closed : Closed P) (f : ℕ → ℕ) (b : ℕ) (a
       exchanged : bit_xor (bit_xor a c) b ≡ bit_xor (bit_xor a b) c
       exchanged = xor_assoc a c b ∙ ap (bit_xor a) (xor_comm c b) ∙ sym (xor_assoc a b c)
 
-  pub first-image : (earlier elements : List ℕ) (place : ℕ) → All P earlier → All P elements
-      → firstDependentAfter (b ∷ earlier) elements place ≡ firstDependentAfter (map f earlier) (map f elements) place
-  unfolding firstDependentAfter
-  first-image earlier [] place pe ps = refl
-  first-image earlier (c ∷ elements) place pe ps =
-      ap₂ (λ (t : Bool) (rest : Position). cond t (At place) rest) (sym (span-image earlier c pe ps.0))
-      (first-image (earlier ++ (c ∷ [])) elements (suc place)
+  pub first_image : (earlier elements : List ℕ) (place : ℕ) → All P earlier → All P elements
+      → first_dependent_after (b ∷ earlier) elements place ≡ first_dependent_after (map f earlier) (map f elements) place
+  unfolding first_dependent_after
+  first_image earlier [] place pe ps = refl
+  first_image earlier (c ∷ elements) place pe ps =
+      ap₂ (λ (t : Bool) (rest : Position). cond t (At place) rest) (sym (span_image earlier c pe ps.0))
+      (first_image (earlier ++ (c ∷ [])) elements (suc place)
       (all_append P earlier (c ∷ []) pe (ps.0, record {})) ps.1
-      ∙ ap (λ (l : List ℕ). firstDependentAfter l (map f elements) (suc place)) (map-append f earlier (c ∷ [])))
+      ∙ ap (λ (l : List ℕ). first_dependent_after l (map f elements) (suc place)) (map-append f earlier (c ∷ [])))

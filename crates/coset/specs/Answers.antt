@@ -5,7 +5,7 @@ use Rattle.refusal.specs.declared.Outcome.{Outcome}
 use Rattle.refusal.specs.declared.Outcome.TheVariants.{Done, Refused}
 use Rattle.refusal.specs.declared.Position.{Position}
 use Rattle.refusal.specs.declared.Position.TheVariants.{At, Absent}
-use Rattle.coset.specs.Span.{firstDependent}
+use Rattle.coset.specs.Span.{first_dependent}
 
 -- a dependent basis is refused (8) at its first dependent place
 abbrev pub outcomeOfBasis : (dependent : Position) → Outcome
@@ -14,4 +14,4 @@ outcomeOfBasis Absent = Done
 
 -- the check of a basis: no element may lie in the span of earlier ones (8)
 abbrev pub basisOutcome : (basis : List ℕ) → Outcome
-basisOutcome basis = outcomeOfBasis (firstDependent basis)
+basisOutcome basis = outcomeOfBasis (first_dependent basis)

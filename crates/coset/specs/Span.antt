@@ -11,15 +11,15 @@ in_span (b ∷ elements) a = in_span elements a || in_span elements (sum a b)
 
 -- the first of the elements that lies in the span of those before it, `earlier` ones included;
 -- the first element has the place given
-unfoldable pub firstDependentAfter : (earlier elements : List ℕ) (place : ℕ) → Position
-firstDependentAfter earlier [] place = Absent
-firstDependentAfter earlier (b ∷ elements) place =
-    cond (in_span earlier b) (At place) (firstDependentAfter (earlier ++ (b ∷ [])) elements (suc place))
+unfoldable pub first_dependent_after : (earlier elements : List ℕ) (place : ℕ) → Position
+first_dependent_after earlier [] place = Absent
+first_dependent_after earlier (b ∷ elements) place =
+    cond (in_span earlier b) (At place) (first_dependent_after (earlier ++ (b ∷ [])) elements (suc place))
 
 -- the first place, from 0, whose element lies in the span of the earlier ones
-unfoldable pub firstDependent : (basis : List ℕ) → Position
-firstDependent basis = firstDependentAfter [] basis 0
+unfoldable pub first_dependent : (basis : List ℕ) → Position
+first_dependent basis = first_dependent_after [] basis 0
 
 -- no element lies in the span of earlier ones
 abbrev pub Independent : (basis : List ℕ) → Type 0
-Independent basis = firstDependent basis ≡ Absent
+Independent basis = first_dependent basis ≡ Absent

@@ -5,10 +5,10 @@ use Rattle.refusal.specs.declared.Position.TheVariants.{At}
 use Rattle.gf64.specs.Field.{IsElement, sum}
 use Rattle.poly.specs.Polynomial.{All, Distinct}
 use Rattle.coset.specs.Coset.{point, points}
-use Rattle.coset.specs.Sequence.{prefixSums}
-use Rattle.coset.specs.Span.{in_span, firstDependent, Independent}
-use Rattle.coset.specs.Subspace.{subspacePolynomial, lowerCoefficients, image, nextOffset, nextBasis}
-use Rattle.coset.specs.Steps.{composedMaps, stepElements}
+use Rattle.coset.specs.Sequence.{prefix_sums}
+use Rattle.coset.specs.Span.{in_span, first_dependent, Independent}
+use Rattle.coset.specs.Subspace.{subspace_polynomial, lower_coefficients, image, next_offset, next_basis}
+use Rattle.coset.specs.Steps.{composed_maps, step_elements}
 
 -- the points of a coset
 pub record Cosets : Type 0 where
@@ -24,15 +24,15 @@ pub record Cosets : Type 0 where
   pub distinct : (offset : ℕ) (basis : List ℕ) → Independent basis → Distinct (points offset basis)
   -- from point j to point j + 1 by one of the prefix sums of the basis
   pub next : (offset : ℕ) (basis : List ℕ) (j : ℕ) → length basis ≤ 64 → suc j < 2 ^ length basis
-      → sum (point offset basis j) (get_or (prefixSums 0 basis) (count_trailing_zeros 64 (suc j)) 0) ≡ point offset basis (suc j)
+      → sum (point offset basis j) (get_or (prefix_sums 0 basis) (count_trailing_zeros 64 (suc j)) 0) ≡ point offset basis (suc j)
 
--- `firstDependent` finds the first element that lies in the span of the earlier ones
+-- `first_dependent` finds the first element that lies in the span of the earlier ones
 pub record FirstDependent : Type 0 where
   -- it lies there
-  pub found : (basis : List ℕ) (i : ℕ) → firstDependent basis ≡ At i
+  pub found : (basis : List ℕ) (i : ℕ) → first_dependent basis ≡ At i
       → (i < length basis) × (in_span (take i basis) (get_or basis i 0) ≡ true)
   -- and none before it does
-  pub first : (basis : List ℕ) (i t : ℕ) → firstDependent basis ≡ At i → t < i
+  pub first : (basis : List ℕ) (i t : ℕ) → first_dependent basis ≡ At i → t < i
       → in_span (take t basis) (get_or basis t 0) ≡ false
   -- an independent basis has none
   pub none : (basis : List ℕ) (t : ℕ) → Independent basis → t < length basis
@@ -44,11 +44,11 @@ pub record FirstDependent : Type 0 where
 pub record Subspaces : Type 0 where
   -- it is monic, of degree 2^step
   pub monic : (step : ℕ) (basis : List ℕ) → step ≤ length basis
-      → (length (subspacePolynomial step basis) ≡ 2 ^ step + 1)
-      × (get_or (subspacePolynomial step basis) (2 ^ step) 0 ≡ 1)
-  -- `lowerCoefficients` are those below the leading one
+      → (length (subspace_polynomial step basis) ≡ 2 ^ step + 1)
+      × (get_or (subspace_polynomial step basis) (2 ^ step) 0 ≡ 1)
+  -- `lower_coefficients` are those below the leading one
   pub lower : (step : ℕ) (basis : List ℕ) → step ≤ length basis
-      → subspacePolynomial step basis ≡ lowerCoefficients step basis ++ (1 ∷ [])
+      → subspace_polynomial step basis ≡ lower_coefficients step basis ++ (1 ∷ [])
   -- additive
   pub additive : (step : ℕ) (basis : List ℕ) (a b : ℕ) → IsElement a → IsElement b
       → image step basis (sum a b) ≡ sum (image step basis a) (image step basis b)
@@ -57,24 +57,24 @@ pub record Subspaces : Type 0 where
       → (image step basis x ≡ 0) ↔ (in_span (take step basis) x ≡ true)
   -- the composition of the maps X · (X - e)
   pub composition : (step : ℕ) (basis : List ℕ) (x : ℕ) → IsElement x
-      → image step basis x ≡ composedMaps (stepElements step basis) x
+      → image step basis x ≡ composed_maps (step_elements step basis) x
   -- whose elements are not zero where the basis is independent: these a fold inverts
   pub elements : (step : ℕ) (basis : List ℕ) → All IsElement basis → Independent basis
-      → All (λ e. e ≢ 0) (stepElements step basis)
+      → All (λ e. e ≢ 0) (step_elements step basis)
 
 -- the next coset
 pub record NextCosets : Type 0 where
   -- its dimension is less by the step
-  pub count : (step : ℕ) (basis : List ℕ) → length (nextBasis step basis) ≡ length basis - step
+  pub count : (step : ℕ) (basis : List ℕ) → length (next_basis step basis) ≡ length basis - step
   -- its basis is independent where the basis is
   pub independent : (step : ℕ) (basis : List ℕ) → All IsElement basis → Independent basis
-      → Independent (nextBasis step basis)
+      → Independent (next_basis step basis)
   -- its point j is the image of the old points from j · 2^step on, 2^step of them
   pub points : (step offset : ℕ) (basis : List ℕ) (j i : ℕ) → IsElement offset → All IsElement basis → i < 2 ^ step
       → image step basis (point offset basis (j * 2 ^ step + i))
-      ≡ point (nextOffset step offset basis) (nextBasis step basis) j
+      ≡ point (next_offset step offset basis) (next_basis step basis) j
   -- and of no other
   pub only : (step offset : ℕ) (basis : List ℕ) (i j : ℕ) → IsElement offset → All IsElement basis → Independent basis
       → step ≤ length basis → i < 2 ^ length basis → j < 2 ^ (length basis - step)
-      → image step basis (point offset basis i) ≡ point (nextOffset step offset basis) (nextBasis step basis) j
+      → image step basis (point offset basis i) ≡ point (next_offset step offset basis) (next_basis step basis) j
       → i / 2 ^ step ≡ j

@@ -4,8 +4,8 @@
 ghost use Rattle.std.specs.Prelude.{◌≡◌, ◌+◌, ◌^◌, ◌≤◌, ◌<◌, length};
 ghost use Rattle.poly.specs.Carrier.{gf64};
 ghost use Rattle.poly.specs.Polynomial.{DegreeBelow};
-ghost use Rattle.transform.specs.Transform.{firstAdded, secondAdded, normalisedAt};
-ghost use Rattle.transform.specs.Transform.{splitInHalves, joinedFromHalves};
+ghost use Rattle.transform.specs.Transform.{first_added, second_added, normalised_at};
+ghost use Rattle.transform.specs.Transform.{split_in_halves, joined_from_halves};
 
 use field::Element;
 
@@ -22,8 +22,8 @@ pub fn split(
     requires { (n ≤ length basis.now) × (length elements.now ≡ length basis.now)
         × (length inverses.now ≡ length basis.now) × (length slice.old ≡ 2 ^ n)
         × DegreeBelow gf64 (2 ^ used) slice.old }
-    ensures { let z = normalisedAt elements.now inverses.now in
-        slice.new ≡ splitInHalves z basis.now n offset.0 slice.old }
+    ensures { let z = normalised_at elements.now inverses.now in
+        slice.new ≡ split_in_halves z basis.now n offset.0 slice.old }
 {
     if n == 0 {
         return;
@@ -65,8 +65,8 @@ fn step(
 )
     requires { (n < length elements.now) × (n < length inverses.now) × (length slice.old ≡ 2 ^ n + 2 ^ n)
         × DegreeBelow gf64 (2 ^ used) slice.old }
-    ensures { let c = normalisedAt elements.now inverses.now n offset.0 in
-        slice.new ≡ firstAdded (2 ^ n) (secondAdded c (2 ^ n) slice.old) }
+    ensures { let c = normalised_at elements.now inverses.now n offset.0 in
+        slice.new ≡ first_added (2 ^ n) (second_added c (2 ^ n) slice.old) }
 {
     if n >= used {
         transform_steps::add_first(slice);
@@ -88,8 +88,8 @@ pub fn join(
 )
     requires { (n ≤ length basis.now) × (length elements.now ≡ length basis.now)
         × (length inverses.now ≡ length basis.now) × (length slice.old ≡ 2 ^ n) }
-    ensures { let z = normalisedAt elements.now inverses.now in
-        slice.new ≡ joinedFromHalves z basis.now n offset.0 slice.old }
+    ensures { let z = normalised_at elements.now inverses.now in
+        slice.new ≡ joined_from_halves z basis.now n offset.0 slice.old }
 {
     if n == 0 {
         return;
@@ -118,8 +118,8 @@ pub fn join(
 
 fn step_back(n: usize, offset: Element, elements: &[u64], inverses: &[u64], slice: &mut [u64])
     requires { (n < length elements.now) × (n < length inverses.now) × (length slice.old ≡ 2 ^ n + 2 ^ n) }
-    ensures { let c = normalisedAt elements.now inverses.now n offset.0 in
-        slice.new ≡ secondAdded c (2 ^ n) (firstAdded (2 ^ n) slice.old) }
+    ensures { let c = normalised_at elements.now inverses.now n offset.0 in
+        slice.new ≡ second_added c (2 ^ n) (first_added (2 ^ n) slice.old) }
 {
     let c = multiplier(elements, inverses, n, offset);
     transform_steps::add_first(slice);
@@ -129,7 +129,7 @@ fn step_back(n: usize, offset: Element, elements: &[u64], inverses: &[u64], slic
 // z_n at x.
 fn multiplier(elements: &[u64], inverses: &[u64], n: usize, x: Element) -> Element
     requires { (n < length elements.now) × (n < length inverses.now) }
-    ensures { result.0 ≡ normalisedAt elements.now inverses.now n x.0 }
+    ensures { result.0 ≡ normalised_at elements.now inverses.now n x.0 }
 {
     let inverse = inverses[n];
     next_coset::composed_maps(&elements[..n], x).product(Element(inverse))

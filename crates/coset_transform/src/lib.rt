@@ -6,7 +6,7 @@ ghost use Rattle.gf64.specs.Field.{inverse};
 ghost use Rattle.poly.specs.Carrier.{gf64};
 ghost use Rattle.poly.specs.Polynomial.{DegreeBelow, padded};
 ghost use Rattle.coset.specs.Span.{Independent};
-ghost use Rattle.coset.specs.Steps.{stepElements};
+ghost use Rattle.coset.specs.Steps.{step_elements};
 ghost use Rattle.reed_solomon.specs.Codes.{encoded, interpolated};
 
 use field::Element;
@@ -46,7 +46,7 @@ fn evaluate_with(
 )
     requires { (length basis.now ≤ 20) × Independent basis.now × (used ≤ length basis.now)
         × (length slice.old ≡ 2 ^ length basis.now) × DegreeBelow gf64 (2 ^ used) slice.old
-        × (elements.now ≡ stepElements (length basis.now) basis.now)
+        × (elements.now ≡ step_elements (length basis.now) basis.now)
         × (inverses.now ≡ map inverse elements.now) }
     ensures { slice.new ≡ encoded offset.0 basis.now slice.old }
 {
@@ -64,7 +64,7 @@ fn interpolate_with(
 )
     requires { (length basis.now ≤ 20) × Independent basis.now
         × (length slice.old ≡ 2 ^ length basis.now)
-        × (elements.now ≡ stepElements (length basis.now) basis.now)
+        × (elements.now ≡ step_elements (length basis.now) basis.now)
         × (inverses.now ≡ map inverse elements.now) }
     ensures { slice.new ≡ interpolated offset.0 basis.now slice.old }
 {
@@ -76,7 +76,7 @@ fn interpolate_with(
 // The elements e_j of the maps X · (X - e) whose compositions are the subspace polynomials, and zeros.
 fn step_elements(basis: &[u64]) -> [u64; 20]
     requires { length basis.now ≤ 20 }
-    ensures { result ≡ padded gf64 20 (stepElements (length basis.now) basis.now) }
+    ensures { result ≡ padded gf64 20 (step_elements (length basis.now) basis.now) }
 {
     let mut elements = [0u64; 20];
     next_coset::fill_elements(basis, &mut elements);
@@ -86,7 +86,7 @@ fn step_elements(basis: &[u64]) -> [u64; 20]
 // Their inverses, and zeros. None of them is zero, since the basis is independent (`Subspaces.elements`).
 fn inverses_of(basis: &[u64], elements: &[u64]) -> [u64; 20]
     requires { (length basis.now ≤ 20) × Independent basis.now
-        × (elements.now ≡ stepElements (length basis.now) basis.now) }
+        × (elements.now ≡ step_elements (length basis.now) basis.now) }
     ensures { result ≡ padded gf64 20 (map inverse elements.now) }
 {
     let mut inverses = [0u64; 20];

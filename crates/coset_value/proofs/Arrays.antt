@@ -5,7 +5,7 @@ use Prim.Native.Nat.{ℕ, zero, suc, ◌+◌, ◌<◌, ◌≤◌}
 use lib.ListN.{length, get_or, set, replicate, get_or-map, length-map}
 use Rattle.poly.specs.Carrier.{gf64}
 use Rattle.poly.specs.Polynomial.{padded}
-use Rattle.poly.proofs.Filling.{filled, filled-start, padded-next, filled-padded}
+use Rattle.poly.proofs.Filling.{filled, filled_start, padded_next, filled_padded}
 use Rattle.field.specs.declared.Element.{Element}
 use Rattle.coset_value.specs.Cosets.{element, elements, numbers}
 
@@ -32,18 +32,18 @@ set-element (n ∷ l) (suc i) e = ap {B = List Element} (λ r. element n ∷ r) 
 unfoldable pub begun : (p : List ℕ) (j : ℕ) → List Element
 begun p j = elements (filled (padded gf64 8 p) (replicate 8 0) j)
 
-pub begun-start : (p : List ℕ) → replicate 8 (element 0) ≡ begun p 0
+pub begun_start : (p : List ℕ) → replicate 8 (element 0) ≡ begun p 0
 unfolding begun elements
-begun-start p = ap (map element) (filled-start (padded gf64 8 p) (replicate 8 0))
+begun_start p = ap (map element) (filled_start (padded gf64 8 p) (replicate 8 0))
 
-pub begun-next : (p : List ℕ) (held : List Element) (j : ℕ) (e : Element) → held ≡ begun p j
+pub begun_next : (p : List ℕ) (held : List Element) (j : ℕ) (e : Element) → held ≡ begun p j
     → j < length p → length p ≤ 8 → e.0 ≡ get_or p j 0 → set held j e ≡ begun p (j + 1)
 unfolding begun
-begun-next p held j e was h l is =
+begun_next p held j e was h l is =
     ap (λ (es : List Element). set es j e) was ∙ set-element (filled (padded gf64 8 p) (replicate 8 0) j) j e
-    ∙ ap elements (padded-next 8 p j e.0 h l is)
+    ∙ ap elements (padded_next 8 p j e.0 h l is)
 
 pub begun_all : (p : List ℕ) (held : List Element) (j : ℕ) → held ≡ begun p j → length p ≤ j → length p ≤ 8
     → held ≡ elements (padded gf64 8 p)
 unfolding begun
-begun_all p held j was h l = was ∙ ap elements (filled-padded 8 p j h l)
+begun_all p held j was h l = was ∙ ap elements (filled_padded 8 p j h l)

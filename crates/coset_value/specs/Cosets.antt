@@ -19,8 +19,8 @@ unfoldable pub numbers : (elements : List Element) → List ℕ
 numbers elements = map (λ (e : Element). e.0) elements
 
 -- the coset with these points and entries, and zeros behind them
-abbrev pub cosetOf : (points entries : List ℕ) (count : ℕ) → Coset
-cosetOf points entries count =
+abbrev pub coset_of : (points entries : List ℕ) (count : ℕ) → Coset
+coset_of points entries count =
     record {
       points = elements (padded gf64 8 points);
       entries = elements (padded gf64 8 entries);
@@ -28,5 +28,5 @@ cosetOf points entries count =
     }
 
 -- the coset whose first point is given: a point for each entry of the span, with the part of the word that lies there
-abbrev pub cosetRead : (span : List ℕ) (first : ℕ) (part : List ℕ) → Coset
-cosetRead span first part = cosetOf (map (sum first) span) part (length span)
+abbrev pub coset_read : (span : List ℕ) (first : ℕ) (part : List ℕ) → Coset
+coset_read span first part = coset_of (map (sum first) span) part (length span)

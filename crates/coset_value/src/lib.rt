@@ -7,8 +7,8 @@ ghost use Rattle.gf64.specs.Field.{sum, inverse};
 ghost use Rattle.poly.specs.Carrier.{gf64};
 ghost use Rattle.poly.specs.Polynomial.{All, padded};
 ghost use Rattle.coset.specs.Coset.{points};
-ghost use Rattle.fold.specs.Halving.{line_at, halvedPoints, halvedEntries, value_at};
-ghost use Rattle.coset_value.specs.Cosets.{elements, numbers, cosetOf, cosetRead};
+ghost use Rattle.fold.specs.Halving.{line_at, halved_points, halved_entries, value_at};
+ghost use Rattle.coset_value.specs.Cosets.{elements, numbers, coset_of, coset_read};
 
 use field::Element;
 
@@ -24,7 +24,7 @@ impl Coset {
     // Point i is the first point plus entry i of the span; part is the coset's part of the word.
     pub fn read(span: &[u64], first: Element, part: &[u64]) -> Coset
         requires { (length span.now ≤ 8) × (length part.now ≡ length span.now) }
-        ensures { result ≡ cosetRead span.now first.0 part.now }
+        ensures { result ≡ coset_read span.now first.0 part.now }
     {
         let mut points = [Element::ZERO; 8];
         let mut entries = [Element::ZERO; 8];
@@ -84,7 +84,7 @@ impl Coset {
         ensures { let half = self.count / 2 in
             let points = numbers self.points in
             let entries = numbers self.entries in
-            result ≡ cosetOf (halvedPoints half points) (halvedEntries inverse.0 half points entries) half }
+            result ≡ coset_of (halved_points half points) (halved_entries inverse.0 half points entries) half }
     {
         let half = self.count / 2;
         let mut points = [Element::ZERO; 8];

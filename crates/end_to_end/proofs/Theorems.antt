@@ -7,36 +7,36 @@ use Rattle.poly.specs.Polynomial.{All}
 use Rattle.fri.specs.declared.Answer.TheVariants as answers
 use Rattle.fri.specs.declared.Verdict.{Verdict}
 use Rattle.fri.specs.Run.{Run}
-use Rattle.fri.specs.Judge.{verdictOf}
+use Rattle.fri.specs.Judge.{verdict_of}
 use Rattle.fri.specs.Demand.{Any, Accepted, Visits}
 use Rattle.fri.proofs.Soundness.{soundness}
-use Rattle.fri.proofs.Completeness.{completeness, honest-proofs}
-use Rattle.transcript.specs.Judge.{transcriptVerdict}
-use Rattle.written.specs.Writer.{writeOutcome, bytesAfter}
-use Rattle.written.proofs.Written.{written-bytes}
+use Rattle.fri.proofs.Completeness.{completeness, honest_proofs}
+use Rattle.transcript.specs.Judge.{transcript_verdict}
+use Rattle.written.specs.Writer.{write_outcome, bytes_after}
+use Rattle.written.proofs.Written.{written_bytes}
 use Rattle.end_to_end.specs.Theorems.{leaving, Judging, Judged, ProvedIsAccepted, WrittenIsAccepted}
 use Rattle.end_to_end.specs.Theorems.{JudgedSoundness}
 
-pub proved-is-accepted : ProvedIsAccepted
-proved-is-accepted run queries outcome store last verdict h proved v =
-    let honest = honest-proofs.proves run h.coset h.input h.low h.store-fits h.last_fits in
+pub proved_is_accepted : ProvedIsAccepted
+proved_is_accepted run queries outcome store last verdict h proved v =
+    let honest = honest_proofs.proves run h.coset h.input h.low h.store_fits h.last_fits in
     let left =
-    ap₂ (λ (x y : List ℕ). verdictOf (leaving run x y) queries) (proved.store ∙ honest.1) (proved.last ∙ honest.2)
+    ap₂ (λ (x y : List ℕ). verdict_of (leaving run x y) queries) (proved.store ∙ honest.1) (proved.last ∙ honest.2)
     in (
       proved.answer ∙ honest.0,
-      v ∙ left ∙ completeness run queries h.coset h.input h.low h.queries-valid h.queries-apart,
+      v ∙ left ∙ completeness run queries h.coset h.input h.low h.queries_valid h.queries_apart,
     )
 
-pub written-is-accepted : WrittenIsAccepted
-written-is-accepted run queries held proved written store last bytes verdict h size p w v =
-    let done = honest-proofs.proves run h.coset h.input h.low h.store-fits h.last_fits in
+pub written_is_accepted : WrittenIsAccepted
+written_is_accepted run queries held proved written store last bytes verdict h size p w v =
+    let done = honest_proofs.proves run h.coset h.input h.low h.store_fits h.last_fits in
     let same = ap₂ (leaving run) (p.store ∙ done.1) (p.last ∙ done.2) in (
       p.answer ∙ done.0,
-      w.answer ∙ ap₂ (λ (x : Run) (n : ℕ). writeOutcome x queries n) same size
-          ∙ written-bytes.honest-done run queries h.coset h.input h.queries-valid h.queries-apart,
-      v ∙ ap transcriptVerdict (w.bytes ∙ ap (λ (x : Run). bytesAfter x queries held) same)
-          ∙ written-bytes.honest-accepted run queries held h.coset h.input h.low h.queries-valid
-          h.queries-apart size,
+      w.answer ∙ ap₂ (λ (x : Run) (n : ℕ). write_outcome x queries n) same size
+          ∙ written_bytes.honest_done run queries h.coset h.input h.queries_valid h.queries_apart,
+      v ∙ ap transcript_verdict (w.bytes ∙ ap (λ (x : Run). bytes_after x queries held) same)
+          ∙ written_bytes.honest_accepted run queries held h.coset h.input h.low h.queries_valid
+          h.queries_apart size,
     )
 
 lists : List Judging → List (List ℕ)
@@ -52,6 +52,6 @@ visited run coset (judging ∷ judgings) judged (inl (a, v)) =
 visited run coset (judging ∷ judgings) judged (inr rest) = inr (visited run coset judgings judged.1 rest)
 visited run coset [] judged none = none
 
-pub judged-soundness : JudgedSoundness
-judged-soundness run judgings e judged covers =
+pub judged_soundness : JudgedSoundness
+judged_soundness run judgings e judged covers =
     soundness run (lists judgings) e (λ coset h. visited run coset judgings judged (covers coset h))

@@ -1,10 +1,10 @@
 -- The promises of prover and judge together, and of prover, writer and judge over bytes, in named parts.
 use Rattle.std.specs.Prelude.{◌≡◌, List, ℕ, length}
 use Rattle.refusal.specs.declared.Outcome.TheVariants.{Done}
-use Rattle.fri.specs.Run.{Run, stepsIn}
-use Rattle.fri.specs.Judge.{verdictOf}
-use Rattle.transcript.specs.Judge.{transcriptVerdict}
-use Rattle.written.specs.Transcript.{transcriptLength}
+use Rattle.fri.specs.Run.{Run, steps_in}
+use Rattle.fri.specs.Judge.{verdict_of}
+use Rattle.transcript.specs.Judge.{transcript_verdict}
+use Rattle.written.specs.Transcript.{transcript_length}
 use Rattle.prover.specs.Proved.{Proved}
 use Rattle.writer.specs.Written.{Written}
 use Rattle.end_to_end.specs.declared.ProvedAndJudged.{ProvedAndJudged}
@@ -17,7 +17,7 @@ pub record ProvedThenJudged (run : Run) (queries : List ℕ) (r : ProvedAndJudge
   -- the prover's answer and both lists
   pub proved : Proved run r.outcome stored coefficients
   -- the judge's verdict on what the lists hold then
-  pub verdict : r.verdict ≡ verdictOf (leaving run stored coefficients) queries
+  pub verdict : r.verdict ≡ verdict_of (leaving run stored coefficients) queries
   -- where the input is honest it is proved and accepted
   pub accepts : Honest run queries → (r.outcome ≡ Done) × (r.verdict ≡ accepted run queries)
 
@@ -30,7 +30,7 @@ pub record ProvedThenWritten (run : Run) (queries held : List ℕ) (r : ProvedWr
   -- the writer's answer on what these hold then, and the bytes
   pub written : Written (leaving run stored coefficients) queries held r.written bytes
   -- the verdict of the judge over bytes on what the bytes are then
-  pub verdict : r.verdict ≡ transcriptVerdict bytes
+  pub verdict : r.verdict ≡ transcript_verdict bytes
   -- where the input is honest and the bytes are as many as are needed, it is proved, written and accepted
-  pub accepts : Honest run queries → length held ≡ transcriptLength run.k run.rate (stepsIn run) (length queries)
+  pub accepts : Honest run queries → length held ≡ transcript_length run.k run.rate (steps_in run) (length queries)
       → (r.proved ≡ Done) × (r.written ≡ Done) × (r.verdict ≡ accepted run queries)

@@ -8,29 +8,29 @@ use Rattle.refusal.specs.declared.Outcome.{Outcome}
 use Rattle.refusal.specs.declared.Outcome.TheVariants.{Done}
 use Rattle.fri.specs.declared.Answer.TheVariants as answers
 use Rattle.fri.specs.declared.Verdict.{Verdict}
-use Rattle.fri.specs.Layout.{lastCount, storeLength}
-use Rattle.fri.specs.Run.{Run, stepsIn, roundsIn, stepIn}
-use Rattle.fri.specs.Judge.{verdictOf}
-use Rattle.transcript.specs.Judge.{transcriptVerdict}
-use Rattle.written.specs.Transcript.{transcriptLength}
+use Rattle.fri.specs.Layout.{last_count, store_length}
+use Rattle.fri.specs.Run.{Run, steps_in, rounds_in, step_in}
+use Rattle.fri.specs.Judge.{verdict_of}
+use Rattle.transcript.specs.Judge.{transcript_verdict}
+use Rattle.written.specs.Transcript.{transcript_length}
 use Rattle.prover.specs.Proved.{Proved}
 use Rattle.writer.specs.Written.{Written}
 use Rattle.fri.specs.Demand.{ValidCoset, ProverInput, LowDegree, ValidQueries, Apart, Any, Visits, Elements, Sound}
 
 -- a word of low degree over a valid coset, any challenges, two lent lists of the lengths due, and a valid query list
--- in which no two queries share a first-layer coset
+-- in which no two queries share a first_layer coset
 pub record Honest (run : Run) (queries : List ℕ) : Type 0 where
   pub coset : ValidCoset run
   pub input : ProverInput run
   pub low : LowDegree run
-  pub store-fits : length run.store ≡ storeLength run.k (stepsIn run)
-  pub last_fits : length run.last ≡ lastCount run.k run.rate (stepsIn run)
-  pub queries-valid : ValidQueries run.k queries
-  pub queries-apart : Apart (stepIn run 0) queries
+  pub store_fits : length run.store ≡ store_length run.k (steps_in run)
+  pub last_fits : length run.last ≡ last_count run.k run.rate (steps_in run)
+  pub queries_valid : ValidQueries run.k queries
+  pub queries_apart : Apart (step_in run 0) queries
 
 -- accepted, with queries · r · 2^η entries read
 abbrev pub accepted : (run : Run) (queries : List ℕ) → Verdict
-accepted run queries = record { answer = answers.Accepted; reads = length queries * roundsIn run * 2 ^ run.step }
+accepted run queries = record { answer = answers.Accepted; reads = length queries * rounds_in run * 2 ^ run.step }
 
 -- the run with these lists in the place of its store and its last coefficients
 abbrev pub leaving : (run : Run) (store last : List ℕ) → Run
@@ -51,7 +51,7 @@ leaving run store last =
 abbrev pub ProvedIsAccepted : Type 0
 ProvedIsAccepted =
     (run : Run) (queries : List ℕ) (outcome : Outcome) (store last : List ℕ) (verdict : Verdict)
-    → Honest run queries → Proved run outcome store last → verdict ≡ verdictOf (leaving run store last) queries
+    → Honest run queries → Proved run outcome store last → verdict ≡ verdict_of (leaving run store last) queries
     → (outcome ≡ Done) × (verdict ≡ accepted run queries)
 
 -- the same through bytes: `write` puts what `prove` leaves of such a word into as many bytes as are needed, and these
@@ -59,9 +59,9 @@ ProvedIsAccepted =
 abbrev pub WrittenIsAccepted : Type 0
 WrittenIsAccepted =
     (run : Run) (queries held : List ℕ) (proved written : Outcome) (store last bytes : List ℕ) (verdict : Verdict)
-    → Honest run queries → length held ≡ transcriptLength run.k run.rate (stepsIn run) (length queries)
+    → Honest run queries → length held ≡ transcript_length run.k run.rate (steps_in run) (length queries)
     → Proved run proved store last → Written (leaving run store last) queries held written bytes
-    → verdict ≡ transcriptVerdict bytes
+    → verdict ≡ transcript_verdict bytes
     → (proved ≡ Done) × (written ≡ Done) × (verdict ≡ accepted run queries)
 
 -- a query list and the verdict on it
@@ -71,12 +71,12 @@ pub record Judging : Type 0 where
 
 -- the contract of `judge`: the verdict is that of the definition
 abbrev pub Judged : (run : Run) (judging : Judging) → Type 0
-Judged run judging = judging.verdict ≡ verdictOf run judging.queries
+Judged run judging = judging.verdict ≡ verdict_of run judging.queries
 
--- the accepted ones together visit every first-layer coset
+-- the accepted ones together visit every first_layer coset
 abbrev pub VisitedByAccepted : (run : Run) (judgings : List Judging) → Type 0
 VisitedByAccepted run judgings =
-    (coset : ℕ) → coset < 2 ^ (run.k - stepIn run 0)
+    (coset : ℕ) → coset < 2 ^ (run.k - step_in run 0)
     → Any (λ judging. (judging.verdict.answer ≡ answers.Accepted) × Visits run judging.queries coset) judgings
 
 -- demand 3, second half: one claim over any list of judgings of the same layers from anybody

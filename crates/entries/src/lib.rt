@@ -2,7 +2,7 @@
 // to 2^62, far beyond where sections end (2^40), the sums of places do not wrap. An entry whose bytes are all there is
 // read behind one test, by sums of products that compile to one load.
 ghost use Rattle.std.specs.Prelude.{◌≡◌, ◌+◌, ◌*◌, ◌^◌, ◌≤◌, ◌<◌, length, get_or};
-ghost use Rattle.transcript.specs.Numerals.{countAt, entryAt, entries_at};
+ghost use Rattle.transcript.specs.Numerals.{count_at, entry_at, entries_at};
 
 // The count that four bytes are, the lowest first.
 fn count_of_bytes(a: u8, b: u8, c: u8, d: u8) -> u64
@@ -29,7 +29,7 @@ fn byte_at(bytes: &[u8], at: usize) -> u8
 // The count that begins there, in 4 bytes.
 pub fn count_at(bytes: &[u8], at: usize) -> usize
     requires { at ≤ 2 ^ 62 }
-    ensures value { result ≡ countAt bytes.now at }
+    ensures value { result ≡ count_at bytes.now at }
     ensures small { result < 2 ^ 32 }
 {
     count_of_bytes(
@@ -43,7 +43,7 @@ pub fn count_at(bytes: &[u8], at: usize) -> usize
 // The same, where its bytes are all there.
 fn whole_count(bytes: &[u8], at: usize) -> u64
     requires { at + 4 ≤ length bytes.now }
-    ensures value { result ≡ countAt bytes.now at }
+    ensures value { result ≡ count_at bytes.now at }
     ensures small { result < 2 ^ 32 }
 {
     count_of_bytes(bytes[at], bytes[at + 1], bytes[at + 2], bytes[at + 3])
@@ -52,7 +52,7 @@ fn whole_count(bytes: &[u8], at: usize) -> u64
 // The entry that begins there, in 8 bytes.
 pub fn entry_at(bytes: &[u8], at: usize) -> u64
     requires { at ≤ 2 ^ 61 }
-    ensures { result ≡ entryAt bytes.now at }
+    ensures { result ≡ entry_at bytes.now at }
 {
     if at + 8 <= bytes.len() {
         let low = whole_count(bytes, at);

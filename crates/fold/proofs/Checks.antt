@@ -10,134 +10,134 @@ use Rattle.refusal.specs.declared.Cause.TheVariants.{DimensionTooSmall, WrongLen
 use Rattle.refusal.specs.declared.Outcome.{Outcome}
 use Rattle.refusal.specs.declared.Outcome.TheVariants.{Done, Refused}
 use Rattle.refusal.specs.declared.Cause.{Cause}
-use Rattle.refusal.specs.Checks.{refusedUnless, and_then, afterwards}
-use Rattle.refusal.proofs.Checks.{equal-of-test, le-of-test, passed-by, refused-by}
-use Rattle.refusal.proofs.Checks.{unless-done, then-done, within_of, done-holds, refused-holds}
+use Rattle.refusal.specs.Checks.{refused_unless, and_then, afterwards}
+use Rattle.refusal.proofs.Checks.{equal_of_test, le_of_test, passed_by, refused_by}
+use Rattle.refusal.proofs.Checks.{unless_done, then_done, within_of, done_holds, refused_holds}
 use Rattle.field.specs.declared.Element.{Element}
 use Rattle.coset.specs.Answers.{basisOutcome}
 use Rattle.coset.specs.Span.{Independent}
-use Rattle.coset.proofs.Independence.{independent-of}
+use Rattle.coset.proofs.Independence.{independent_of}
 use Rattle.fold.specs.declared.Folded.TheVariants as answers
 use Rattle.fold.specs.Answers.{foldRangesOutcome, foldLengthsOutcome, foldOutcome, foldedOf}
 
 -- ---- ranges
 
 module _ (k step : ℕ) where
-  abbrev pub smallEnough : Outcome
-  smallEnough = refusedUnless (leb step k) DimensionTooSmall Done
+  abbrev pub small_enough : Outcome
+  small_enough = refused_unless (leb step k) DimensionTooSmall Done
 
-  abbrev pub stepChecked : Outcome
-  stepChecked = refusedUnless (leb 1 step && leb step 3) StepOutOfRange smallEnough
+  abbrev pub step_checked : Outcome
+  step_checked = refused_unless (leb 1 step && leb step 3) StepOutOfRange small_enough
 
-  pub dimension-refused : (leb 2 k && leb k 20) ≡ false → Refused DimensionOutOfRange ≡ foldRangesOutcome k step
-  dimension-refused e = refused-by (leb 2 k && leb k 20) DimensionOutOfRange stepChecked e
+  pub dimension_refused : (leb 2 k && leb k 20) ≡ false → Refused DimensionOutOfRange ≡ foldRangesOutcome k step
+  dimension_refused e = refused_by (leb 2 k && leb k 20) DimensionOutOfRange step_checked e
 
-  pub step-refused : (leb 2 k && leb k 20) ≡ true → (leb 1 step && leb step 3) ≡ false
+  pub step_refused : (leb 2 k && leb k 20) ≡ true → (leb 1 step && leb step 3) ≡ false
       → Refused StepOutOfRange ≡ foldRangesOutcome k step
-  step-refused e f =
-      refused-by (leb 1 step && leb step 3) StepOutOfRange smallEnough f
-      ∙ passed-by (leb 2 k && leb k 20) DimensionOutOfRange stepChecked e
+  step_refused e f =
+      refused_by (leb 1 step && leb step 3) StepOutOfRange small_enough f
+      ∙ passed_by (leb 2 k && leb k 20) DimensionOutOfRange step_checked e
 
-  pub too-small-refused : (leb 2 k && leb k 20) ≡ true → (leb 1 step && leb step 3) ≡ true → leb step k ≡ false
+  pub too_small_refused : (leb 2 k && leb k 20) ≡ true → (leb 1 step && leb step 3) ≡ true → leb step k ≡ false
       → Refused DimensionTooSmall ≡ foldRangesOutcome k step
-  too-small-refused e f g =
-      refused-by (leb step k) DimensionTooSmall Done g
-      ∙ passed-by (leb 1 step && leb step 3) StepOutOfRange smallEnough f
-      ∙ passed-by (leb 2 k && leb k 20) DimensionOutOfRange stepChecked e
+  too_small_refused e f g =
+      refused_by (leb step k) DimensionTooSmall Done g
+      ∙ passed_by (leb 1 step && leb step 3) StepOutOfRange small_enough f
+      ∙ passed_by (leb 2 k && leb k 20) DimensionOutOfRange step_checked e
 
-  pub ranges-pass : (leb 2 k && leb k 20) ≡ true → (leb 1 step && leb step 3) ≡ true → leb step k ≡ true
+  pub ranges_pass : (leb 2 k && leb k 20) ≡ true → (leb 1 step && leb step 3) ≡ true → leb step k ≡ true
       → Done ≡ foldRangesOutcome k step
-  ranges-pass e f g =
-      passed-by (leb step k) DimensionTooSmall Done g
-      ∙ passed-by (leb 1 step && leb step 3) StepOutOfRange smallEnough f
-      ∙ passed-by (leb 2 k && leb k 20) DimensionOutOfRange stepChecked e
+  ranges_pass e f g =
+      passed_by (leb step k) DimensionTooSmall Done g
+      ∙ passed_by (leb 1 step && leb step 3) StepOutOfRange small_enough f
+      ∙ passed_by (leb 2 k && leb k 20) DimensionOutOfRange step_checked e
 
 pub record InRange (k step : ℕ) : Type 0 where
-  pub at-least-2 : 2 ≤ k
-  pub at-most-20 : k ≤ 20
-  pub step-at-least-1 : 1 ≤ step
-  pub step-at-most-3 : step ≤ 3
+  pub at_least_2 : 2 ≤ k
+  pub at_most_20 : k ≤ 20
+  pub step_at_least_1 : 1 ≤ step
+  pub step_at_most_3 : step ≤ 3
   pub step_fits : step ≤ k
 
-pub in-range : (k step : ℕ) → foldRangesOutcome k step ≡ Done → InRange k step
-in-range k step e =
-    let first = unless-done (leb 2 k && leb k 20) DimensionOutOfRange (stepChecked k step) e in
-    let second = unless-done (leb 1 step && leb step 3) StepOutOfRange (smallEnough k step) first.1 in
-    let third = unless-done (leb step k) DimensionTooSmall Done second.1 in
+pub in_range : (k step : ℕ) → foldRangesOutcome k step ≡ Done → InRange k step
+in_range k step e =
+    let first = unless_done (leb 2 k && leb k 20) DimensionOutOfRange (step_checked k step) e in
+    let second = unless_done (leb 1 step && leb step 3) StepOutOfRange (small_enough k step) first.1 in
+    let third = unless_done (leb step k) DimensionTooSmall Done second.1 in
     let k-within = within_of 2 20 k first.0 in
-    let step-within = within_of 1 3 step second.0 in
+    let step_within = within_of 1 3 step second.0 in
     record {
-      at-least-2 = k-within.0;
-      at-most-20 = k-within.1;
-      step-at-least-1 = step-within.0;
-      step-at-most-3 = step-within.1;
-      step_fits = le-of-test step k third.0;
+      at_least_2 = k-within.0;
+      at_most_20 = k-within.1;
+      step_at_least_1 = step_within.0;
+      step_at_most_3 = step_within.1;
+      step_fits = le_of_test step k third.0;
     }
 
 -- ---- lengths
 
 module _ (k step length1 length3 length6 length7 : ℕ) where
   abbrev pub after6 : Outcome
-  after6 = refusedUnless (eqb length7 (k - step)) (WrongLength 7) Done
+  after6 = refused_unless (eqb length7 (k - step)) (WrongLength 7) Done
 
   abbrev pub after3 : Outcome
-  after3 = refusedUnless (eqb length6 (2 ^ (k - step))) (WrongLength 6) after6
+  after3 = refused_unless (eqb length6 (2 ^ (k - step))) (WrongLength 6) after6
 
   abbrev pub after1 : Outcome
-  after1 = refusedUnless (eqb length3 (2 ^ k)) (WrongLength 3) after3
+  after1 = refused_unless (eqb length3 (2 ^ k)) (WrongLength 3) after3
 
-  pub list1-refused : eqb length1 k ≡ false
+  pub list1_refused : eqb length1 k ≡ false
       → Refused (WrongLength 1) ≡ foldLengthsOutcome k step length1 length3 length6 length7
-  list1-refused e = refused-by (eqb length1 k) (WrongLength 1) after1 e
+  list1_refused e = refused_by (eqb length1 k) (WrongLength 1) after1 e
 
-  list1-passed : eqb length1 k ≡ true → after1 ≡ foldLengthsOutcome k step length1 length3 length6 length7
-  list1-passed e = passed-by (eqb length1 k) (WrongLength 1) after1 e
+  list1_passed : eqb length1 k ≡ true → after1 ≡ foldLengthsOutcome k step length1 length3 length6 length7
+  list1_passed e = passed_by (eqb length1 k) (WrongLength 1) after1 e
 
-  pub list3-refused : eqb length1 k ≡ true → eqb length3 (2 ^ k) ≡ false
+  pub list3_refused : eqb length1 k ≡ true → eqb length3 (2 ^ k) ≡ false
       → Refused (WrongLength 3) ≡ foldLengthsOutcome k step length1 length3 length6 length7
-  list3-refused e f = refused-by (eqb length3 (2 ^ k)) (WrongLength 3) after3 f ∙ list1-passed e
+  list3_refused e f = refused_by (eqb length3 (2 ^ k)) (WrongLength 3) after3 f ∙ list1_passed e
 
-  list3-passed : eqb length1 k ≡ true → eqb length3 (2 ^ k) ≡ true
+  list3_passed : eqb length1 k ≡ true → eqb length3 (2 ^ k) ≡ true
       → after3 ≡ foldLengthsOutcome k step length1 length3 length6 length7
-  list3-passed e f = passed-by (eqb length3 (2 ^ k)) (WrongLength 3) after3 f ∙ list1-passed e
+  list3_passed e f = passed_by (eqb length3 (2 ^ k)) (WrongLength 3) after3 f ∙ list1_passed e
 
-  pub list6-refused : eqb length1 k ≡ true → eqb length3 (2 ^ k) ≡ true → eqb length6 (2 ^ (k - step)) ≡ false
+  pub list6_refused : eqb length1 k ≡ true → eqb length3 (2 ^ k) ≡ true → eqb length6 (2 ^ (k - step)) ≡ false
       → Refused (WrongLength 6) ≡ foldLengthsOutcome k step length1 length3 length6 length7
-  list6-refused e f g = refused-by (eqb length6 (2 ^ (k - step))) (WrongLength 6) after6 g ∙ list3-passed e f
+  list6_refused e f g = refused_by (eqb length6 (2 ^ (k - step))) (WrongLength 6) after6 g ∙ list3_passed e f
 
-  list6-passed : eqb length1 k ≡ true → eqb length3 (2 ^ k) ≡ true → eqb length6 (2 ^ (k - step)) ≡ true
+  list6_passed : eqb length1 k ≡ true → eqb length3 (2 ^ k) ≡ true → eqb length6 (2 ^ (k - step)) ≡ true
       → after6 ≡ foldLengthsOutcome k step length1 length3 length6 length7
-  list6-passed e f g = passed-by (eqb length6 (2 ^ (k - step))) (WrongLength 6) after6 g ∙ list3-passed e f
+  list6_passed e f g = passed_by (eqb length6 (2 ^ (k - step))) (WrongLength 6) after6 g ∙ list3_passed e f
 
-  pub list7-refused : eqb length1 k ≡ true → eqb length3 (2 ^ k) ≡ true → eqb length6 (2 ^ (k - step)) ≡ true
+  pub list7_refused : eqb length1 k ≡ true → eqb length3 (2 ^ k) ≡ true → eqb length6 (2 ^ (k - step)) ≡ true
       → eqb length7 (k - step) ≡ false
       → Refused (WrongLength 7) ≡ foldLengthsOutcome k step length1 length3 length6 length7
-  list7-refused e f g h = refused-by (eqb length7 (k - step)) (WrongLength 7) Done h ∙ list6-passed e f g
+  list7_refused e f g h = refused_by (eqb length7 (k - step)) (WrongLength 7) Done h ∙ list6_passed e f g
 
-  pub lengths-pass : eqb length1 k ≡ true → eqb length3 (2 ^ k) ≡ true → eqb length6 (2 ^ (k - step)) ≡ true
+  pub lengths_pass : eqb length1 k ≡ true → eqb length3 (2 ^ k) ≡ true → eqb length6 (2 ^ (k - step)) ≡ true
       → eqb length7 (k - step) ≡ true → Done ≡ foldLengthsOutcome k step length1 length3 length6 length7
-  lengths-pass e f g h = passed-by (eqb length7 (k - step)) (WrongLength 7) Done h ∙ list6-passed e f g
+  lengths_pass e f g h = passed_by (eqb length7 (k - step)) (WrongLength 7) Done h ∙ list6_passed e f g
 
 pub record Fitting (k step length1 length3 length6 length7 : ℕ) : Type 0 where
-  pub list1-fits : length1 ≡ k
-  pub list3-fits : length3 ≡ 2 ^ k
-  pub list6-fits : length6 ≡ 2 ^ (k - step)
-  pub list7-fits : length7 ≡ k - step
+  pub list1_fits : length1 ≡ k
+  pub list3_fits : length3 ≡ 2 ^ k
+  pub list6_fits : length6 ≡ 2 ^ (k - step)
+  pub list7_fits : length7 ≡ k - step
 
 fitting : (k step length1 length3 length6 length7 : ℕ)
     → foldLengthsOutcome k step length1 length3 length6 length7 ≡ Done → Fitting k step length1 length3 length6 length7
 fitting k step length1 length3 length6 length7 e =
-    let first = unless-done (eqb length1 k) (WrongLength 1) (after1 k step length1 length3 length6 length7) e in
-    let second = unless-done (eqb length3 (2 ^ k)) (WrongLength 3)
+    let first = unless_done (eqb length1 k) (WrongLength 1) (after1 k step length1 length3 length6 length7) e in
+    let second = unless_done (eqb length3 (2 ^ k)) (WrongLength 3)
     (after3 k step length1 length3 length6 length7) first.1 in
-    let third = unless-done (eqb length6 (2 ^ (k - step))) (WrongLength 6)
+    let third = unless_done (eqb length6 (2 ^ (k - step))) (WrongLength 6)
     (after6 k step length1 length3 length6 length7) second.1 in
-    let fourth = unless-done (eqb length7 (k - step)) (WrongLength 7) Done third.1 in
+    let fourth = unless_done (eqb length7 (k - step)) (WrongLength 7) Done third.1 in
     record {
-      list1-fits = equal-of-test length1 k first.0;
-      list3-fits = equal-of-test length3 (2 ^ k) second.0;
-      list6-fits = equal-of-test length6 (2 ^ (k - step)) third.0;
-      list7-fits = equal-of-test length7 (k - step) fourth.0;
+      list1_fits = equal_of_test length1 k first.0;
+      list3_fits = equal_of_test length3 (2 ^ k) second.0;
+      list6_fits = equal_of_test length6 (2 ^ (k - step)) third.0;
+      list7_fits = equal_of_test length7 (k - step) fourth.0;
     }
 
 -- ---- all checks
@@ -151,31 +151,31 @@ pub passed : (k step : ℕ) (basis word values next : List ℕ) → foldOutcome 
     → Passed k step basis word values next
 passed k step basis word values next e =
     let lengths = foldLengthsOutcome k step (length basis) (length word) (length values) (length next) in
-    let first = then-done (foldRangesOutcome k step) (and_then lengths (basisOutcome basis)) e in
-    let second = then-done lengths (basisOutcome basis) first.1 in
+    let first = then_done (foldRangesOutcome k step) (and_then lengths (basisOutcome basis)) e in
+    let second = then_done lengths (basisOutcome basis) first.1 in
     record {
-      ranges = in-range k step first.0;
+      ranges = in_range k step first.0;
       lengths = fitting k step (length basis) (length word) (length values) (length next) second.0;
-      independent = independent-of basis second.1;
+      independent = independent_of basis second.1;
     }
 
 -- ---- the three clauses
 
 -- what holds where all checks pass, as the code asks for it
-pub passed-facts : (k step : ℕ) (basis word values next : List ℕ) → Passed k step basis word values next
+pub passed_facts : (k step : ℕ) (basis word values next : List ℕ) → Passed k step basis word values next
     → (1 ≤ step) × (step ≤ 3) × (step ≤ length basis) × (length basis ≤ 20) × Independent basis
     × (length word ≡ 2 ^ length basis) × (length values ≡ 2 ^ (length basis - step))
     × (length next ≡ length basis - step)
-passed-facts k step basis word values next p =
-    let same : k ≡ length basis = sym p.lengths.list1-fits in (
-      p.ranges.step-at-least-1,
-      p.ranges.step-at-most-3,
+passed_facts k step basis word values next p =
+    let same : k ≡ length basis = sym p.lengths.list1_fits in (
+      p.ranges.step_at_least_1,
+      p.ranges.step_at_most_3,
       subst (λ (n : ℕ). step ≤ n) same p.ranges.step_fits,
-      subst (λ (n : ℕ). n ≤ 20) same p.ranges.at-most-20,
+      subst (λ (n : ℕ). n ≤ 20) same p.ranges.at_most_20,
       p.independent,
-      subst (λ (n : ℕ). length word ≡ 2 ^ n) same p.lengths.list3-fits,
-      subst (λ (n : ℕ). length values ≡ 2 ^ (n - step)) same p.lengths.list6-fits,
-      subst (λ (n : ℕ). length next ≡ n - step) same p.lengths.list7-fits,
+      subst (λ (n : ℕ). length word ≡ 2 ^ n) same p.lengths.list3_fits,
+      subst (λ (n : ℕ). length values ≡ 2 ^ (n - step)) same p.lengths.list6_fits,
+      subst (λ (n : ℕ). length next ≡ n - step) same p.lengths.list7_fits,
     )
 
 pub done_all : (outcome : Outcome) (offset : Element) (wanted : ℕ) (values values' wanted6 next next' wanted7 : List ℕ)
@@ -184,7 +184,7 @@ pub done_all : (outcome : Outcome) (offset : Element) (wanted : ℕ) (values val
     × ((values' ≡ afterwards outcome wanted6 values) × (next' ≡ afterwards outcome wanted7 next))
 done_all outcome offset wanted values values' wanted6 next next' wanted7 e o v n = (
   ap (λ (x : ℕ). answers.NextOffset (record { 0 = x })) o ∙ sym (ap (λ (t : Outcome). foldedOf t wanted) e),
-  (done-holds outcome wanted6 values values' e v, done-holds outcome wanted7 next next' e n),
+  (done_holds outcome wanted6 values values' e v, done_holds outcome wanted7 next next' e n),
 )
 
 pub refused_all : (outcome : Outcome) (cause : Cause) (wanted : ℕ) (values wanted6 next wanted7 : List ℕ)
@@ -193,5 +193,5 @@ pub refused_all : (outcome : Outcome) (cause : Cause) (wanted : ℕ) (values wan
     × ((values ≡ afterwards outcome wanted6 values) × (next ≡ afterwards outcome wanted7 next))
 refused_all outcome cause wanted values wanted6 next wanted7 e = (
   sym (ap (λ (t : Outcome). foldedOf t wanted) e),
-  (refused-holds outcome cause wanted6 values e, refused-holds outcome cause wanted7 next e),
+  (refused_holds outcome cause wanted6 values e, refused_holds outcome cause wanted7 next e),
 )

@@ -15,12 +15,12 @@ use Rattle.refusal.specs.declared.Outcome.{Outcome}
 use Rattle.refusal.specs.declared.Outcome.TheVariants.{Done, Refused}
 use Rattle.refusal.specs.declared.Position.TheVariants.{Absent}
 use Rattle.refusal.specs.Checks.{and_then, afterwards}
-use Rattle.refusal.specs.Numbers.{number_of, place_of, roundOf, numberOfOutcome}
-use Rattle.refusal.proofs.Checks.{within, outside, number-unless, number-then, then-passed, then-refused}
+use Rattle.refusal.specs.Numbers.{number_of, place_of, round_of, number_of_outcome}
+use Rattle.refusal.proofs.Checks.{within, outside, number_unless, number_then, then_passed, then_refused}
 use Rattle.coset.specs.Span.{Independent}
 use Rattle.coset.specs.Answers.{outcomeOfBasis, basisOutcome}
-use Rattle.coset.specs.Subspace.{nextOffset, nextBasis}
-use Rattle.coset.proofs.Independence.{basis-number}
+use Rattle.coset.specs.Subspace.{next_offset, next_basis}
+use Rattle.coset.proofs.Independence.{basis_number}
 use Rattle.fold.specs.Answers.{foldRangesOutcome, foldLengthsOutcome}
 use Rattle.fold.specs.Answers.{foldOutcome, foldedOf, foldAnswer, foldValuesAfter, nextBasisAfter}
 use Rattle.fold.specs.Answers.{numberOfFolded, placeOfFolded, roundOfFolded, valueOfFolded}
@@ -30,11 +30,11 @@ use Rattle.fold.specs.Fold.{folded}
 use Rattle.fold.specs.Theorems.{InRange, FoldFits, FoldTells, FoldAccepted, Refuses, FoldNumber, FoldRefusals}
 use Rattle.fold.proofs.Checks as checks
 
-in-range-k : (k step : ℕ) → InRange k step → (leb 2 k && leb k 20) ≡ true
-in-range-k k step r = within 2 20 k r.0 r.1
+in_range_k : (k step : ℕ) → InRange k step → (leb 2 k && leb k 20) ≡ true
+in_range_k k step r = within 2 20 k r.0 r.1
 
-in-range-step : (k step : ℕ) → InRange k step → (leb 1 step && leb step 3) ≡ true
-in-range-step k step r = within 1 3 step r.2 r.3
+in_range_step : (k step : ℕ) → InRange k step → (leb 1 step && leb step 3) ≡ true
+in_range_step k step r = within 1 3 step r.2 r.3
 
 module _ (k step : ℕ) (basis word values next : List ℕ) where
   abbrev outcome : Outcome
@@ -43,26 +43,26 @@ module _ (k step : ℕ) (basis word values next : List ℕ) where
   abbrev lengths : Outcome
   lengths = foldLengthsOutcome k step (length basis) (length word) (length values) (length next)
 
-  ranges-refuse : (cause : Cause) → Refused cause ≡ foldRangesOutcome k step → Refused cause ≡ outcome
-  ranges-refuse cause e = then-refused (foldRangesOutcome k step) (and_then lengths (basisOutcome basis)) cause (sym e)
+  ranges_refuse : (cause : Cause) → Refused cause ≡ foldRangesOutcome k step → Refused cause ≡ outcome
+  ranges_refuse cause e = then_refused (foldRangesOutcome k step) (and_then lengths (basisOutcome basis)) cause (sym e)
 
   module _ (r : InRange k step) (fits : step ≤ k) where
-    ranges-passed : foldRangesOutcome k step ≡ Done
-    ranges-passed = sym (checks.ranges-pass k step (in-range-k k step r) (in-range-step k step r) (le-leb step k fits))
+    ranges_passed : foldRangesOutcome k step ≡ Done
+    ranges_passed = sym (checks.ranges_pass k step (in_range_k k step r) (in_range_step k step r) (le-leb step k fits))
 
-    lengths-refuse : (cause : Cause) → Refused cause ≡ lengths → Refused cause ≡ outcome
-    lengths-refuse cause e =
-        then-refused lengths (basisOutcome basis) cause (sym e)
-        ∙ then-passed (foldRangesOutcome k step) (and_then lengths (basisOutcome basis)) ranges-passed
+    lengths_refuse : (cause : Cause) → Refused cause ≡ lengths → Refused cause ≡ outcome
+    lengths_refuse cause e =
+        then_refused lengths (basisOutcome basis) cause (sym e)
+        ∙ then_passed (foldRangesOutcome k step) (and_then lengths (basisOutcome basis)) ranges_passed
 
-    basis-decides : FoldFits k step basis word values next → basisOutcome basis ≡ outcome
-    basis-decides f =
-        then-passed lengths (basisOutcome basis)
+    basis_decides : FoldFits k step basis word values next → basisOutcome basis ≡ outcome
+    basis_decides f =
+        then_passed lengths (basisOutcome basis)
         (sym
-        (checks.lengths-pass k step (length basis) (length word) (length values) (length next)
+        (checks.lengths_pass k step (length basis) (length word) (length values) (length next)
         (eq-eqb (length basis) k f.0) (eq-eqb (length word) (2 ^ k) f.1)
         (eq-eqb (length values) (2 ^ (k - step)) f.2) (eq-eqb (length next) (k - step) f.3)))
-        ∙ then-passed (foldRangesOutcome k step) (and_then lengths (basisOutcome basis)) ranges-passed
+        ∙ then_passed (foldRangesOutcome k step) (and_then lengths (basisOutcome basis)) ranges_passed
 
 accepts : (k step : ℕ) (basis word values next : List ℕ)
     → (foldOutcome k step basis word values next ≡ Done)
@@ -72,74 +72,74 @@ accepts k step basis word values next = (
       let p = checks.passed k step basis word values next e in
       let r = p.ranges in
       let l = p.lengths in (
-        (r.at-least-2, r.at-most-20, r.step-at-least-1, r.step-at-most-3),
+        (r.at_least_2, r.at_most_20, r.step_at_least_1, r.step_at_most_3),
         r.step_fits,
-        (l.list1-fits, l.list3-fits, l.list6-fits, l.list7-fits),
+        (l.list1_fits, l.list3_fits, l.list6_fits, l.list7_fits),
         p.independent,
       ),
-  λ a. sym (basis-decides k step basis word values next a.0 a.1 a.2) ∙ ap outcomeOfBasis a.3,
+  λ a. sym (basis_decides k step basis word values next a.0 a.1 a.2) ∙ ap outcomeOfBasis a.3,
 )
 
 -- a refusal carries its cause's number and place, no round and no value, and leaves both lists
-refuses : (k step : ℕ) (basis word values next : List ℕ) (cause : Cause) → roundOf cause ≡ Absent
+refuses : (k step : ℕ) (basis word values next : List ℕ) (cause : Cause) → round_of cause ≡ Absent
     → Refused cause ≡ foldOutcome k step basis word values next
     → Refuses k step basis word values next (number_of cause) (place_of cause)
 refuses k step basis word values next cause n e offset x =
     subst
     (λ (o : Outcome).
-    FoldTells (foldedOf o (nextOffset step offset basis)) (number_of cause) (place_of cause) Absent
-    × ((none : ℕ) → valueOfFolded (foldedOf o (nextOffset step offset basis)) none ≡ none)
+    FoldTells (foldedOf o (next_offset step offset basis)) (number_of cause) (place_of cause) Absent
+    × ((none : ℕ) → valueOfFolded (foldedOf o (next_offset step offset basis)) none ≡ none)
     × (afterwards o (folded step offset basis word x) values ≡ values)
-    × (afterwards o (nextBasis step basis) next ≡ next))
+    × (afterwards o (next_basis step basis) next ≡ next))
     e ((refl, refl, n), (λ none. refl), refl, refl)
 
-answers-done : (k step offset : ℕ) (basis word : List ℕ) (x : ℕ) (values next : List ℕ)
+answers_done : (k step offset : ℕ) (basis word : List ℕ) (x : ℕ) (values next : List ℕ)
     → foldOutcome k step basis word values next ≡ Done
-    → (foldAnswer k step offset basis word values next ≡ NextOffset (record { 0 = nextOffset step offset basis }))
+    → (foldAnswer k step offset basis word values next ≡ NextOffset (record { 0 = next_offset step offset basis }))
     × FoldTells (foldAnswer k step offset basis word values next) 0 Absent Absent
-    × ((none : ℕ) → valueOfFolded (foldAnswer k step offset basis word values next) none ≡ nextOffset step offset basis)
+    × ((none : ℕ) → valueOfFolded (foldAnswer k step offset basis word values next) none ≡ next_offset step offset basis)
     × (foldValuesAfter k step offset basis word x values next ≡ folded step offset basis word x)
-    × (nextBasisAfter k step basis word values next ≡ nextBasis step basis)
-answers-done k step offset basis word x values next e = (
-  is-offset,
-  (ap numberOfFolded is-offset, ap placeOfFolded is-offset, ap roundOfFolded is-offset),
-  λ none. ap (λ (a : Folded). valueOfFolded a none) is-offset,
+    × (nextBasisAfter k step basis word values next ≡ next_basis step basis)
+answers_done k step offset basis word x values next e = (
+  is_offset,
+  (ap numberOfFolded is_offset, ap placeOfFolded is_offset, ap roundOfFolded is_offset),
+  λ none. ap (λ (a : Folded). valueOfFolded a none) is_offset,
   ap (λ (o : Outcome). afterwards o (folded step offset basis word x) values) e,
-  ap (λ (o : Outcome). afterwards o (nextBasis step basis) next) e,
+  ap (λ (o : Outcome). afterwards o (next_basis step basis) next) e,
 )
   where
-    is-offset : foldAnswer k step offset basis word values next
-        ≡ NextOffset (record { 0 = nextOffset step offset basis })
-    is-offset = ap (λ (o : Outcome). foldedOf o (nextOffset step offset basis)) e
+    is_offset : foldAnswer k step offset basis word values next
+        ≡ NextOffset (record { 0 = next_offset step offset basis })
+    is_offset = ap (λ (o : Outcome). foldedOf o (next_offset step offset basis)) e
 
 -- ---- which numbers there are
 
 module _ (P : ℕ → Type 0) (p0 : P 0) (p4 : P 4) (p6 : P 6) (p7 : P 7) (p8 : P 8) (p13 : P 13) where
-  ranges-number : (k step : ℕ) → P (numberOfOutcome (foldRangesOutcome k step))
-  ranges-number k step =
-      number-unless P (leb 2 k && leb k 20) DimensionOutOfRange (checks.stepChecked k step) p4
-      (number-unless P (leb 1 step && leb step 3) StepOutOfRange (checks.smallEnough k step) p6
-      (number-unless P (leb step k) DimensionTooSmall Done p7 p0))
+  ranges_number : (k step : ℕ) → P (number_of_outcome (foldRangesOutcome k step))
+  ranges_number k step =
+      number_unless P (leb 2 k && leb k 20) DimensionOutOfRange (checks.step_checked k step) p4
+      (number_unless P (leb 1 step && leb step 3) StepOutOfRange (checks.small_enough k step) p6
+      (number_unless P (leb step k) DimensionTooSmall Done p7 p0))
 
-  lengths-number : (k step length1 length3 length6 length7 : ℕ)
-      → P (numberOfOutcome (foldLengthsOutcome k step length1 length3 length6 length7))
-  lengths-number k step length1 length3 length6 length7 =
-      number-unless P (eqb length1 k) (WrongLength 1) (checks.after1 k step length1 length3 length6 length7) p13
-      (number-unless P (eqb length3 (2 ^ k)) (WrongLength 3) (checks.after3 k step length1 length3 length6 length7) p13
-      (number-unless P (eqb length6 (2 ^ (k - step))) (WrongLength 6)
+  lengths_number : (k step length1 length3 length6 length7 : ℕ)
+      → P (number_of_outcome (foldLengthsOutcome k step length1 length3 length6 length7))
+  lengths_number k step length1 length3 length6 length7 =
+      number_unless P (eqb length1 k) (WrongLength 1) (checks.after1 k step length1 length3 length6 length7) p13
+      (number_unless P (eqb length3 (2 ^ k)) (WrongLength 3) (checks.after3 k step length1 length3 length6 length7) p13
+      (number_unless P (eqb length6 (2 ^ (k - step))) (WrongLength 6)
       (checks.after6 k step length1 length3 length6 length7) p13
-      (number-unless P (eqb length7 (k - step)) (WrongLength 7) Done p13 p0)))
+      (number_unless P (eqb length7 (k - step)) (WrongLength 7) Done p13 p0)))
 
-  outcome-number : (k step : ℕ) (basis word values next : List ℕ)
-      → P (numberOfOutcome (foldOutcome k step basis word values next))
-  outcome-number k step basis word values next =
+  outcome_number : (k step : ℕ) (basis word values next : List ℕ)
+      → P (number_of_outcome (foldOutcome k step basis word values next))
+  outcome_number k step basis word values next =
       let lengths = foldLengthsOutcome k step (length basis) (length word) (length values) (length next) in
-      number-then P (foldRangesOutcome k step) (and_then lengths (basisOutcome basis)) (ranges-number k step)
-      (number-then P lengths (basisOutcome basis)
-      (lengths-number k step (length basis) (length word) (length values) (length next))
-      (basis-number P p0 p8 basis))
+      number_then P (foldRangesOutcome k step) (and_then lengths (basisOutcome basis)) (ranges_number k step)
+      (number_then P lengths (basisOutcome basis)
+      (lengths_number k step (length basis) (length word) (length values) (length next))
+      (basis_number P p0 p8 basis))
 
-same_number : (outcome : Outcome) (offset : ℕ) → numberOfFolded (foldedOf outcome offset) ≡ numberOfOutcome outcome
+same_number : (outcome : Outcome) (offset : ℕ) → numberOfFolded (foldedOf outcome offset) ≡ number_of_outcome outcome
 same_number Done offset = refl
 same_number (Refused cause) offset = refl
 
@@ -147,52 +147,52 @@ numbers : (k step offset : ℕ) (basis word values next : List ℕ)
     → FoldNumber (numberOfFolded (foldAnswer k step offset basis word values next))
 numbers k step offset basis word values next =
     subst FoldNumber
-    (sym (same_number (foldOutcome k step basis word values next) (nextOffset step offset basis)))
-    (outcome-number FoldNumber (inl refl) (inr (inl refl)) (inr (inr (inl (omega arith, omega arith))))
+    (sym (same_number (foldOutcome k step basis word values next) (next_offset step offset basis)))
+    (outcome_number FoldNumber (inl refl) (inr (inl refl)) (inr (inr (inl (omega arith, omega arith))))
     (inr (inr (inl (omega arith, omega arith)))) (inr (inr (inl (omega arith, omega arith)))) (inr (inr (inr refl)))
     k step basis word values next)
 
 pub accepted : FoldAccepted
-accepted = record { done = accepts; answer = answers-done }
+accepted = record { done = accepts; answer = answers_done }
 
 pub refusals : FoldRefusals
 refusals =
     record {
       dimension = λ k step basis word values next o.
           refuses k step basis word values next DimensionOutOfRange refl
-          (ranges-refuse k step basis word values next DimensionOutOfRange
-          (checks.dimension-refused k step (outside 2 20 k o)));
+          (ranges_refuse k step basis word values next DimensionOutOfRange
+          (checks.dimension_refused k step (outside 2 20 k o)));
       step = λ k step basis word values next l u o.
           refuses k step basis word values next StepOutOfRange refl
-          (ranges-refuse k step basis word values next StepOutOfRange
-          (checks.step-refused k step (within 2 20 k l u) (outside 1 3 step o)));
+          (ranges_refuse k step basis word values next StepOutOfRange
+          (checks.step_refused k step (within 2 20 k l u) (outside 1 3 step o)));
       too_small = λ k step basis word values next r s.
           refuses k step basis word values next DimensionTooSmall refl
-          (ranges-refuse k step basis word values next DimensionTooSmall
-          (checks.too-small-refused k step (in-range-k k step r) (in-range-step k step r) (lt-leb step k s)));
+          (ranges_refuse k step basis word values next DimensionTooSmall
+          (checks.too_small_refused k step (in_range_k k step r) (in_range_step k step r) (lt-leb step k s)));
       list1 = λ k step basis word values next r s n.
           refuses k step basis word values next (WrongLength 1) refl
-          (lengths-refuse k step basis word values next r s (WrongLength 1)
-          (checks.list1-refused k step (length basis) (length word) (length values) (length next)
+          (lengths_refuse k step basis word values next r s (WrongLength 1)
+          (checks.list1_refused k step (length basis) (length word) (length values) (length next)
           (ne_eqb (length basis) k n)));
       list3 = λ k step basis word values next r s a n.
           refuses k step basis word values next (WrongLength 3) refl
-          (lengths-refuse k step basis word values next r s (WrongLength 3)
-          (checks.list3-refused k step (length basis) (length word) (length values) (length next)
+          (lengths_refuse k step basis word values next r s (WrongLength 3)
+          (checks.list3_refused k step (length basis) (length word) (length values) (length next)
           (eq-eqb (length basis) k a) (ne_eqb (length word) (2 ^ k) n)));
       list6 = λ k step basis word values next r s a b n.
           refuses k step basis word values next (WrongLength 6) refl
-          (lengths-refuse k step basis word values next r s (WrongLength 6)
-          (checks.list6-refused k step (length basis) (length word) (length values) (length next)
+          (lengths_refuse k step basis word values next r s (WrongLength 6)
+          (checks.list6_refused k step (length basis) (length word) (length values) (length next)
           (eq-eqb (length basis) k a) (eq-eqb (length word) (2 ^ k) b) (ne_eqb (length values) (2 ^ (k - step)) n)));
       list7 = λ k step basis word values next r s a b v n.
           refuses k step basis word values next (WrongLength 7) refl
-          (lengths-refuse k step basis word values next r s (WrongLength 7)
-          (checks.list7-refused k step (length basis) (length word) (length values) (length next)
+          (lengths_refuse k step basis word values next r s (WrongLength 7)
+          (checks.list7_refused k step (length basis) (length word) (length values) (length next)
           (eq-eqb (length basis) k a) (eq-eqb (length word) (2 ^ k) b)
           (eq-eqb (length values) (2 ^ (k - step)) v) (ne_eqb (length next) (k - step) n)));
       dependent = λ k step basis word values next place r s f e.
           refuses k step basis word values next (BasisDependent place) refl
-          (ap outcomeOfBasis (sym e) ∙ basis-decides k step basis word values next r s f);
+          (ap outcomeOfBasis (sym e) ∙ basis_decides k step basis word values next r s f);
       numbers = numbers;
     }

@@ -7,10 +7,10 @@ use Rattle.refusal.specs.declared.Outcome.{Outcome}
 use Rattle.refusal.specs.declared.Outcome.TheVariants.{Done, Refused}
 use Rattle.refusal.specs.declared.Position.{Position}
 use Rattle.refusal.specs.declared.Position.TheVariants.{Absent}
-use Rattle.refusal.specs.Checks.{refusedUnless, and_then, afterwards}
-use Rattle.refusal.specs.Numbers.{number_of, place_of, roundOf}
+use Rattle.refusal.specs.Checks.{refused_unless, and_then, afterwards}
+use Rattle.refusal.specs.Numbers.{number_of, place_of, round_of}
 use Rattle.coset.specs.Answers.{basisOutcome}
-use Rattle.coset.specs.Subspace.{nextOffset, nextBasis}
+use Rattle.coset.specs.Subspace.{next_offset, next_basis}
 use Rattle.fold.specs.declared.Folded.{Folded}
 use Rattle.fold.specs.declared.Folded.TheVariants as answers
 use Rattle.fold.specs.Fold.{folded}
@@ -18,18 +18,18 @@ use Rattle.fold.specs.Fold.{folded}
 -- the ranges: k 2..20 (number 4), the step 1..3 (6), k at least the step (7)
 abbrev pub foldRangesOutcome : (k step : ℕ) → Outcome
 foldRangesOutcome k step =
-    refusedUnless (leb 2 k && leb k 20) DimensionOutOfRange
-    (refusedUnless (leb 1 step && leb step 3) StepOutOfRange
-    (refusedUnless (leb step k) DimensionTooSmall
+    refused_unless (leb 2 k && leb k 20) DimensionOutOfRange
+    (refused_unless (leb 1 step && leb step 3) StepOutOfRange
+    (refused_unless (leb step k) DimensionTooSmall
     Done))
 
 -- the lengths of the lists: the lowest list whose length is not the one due (13)
 abbrev pub foldLengthsOutcome : (k step length1 length3 length6 length7 : ℕ) → Outcome
 foldLengthsOutcome k step length1 length3 length6 length7 =
-    refusedUnless (eqb length1 k) (WrongLength 1)
-    (refusedUnless (eqb length3 (2 ^ k)) (WrongLength 3)
-    (refusedUnless (eqb length6 (2 ^ (k - step))) (WrongLength 6)
-    (refusedUnless (eqb length7 (k - step)) (WrongLength 7)
+    refused_unless (eqb length1 k) (WrongLength 1)
+    (refused_unless (eqb length3 (2 ^ k)) (WrongLength 3)
+    (refused_unless (eqb length6 (2 ^ (k - step))) (WrongLength 6)
+    (refused_unless (eqb length7 (k - step)) (WrongLength 7)
     Done)))
 
 -- all checks, in the order of document 01: 4, 6, 7, 13, 8
@@ -47,7 +47,7 @@ foldedOf (Refused cause) offset = answers.Refused cause
 -- the answer of a call
 abbrev pub foldAnswer : (k step offset : ℕ) (basis word values next : List ℕ) → Folded
 foldAnswer k step offset basis word values next =
-    foldedOf (foldOutcome k step basis word values next) (nextOffset step offset basis)
+    foldedOf (foldOutcome k step basis word values next) (next_offset step offset basis)
 
 -- what list 6, the values, holds afterwards
 abbrev pub foldValuesAfter : (k step offset : ℕ) (basis word : List ℕ) (challenge : ℕ) (values next : List ℕ) → List ℕ
@@ -57,7 +57,7 @@ foldValuesAfter k step offset basis word challenge values next =
 -- what list 7, the next basis, holds afterwards
 abbrev pub nextBasisAfter : (k step : ℕ) (basis word values next : List ℕ) → List ℕ
 nextBasisAfter k step basis word values next =
-    afterwards (foldOutcome k step basis word values next) (nextBasis step basis) next
+    afterwards (foldOutcome k step basis word values next) (next_basis step basis) next
 
 -- the number of an answer: 0 where there is a next offset, else that of the cause
 abbrev pub numberOfFolded : (answer : Folded) → ℕ
@@ -72,7 +72,7 @@ placeOfFolded (answers.Refused cause) = place_of cause
 -- the round of an answer: that of the cause
 abbrev pub roundOfFolded : (answer : Folded) → Position
 roundOfFolded (answers.NextOffset offset) = Absent
-roundOfFolded (answers.Refused cause) = roundOf cause
+roundOfFolded (answers.Refused cause) = round_of cause
 
 -- the value of an answer: the next offset, or `none` where there is none
 abbrev pub valueOfFolded : (answer : Folded) (none : ℕ) → ℕ

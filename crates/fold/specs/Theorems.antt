@@ -8,24 +8,24 @@ use Rattle.gf64.specs.Field.{IsElement, sum, inverse}
 use Rattle.poly.specs.Carrier.{gf64}
 use Rattle.poly.specs.Polynomial.{All, Distinct, Zeros, evaluate, interpolant}
 use Rattle.coset.specs.Coset.{point}
-use Rattle.coset.specs.Span.{firstDependent, Independent}
-use Rattle.coset.specs.Subspace.{image, nextOffset, nextBasis}
-use Rattle.coset.specs.Steps.{stepElements}
+use Rattle.coset.specs.Span.{first_dependent, Independent}
+use Rattle.coset.specs.Subspace.{image, next_offset, next_basis}
+use Rattle.coset.specs.Steps.{step_elements}
 use Rattle.reed_solomon.specs.Codes.{encoded, interpolated, WordDegreeBelow}
 use Rattle.fold.specs.declared.Folded.{Folded}
 use Rattle.fold.specs.declared.Folded.TheVariants.{NextOffset}
-use Rattle.fold.specs.Fold.{cosetPoints, cosetEntries, foldEntry, folded}
+use Rattle.fold.specs.Fold.{coset_points, coset_entries, fold_entry, folded}
 use Rattle.fold.specs.Halving.{value_at}
-use Rattle.fold.specs.Rows.{highRows, rows_at}
+use Rattle.fold.specs.Rows.{high_rows, rows_at}
 use Rattle.fold.specs.Exceptional.{FoldDegreeBelow, Exceptional}
 use Rattle.fold.specs.Answers.{foldOutcome, foldAnswer, foldValuesAfter, nextBasisAfter}
 use Rattle.fold.specs.Answers.{numberOfFolded, placeOfFolded, roundOfFolded, valueOfFolded}
 
 -- a word of elements over a coset with an independent basis, whatever its entries
 pub record IsWord (offset : ℕ) (basis word : List ℕ) : Type 0 where
-  pub offset-element : IsElement offset
-  pub basis-elements : All IsElement basis
-  pub word-elements : All IsElement word
+  pub offset_element : IsElement offset
+  pub basis_elements : All IsElement basis
+  pub word_elements : All IsElement word
   pub independent : Independent basis
   pub count : length word ≡ 2 ^ length basis
 
@@ -36,22 +36,22 @@ pub record Folds : Type 0 where
   pub entry : (step offset : ℕ) (basis word : List ℕ) → IsWord offset basis word → step ≤ length basis
       → (x j : ℕ) (p : List ℕ) → j < 2 ^ (length basis - step) → All IsElement p → length p ≡ 2 ^ step
       → ((i : ℕ) → i < 2 ^ length basis
-      → image step basis (point offset basis i) ≡ point (nextOffset step offset basis) (nextBasis step basis) j
+      → image step basis (point offset basis i) ≡ point (next_offset step offset basis) (next_basis step basis) j
       → evaluate gf64 p (point offset basis i) ≡ get_or word i 0)
       → get_or (folded step offset basis word x) j 0 ≡ evaluate gf64 p x
   -- and the coset's interpolant is one
   pub agrees : (step offset : ℕ) (basis word : List ℕ) → IsWord offset basis word → step ≤ length basis → (i j : ℕ)
       → i < 2 ^ length basis → j < 2 ^ (length basis - step)
-      → image step basis (point offset basis i) ≡ point (nextOffset step offset basis) (nextBasis step basis) j
-      → evaluate gf64 (interpolant gf64 (cosetPoints step offset basis j) (cosetEntries step word j))
+      → image step basis (point offset basis i) ≡ point (next_offset step offset basis) (next_basis step basis) j
+      → evaluate gf64 (interpolant gf64 (coset_points step offset basis j) (coset_entries step word j))
       (point offset basis i) ≡ get_or word i 0
   -- the fold is a word over the next coset
   pub word : (step offset : ℕ) (basis word : List ℕ) → IsWord offset basis word → step ≤ length basis → (x : ℕ)
-      → IsElement x → IsWord (nextOffset step offset basis) (nextBasis step basis) (folded step offset basis word x)
+      → IsElement x → IsWord (next_offset step offset basis) (next_basis step basis) (folded step offset basis word x)
   -- that of the polynomial whose coefficients are the rows at x
   pub rows : (step offset : ℕ) (basis word : List ℕ) → IsWord offset basis word → step ≤ length basis → (x : ℕ)
       → folded step offset basis word x
-      ≡ encoded (nextOffset step offset basis) (nextBasis step basis) (rows_at step offset basis word x)
+      ≡ encoded (next_offset step offset basis) (next_basis step basis) (rows_at step offset basis word x)
   -- a word of degree below N · 2^step folds to degree below N, whatever the challenge
   pub degree : (step offset : ℕ) (basis word : List ℕ) → IsWord offset basis word → step ≤ length basis → (N x : ℕ)
       → IsElement x → WordDegreeBelow (N * 2 ^ step) offset basis word
@@ -59,7 +59,7 @@ pub record Folds : Type 0 where
   -- the word's interpolant has at x the value that the interpolant of its fold at x has at q(x)
   pub value : (step offset : ℕ) (basis word : List ℕ) → IsWord offset basis word → step ≤ length basis → (x : ℕ)
       → IsElement x → evaluate gf64 (interpolated offset basis word) x
-      ≡ evaluate gf64 (interpolated (nextOffset step offset basis) (nextBasis step basis)
+      ≡ evaluate gf64 (interpolated (next_offset step offset basis) (next_basis step basis)
       (folded step offset basis word x)) (image step basis x)
 
 -- the exceptional set of a layer
@@ -68,8 +68,8 @@ pub record ExceptionalSets : Type 0 where
   -- all of them are zero at x
   pub rows : (rate step offset : ℕ) (basis layer : List ℕ) → IsWord offset basis layer → rate + step ≤ length basis
       → (x : ℕ) → Exceptional rate step offset basis layer x
-      ↔ (IsElement x × (All (Zeros gf64) (highRows rate step offset basis layer) → ⊥)
-      × All (λ row. evaluate gf64 row x ≡ 0) (highRows rate step offset basis layer))
+      ↔ (IsElement x × (All (Zeros gf64) (high_rows rate step offset basis layer) → ⊥)
+      × All (λ row. evaluate gf64 row x ≡ 0) (high_rows rate step offset basis layer))
   -- the set has at most 2^step - 1 elements, whatever the layer holds: every list of distinct
   -- elements of it is that short
   pub bound : (rate step offset : ℕ) (basis layer : List ℕ) → IsWord offset basis layer → rate + step ≤ length basis
@@ -80,33 +80,33 @@ pub record ExceptionalSets : Type 0 where
 pub record Halvings : Type 0 where
   pub entry : (step offset : ℕ) (basis word : List ℕ) → IsWord offset basis word → step ≤ length basis → (x j : ℕ)
       → IsElement x → j < 2 ^ (length basis - step)
-      → value_at (map inverse (stepElements step basis)) (map (sum x) (cosetPoints step offset basis j))
-      (cosetEntries step word j)
-      ≡ foldEntry step offset basis word x j
+      → value_at (map inverse (step_elements step basis)) (map (sum x) (coset_points step offset basis j))
+      (coset_entries step word j)
+      ≡ fold_entry step offset basis word x j
 
 -- cases D, F, J and K of Table A, as far as they speak of one fold at a time
 pub record FoldCases : Type 0 where
   pub d : foldAnswer 2 1 0x8 (1 ∷ 2 ∷ []) (0 ∷ 0 ∷ 0 ∷ 0 ∷ []) (0 ∷ 0 ∷ []) (0 ∷ []) ≡ NextOffset (record { 0 = 0x48 })
-  pub d-basis : nextBasisAfter 2 1 (1 ∷ 2 ∷ []) (0 ∷ 0 ∷ 0 ∷ 0 ∷ []) (0 ∷ 0 ∷ []) (0 ∷ []) ≡ 6 ∷ []
+  pub d_basis : nextBasisAfter 2 1 (1 ∷ 2 ∷ []) (0 ∷ 0 ∷ 0 ∷ 0 ∷ []) (0 ∷ 0 ∷ []) (0 ∷ []) ≡ 6 ∷ []
   -- the word of case F over the coset of case D
-  pub d-values : folded 1 0x8 (1 ∷ 2 ∷ []) (7 ∷ 4 ∷ 1 ∷ 2 ∷ []) 4 ≡ 0x13 ∷ 0x13 ∷ []
+  pub d_values : folded 1 0x8 (1 ∷ 2 ∷ []) (7 ∷ 4 ∷ 1 ∷ 2 ∷ []) 4 ≡ 0x13 ∷ 0x13 ∷ []
   pub f : folded 1 0 (1 ∷ 2 ∷ []) (7 ∷ 4 ∷ 1 ∷ 2 ∷ []) 4 ≡ 0xb ∷ 0xb ∷ []
-  pub f-coefficient : interpolated (nextOffset 1 0 (1 ∷ 2 ∷ [])) (nextBasis 1 (1 ∷ 2 ∷ [])) (0xb ∷ 0xb ∷ [])
+  pub f_coefficient : interpolated (next_offset 1 0 (1 ∷ 2 ∷ [])) (next_basis 1 (1 ∷ 2 ∷ [])) (0xb ∷ 0xb ∷ [])
       ≡ 0xb ∷ 0 ∷ []
   -- a word of low degree has no exceptional challenge
-  pub f-none : (x : ℕ) → Exceptional 1 1 0 (1 ∷ 2 ∷ []) (7 ∷ 4 ∷ 1 ∷ 2 ∷ []) x → ⊥
-  pub j-at-4 : folded 1 0 (1 ∷ 2 ∷ []) (0 ∷ 0 ∷ 0 ∷ 1 ∷ []) 4 ≡ 0 ∷ 6 ∷ []
-  pub j-degree-1 : interpolated (nextOffset 1 0 (1 ∷ 2 ∷ [])) (nextBasis 1 (1 ∷ 2 ∷ [])) (0 ∷ 6 ∷ []) ≡ 0 ∷ 1 ∷ []
-  pub j-at-2 : folded 1 0 (1 ∷ 2 ∷ []) (0 ∷ 0 ∷ 0 ∷ 1 ∷ []) 2 ≡ 0 ∷ 0 ∷ []
-  pub j-coefficient : interpolated (nextOffset 1 0 (1 ∷ 2 ∷ [])) (nextBasis 1 (1 ∷ 2 ∷ [])) (0 ∷ 0 ∷ []) ≡ 0 ∷ 0 ∷ []
+  pub f_none : (x : ℕ) → Exceptional 1 1 0 (1 ∷ 2 ∷ []) (7 ∷ 4 ∷ 1 ∷ 2 ∷ []) x → ⊥
+  pub j_at_4 : folded 1 0 (1 ∷ 2 ∷ []) (0 ∷ 0 ∷ 0 ∷ 1 ∷ []) 4 ≡ 0 ∷ 6 ∷ []
+  pub j_degree_1 : interpolated (next_offset 1 0 (1 ∷ 2 ∷ [])) (next_basis 1 (1 ∷ 2 ∷ [])) (0 ∷ 6 ∷ []) ≡ 0 ∷ 1 ∷ []
+  pub j_at_2 : folded 1 0 (1 ∷ 2 ∷ []) (0 ∷ 0 ∷ 0 ∷ 1 ∷ []) 2 ≡ 0 ∷ 0 ∷ []
+  pub j_coefficient : interpolated (next_offset 1 0 (1 ∷ 2 ∷ [])) (next_basis 1 (1 ∷ 2 ∷ [])) (0 ∷ 0 ∷ []) ≡ 0 ∷ 0 ∷ []
   -- the exceptional set is 2 alone
   pub j : (x : ℕ) → Exceptional 1 1 0 (1 ∷ 2 ∷ []) (0 ∷ 0 ∷ 0 ∷ 1 ∷ []) x ↔ (x ≡ 2)
-  pub k-layer : folded 1 0 (1 ∷ 2 ∷ 4 ∷ []) (0 ∷ 1 ∷ 4 ∷ 5 ∷ 0x10 ∷ 0x11 ∷ 0x14 ∷ 0x15 ∷ []) 2
+  pub k_layer : folded 1 0 (1 ∷ 2 ∷ 4 ∷ []) (0 ∷ 1 ∷ 4 ∷ 5 ∷ 0x10 ∷ 0x11 ∷ 0x14 ∷ 0x15 ∷ []) 2
       ≡ 2 ∷ 4 ∷ 0x16 ∷ 0x10 ∷ []
-  pub k-offset : nextOffset 1 0 (1 ∷ 2 ∷ 4 ∷ []) ≡ 0
-  pub k-basis : nextBasis 1 (1 ∷ 2 ∷ 4 ∷ []) ≡ 6 ∷ 0x14 ∷ []
-  pub k-last : folded 1 0 (6 ∷ 0x14 ∷ []) (2 ∷ 4 ∷ 0x16 ∷ 0x10 ∷ []) 3 ≡ 1 ∷ 1 ∷ []
-  pub k-coefficient : interpolated (nextOffset 1 0 (6 ∷ 0x14 ∷ [])) (nextBasis 1 (6 ∷ 0x14 ∷ [])) (1 ∷ 1 ∷ [])
+  pub k_offset : next_offset 1 0 (1 ∷ 2 ∷ 4 ∷ []) ≡ 0
+  pub k_basis : next_basis 1 (1 ∷ 2 ∷ 4 ∷ []) ≡ 6 ∷ 0x14 ∷ []
+  pub k_last : folded 1 0 (6 ∷ 0x14 ∷ []) (2 ∷ 4 ∷ 0x16 ∷ 0x10 ∷ []) 3 ≡ 1 ∷ 1 ∷ []
+  pub k_coefficient : interpolated (next_offset 1 0 (6 ∷ 0x14 ∷ [])) (next_basis 1 (6 ∷ 0x14 ∷ [])) (1 ∷ 1 ∷ [])
       ≡ 1 ∷ 0 ∷ []
 
 -- the parameters of a lone fold are in range
@@ -130,12 +130,12 @@ pub record FoldAccepted : Type 0 where
       ↔ (InRange k step × (step ≤ k) × FoldFits k step basis word values next × Independent basis)
   pub answer : (k step offset : ℕ) (basis word : List ℕ) (x : ℕ) (values next : List ℕ)
       → foldOutcome k step basis word values next ≡ Done
-      → (foldAnswer k step offset basis word values next ≡ NextOffset (record { 0 = nextOffset step offset basis }))
+      → (foldAnswer k step offset basis word values next ≡ NextOffset (record { 0 = next_offset step offset basis }))
       × FoldTells (foldAnswer k step offset basis word values next) 0 Absent Absent
       × ((none : ℕ)
-      → valueOfFolded (foldAnswer k step offset basis word values next) none ≡ nextOffset step offset basis)
+      → valueOfFolded (foldAnswer k step offset basis word values next) none ≡ next_offset step offset basis)
       × (foldValuesAfter k step offset basis word x values next ≡ folded step offset basis word x)
-      × (nextBasisAfter k step basis word values next ≡ nextBasis step basis)
+      × (nextBasisAfter k step basis word values next ≡ next_basis step basis)
 
 -- a call is refused with this number and place, no round and no value, and both lent lists are left as they were
 abbrev pub Refuses : (k step : ℕ) (basis word values next : List ℕ) (number : ℕ) (place : Position) → Type 0
@@ -169,7 +169,7 @@ pub record FoldRefusals : Type 0 where
       → length values ≡ 2 ^ (k - step) → length next ≢ k - step → Refuses k step basis word values next 13 (At 7)
   pub dependent : (k step : ℕ) (basis word values next : List ℕ) (place : ℕ) → InRange k step → step ≤ k
       → FoldFits k step basis word values next
-      → firstDependent basis ≡ At place → Refuses k step basis word values next 8 (At place)
+      → first_dependent basis ≡ At place → Refuses k step basis word values next 8 (At place)
   -- no number is given otherwise
   pub numbers : (k step offset : ℕ) (basis word values next : List ℕ)
       → FoldNumber (numberOfFolded (foldAnswer k step offset basis word values next))

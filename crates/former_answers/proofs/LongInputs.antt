@@ -15,90 +15,90 @@ use Rattle.refusal.specs.declared.Outcome.TheVariants.{Done, Refused}
 use Rattle.refusal.specs.declared.Position.TheVariants.{Absent}
 use Rattle.fri.specs.declared.Answer.TheVariants as answers
 use Rattle.fri.specs.declared.Verdict.{Verdict}
-use Rattle.fri.specs.Judge.{numberOfAnswer, placeOfAnswer, roundOfAnswer}
+use Rattle.fri.specs.Judge.{number_of_answer, place_of_answer, round_of_answer}
 use Rattle.fri.specs.Theorems.{Tells}
-use Rattle.transcript.specs.Checks.{frontOutcome}
-use Rattle.transcript.specs.Judge.{transcriptVerdict, inputLimit, inputVerdict}
+use Rattle.transcript.specs.Checks.{front_outcome}
+use Rattle.transcript.specs.Judge.{transcript_verdict, input_limit, input_verdict}
 use Rattle.transcript.specs.Theorems.{FrontNumber}
-use Rattle.transcript.proofs.Theorems.{judging-bytes}
-use Rattle.transcript.proofs.LongInputs.{long-inputs}
-use Rattle.former_answers.specs.LongInputs.{formerInputVerdict, ChangedAnswers}
+use Rattle.transcript.proofs.Theorems.{judging_bytes}
+use Rattle.transcript.proofs.LongInputs.{long_inputs}
+use Rattle.former_answers.specs.LongInputs.{former_input_verdict, ChangedAnswers}
 
 abbrev number : Verdict → ℕ
-number v = numberOfAnswer v.answer
+number v = number_of_answer v.answer
 
-not-fourteen : (n : ℕ) → FrontNumber n → n ≢ 14
-not-fourteen n (inl two) e = omega arith
-not-fourteen n (inr (inl range)) e = omega arith
-not-fourteen n (inr (inr seventeen)) e = omega arith
+not_fourteen : (n : ℕ) → FrontNumber n → n ≢ 14
+not_fourteen n (inl two) e = omega arith
+not_fourteen n (inr (inl range)) e = omega arith
+not_fourteen n (inr (inr seventeen)) e = omega arith
 
 module _ (bytes : List ℕ) where
   abbrev too_long : Verdict
   too_long = record { answer = answers.Refused InputTooLong; reads = 0 }
 
-  abbrev former-by : (test : Bool) → Verdict
-  former-by test = cond test (transcriptVerdict bytes) too_long
+  abbrev former_by : (test : Bool) → Verdict
+  former_by test = cond test (transcript_verdict bytes) too_long
 
-  former-short : length bytes ≤ inputLimit → formerInputVerdict bytes ≡ transcriptVerdict bytes
-  former-short h = ap former-by (le-leb (length bytes) inputLimit h)
+  former_short : length bytes ≤ input_limit → former_input_verdict bytes ≡ transcript_verdict bytes
+  former_short h = ap former_by (le-leb (length bytes) input_limit h)
 
-  former-long : inputLimit < length bytes → formerInputVerdict bytes ≡ too_long
-  former-long h = ap former-by (lt-leb (length bytes) inputLimit h)
+  former_long : input_limit < length bytes → former_input_verdict bytes ≡ too_long
+  former_long h = ap former_by (lt-leb (length bytes) input_limit h)
 
-  former : inputLimit < length bytes → Tells (formerInputVerdict bytes) 14 Absent Absent 0
+  former : input_limit < length bytes → Tells (former_input_verdict bytes) 14 Absent Absent 0
   former h =
-      let told = former-long h in (
+      let told = former_long h in (
         ap number told,
-        ap (λ (v : Verdict). placeOfAnswer v.answer) told,
-        ap (λ (v : Verdict). roundOfAnswer v.answer) told,
+        ap (λ (v : Verdict). place_of_answer v.answer) told,
+        ap (λ (v : Verdict). round_of_answer v.answer) told,
         ap (λ (v : Verdict). v.reads) told,
       )
 
   abbrev RefusedInFront : Type 0
   RefusedInFront =
-      (inputLimit < length bytes) × ((cause : Cause) × (frontOutcome bytes ≡ Refused cause)
-      × (inputVerdict bytes ≡ record { answer = answers.Refused cause; reads = 0 }))
+      (input_limit < length bytes) × ((cause : Cause) × (front_outcome bytes ≡ Refused cause)
+      × (input_verdict bytes ≡ record { answer = answers.Refused cause; reads = 0 }))
 
   -- the same answer, or a refusal of sections 1 to 4 over the limit
-  same-or-refused : (inputVerdict bytes ≡ formerInputVerdict bytes) ⊎ RefusedInFront
-  same-or-refused = by_length (leb (length bytes) inputLimit) refl
+  same_or_refused : (input_verdict bytes ≡ former_input_verdict bytes) ⊎ RefusedInFront
+  same_or_refused = by_length (leb (length bytes) input_limit) refl
     where
-      by_front : inputLimit < length bytes → (front : Outcome) → frontOutcome bytes ≡ front
-          → (inputVerdict bytes ≡ formerInputVerdict bytes) ⊎ RefusedInFront
-      by_front h Done e = inl (long-inputs.passed bytes h e ∙ sym (former-long h))
-      by_front h (Refused cause) e = inr (h, (cause, e, (long-inputs.refused bytes cause h e).0))
+      by_front : input_limit < length bytes → (front : Outcome) → front_outcome bytes ≡ front
+          → (input_verdict bytes ≡ former_input_verdict bytes) ⊎ RefusedInFront
+      by_front h Done e = inl (long_inputs.passed bytes h e ∙ sym (former_long h))
+      by_front h (Refused cause) e = inr (h, (cause, e, (long_inputs.refused bytes cause h e).0))
 
-      by_length : (test : Bool) → leb (length bytes) inputLimit ≡ test
-          → (inputVerdict bytes ≡ formerInputVerdict bytes) ⊎ RefusedInFront
+      by_length : (test : Bool) → leb (length bytes) input_limit ≡ test
+          → (input_verdict bytes ≡ former_input_verdict bytes) ⊎ RefusedInFront
       by_length true e =
-          let h = leb-true (length bytes) inputLimit e in inl (judging-bytes.short bytes h ∙ sym (former-short h))
-      by_length false e = by_front (leb-false (length bytes) inputLimit e) (frontOutcome bytes) refl
+          let h = leb-true (length bytes) input_limit e in inl (judging_bytes.short bytes h ∙ sym (former_short h))
+      by_length false e = by_front (leb-false (length bytes) input_limit e) (front_outcome bytes) refl
 
-  refused-of : inputVerdict bytes ≢ formerInputVerdict bytes → RefusedInFront
-  refused-of changed = by same-or-refused
+  refused_of : input_verdict bytes ≢ former_input_verdict bytes → RefusedInFront
+  refused_of changed = by same_or_refused
     where
-      by : (inputVerdict bytes ≡ formerInputVerdict bytes) ⊎ RefusedInFront → RefusedInFront
+      by : (input_verdict bytes ≡ former_input_verdict bytes) ⊎ RefusedInFront → RefusedInFront
       by (inl same) = absurd (changed same)
       by (inr refused) = refused
 
-  front-number : RefusedInFront → FrontNumber (number (inputVerdict bytes))
-  front-number (h, (cause, e, told)) =
-      subst FrontNumber (sym (ap number told)) (long-inputs.front-numbers bytes cause (omega arith) e)
+  front_number : RefusedInFront → FrontNumber (number (input_verdict bytes))
+  front_number (h, (cause, e, told)) =
+      subst FrontNumber (sym (ap number told)) (long_inputs.front_numbers bytes cause (omega arith) e)
 
-  changed-by : inputLimit < length bytes → FrontNumber (number (inputVerdict bytes))
-      → inputVerdict bytes ≢ formerInputVerdict bytes
-  changed-by h given same = not-fourteen (number (inputVerdict bytes)) given (ap number (same ∙ former-long h))
+  changed_by : input_limit < length bytes → FrontNumber (number (input_verdict bytes))
+      → input_verdict bytes ≢ former_input_verdict bytes
+  changed_by h given same = not_fourteen (number (input_verdict bytes)) given (ap number (same ∙ former_long h))
 
-pub changed-answers : ChangedAnswers
-changed-answers =
+pub changed_answers : ChangedAnswers
+changed_answers =
     record {
       former = former;
       exactly = λ bytes. (
-        λ changed. let refused = refused-of bytes changed in (refused.0, front-number bytes refused),
-        λ given. changed-by bytes given.0 given.1,
+        λ changed. let refused = refused_of bytes changed in (refused.0, front_number bytes refused),
+        λ given. changed_by bytes given.0 given.1,
       );
-      by-sections = λ bytes. (
-        refused-of bytes,
-        λ refused. changed-by bytes refused.0 (front-number bytes refused),
+      by_sections = λ bytes. (
+        refused_of bytes,
+        λ refused. changed_by bytes refused.0 (front_number bytes refused),
       );
     }

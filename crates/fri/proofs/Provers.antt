@@ -7,103 +7,103 @@ use native.Mathlib.Nat.{ne_of_lt}
 use native.Mathlib.Omega.{arith}
 use lib.Dec.{leb}
 use borrow.Author.Tests.{le-leb, lt-leb, leb-false}
-use Rattle.poly.specs.Degree.{degreeBound}
+use Rattle.poly.specs.Degree.{degree_bound}
 use Rattle.refusal.specs.declared.Cause.{Cause}
 use Rattle.refusal.specs.declared.Cause.TheVariants.{DegreeTooLarge}
 use Rattle.refusal.specs.declared.Outcome.{Outcome}
 use Rattle.refusal.specs.declared.Outcome.TheVariants.{Done, Refused}
-use Rattle.refusal.specs.Checks.{refusedUnless, afterwards}
-use Rattle.refusal.specs.Numbers.{numberOfOutcome}
-use Rattle.refusal.proofs.Checks.{le-of-test, refused-not-done, passed-by, refused-by, unless-done}
-use Rattle.refusal.proofs.Checks.{then-passed, then-refused, then-done, which, number-unless}
-use Rattle.fri.specs.Layout.{lastCount}
-use Rattle.fri.specs.Run.{Run, stepsIn}
-use Rattle.fri.specs.Layers.{honestStore, lastInterpolant, honestLast}
-use Rattle.fri.specs.Checks.{runOutcome}
-use Rattle.fri.specs.Prover.{degreeOutcome, proveOutcome, storeAfter, lastAfter}
+use Rattle.refusal.specs.Checks.{refused_unless, afterwards}
+use Rattle.refusal.specs.Numbers.{number_of_outcome}
+use Rattle.refusal.proofs.Checks.{le_of_test, refused_not_done, passed_by, refused_by, unless_done}
+use Rattle.refusal.proofs.Checks.{then_passed, then_refused, then_done, which, number_unless}
+use Rattle.fri.specs.Layout.{last_count}
+use Rattle.fri.specs.Run.{Run, steps_in}
+use Rattle.fri.specs.Layers.{honest_store, last_interpolant, honest_last}
+use Rattle.fri.specs.Checks.{run_outcome}
+use Rattle.fri.specs.Prover.{degree_outcome, prove_outcome, store_after, last_after}
 use Rattle.fri.specs.Theorems.{ProverAnswers}
 use Rattle.fri.proofs.Checks as checks
 
 module _ (run : Run) where
   abbrev bound : ℕ
-  bound = degreeBound (lastInterpolant run)
+  bound = degree_bound (last_interpolant run)
 
   abbrev d : ℕ
-  d = lastCount run.k run.rate (stepsIn run)
+  d = last_count run.k run.rate (steps_in run)
 
-  done-degree : proveOutcome run ≡ Done → (runOutcome run ≡ Done) × (bound ≤ d)
-  done-degree e =
-      let both = then-done (runOutcome run) (degreeOutcome run) e in
-      (both.0, le-of-test bound d (unless-done (leb bound d) (DegreeTooLarge (bound - 1)) Done both.1).0)
+  done_degree : prove_outcome run ≡ Done → (run_outcome run ≡ Done) × (bound ≤ d)
+  done_degree e =
+      let both = then_done (run_outcome run) (degree_outcome run) e in
+      (both.0, le_of_test bound d (unless_done (leb bound d) (DegreeTooLarge (bound - 1)) Done both.1).0)
 
-  pub degree-passes : bound ≤ d → degreeOutcome run ≡ Done
-  degree-passes l = sym (passed-by (leb bound d) (DegreeTooLarge (bound - 1)) Done (le-leb bound d l))
+  pub degree_passes : bound ≤ d → degree_outcome run ≡ Done
+  degree_passes l = sym (passed_by (leb bound d) (DegreeTooLarge (bound - 1)) Done (le-leb bound d l))
 
-  pub degree-done : runOutcome run ≡ Done → bound ≤ d → proveOutcome run ≡ Done
-  degree-done e l =
-      sym (then-passed (runOutcome run) (degreeOutcome run) e) ∙ degree-passes l
+  pub degree_done : run_outcome run ≡ Done → bound ≤ d → prove_outcome run ≡ Done
+  degree_done e l =
+      sym (then_passed (run_outcome run) (degree_outcome run) e) ∙ degree_passes l
 
   -- a refusal by 12 is the degree's
-  degree-refused : (degree : ℕ) (test : Bool) → leb bound d ≡ test
-      → refusedUnless test (DegreeTooLarge (bound - 1)) Done ≡ Refused (DegreeTooLarge degree)
+  degree_refused : (degree : ℕ) (test : Bool) → leb bound d ≡ test
+      → refused_unless test (DegreeTooLarge (bound - 1)) Done ≡ Refused (DegreeTooLarge degree)
       → (bound ≡ suc degree) × (d ≤ degree)
-  degree-refused degree true t e = absurd (refused-not-done (DegreeTooLarge degree) (sym e))
-  degree-refused degree false t e =
+  degree_refused degree true t e = absurd (refused_not_done (DegreeTooLarge degree) (sym e))
+  degree_refused degree false t e =
       let same : bound - 1 ≡ degree = cc in
       let over : d < bound = leb-false bound d t in
       (omega (arith, same, over), omega (arith, same, over))
 
-  high-degree : (degree : ℕ) → proveOutcome run ≡ Refused (DegreeTooLarge degree)
-      → (runOutcome run ≡ Done) × (bound ≡ suc degree) × (d ≤ degree)
-  high-degree degree e =
+  high_degree : (degree : ℕ) → prove_outcome run ≡ Refused (DegreeTooLarge degree)
+      → (run_outcome run ≡ Done) × (bound ≡ suc degree) × (d ≤ degree)
+  high_degree degree e =
       ⊎_elim
-      (λ (h : runOutcome run ≡ Refused (DegreeTooLarge degree)). absurd
-      (checks.run-not run 12 (omega arith) (ne_of_lt (omega arith)) (ap numberOfOutcome h)))
-      (λ (h : (runOutcome run ≡ Done) × (degreeOutcome run ≡ Refused (DegreeTooLarge degree))).
-      let told = degree-refused degree (leb bound d) refl h.1 in
+      (λ (h : run_outcome run ≡ Refused (DegreeTooLarge degree)). absurd
+      (checks.run_not run 12 (omega arith) (ne_of_lt (omega arith)) (ap number_of_outcome h)))
+      (λ (h : (run_outcome run ≡ Done) × (degree_outcome run ≡ Refused (DegreeTooLarge degree))).
+      let told = degree_refused degree (leb bound d) refl h.1 in
       (h.0, told.0, told.1))
-      (which (runOutcome run) (degreeOutcome run) (DegreeTooLarge degree) e)
+      (which (run_outcome run) (degree_outcome run) (DegreeTooLarge degree) e)
 
-  degree-high : (degree : ℕ) → runOutcome run ≡ Done → bound ≡ suc degree → d ≤ degree
-      → proveOutcome run ≡ Refused (DegreeTooLarge degree)
-  degree-high degree e s l =
+  degree_high : (degree : ℕ) → run_outcome run ≡ Done → bound ≡ suc degree → d ≤ degree
+      → prove_outcome run ≡ Refused (DegreeTooLarge degree)
+  degree_high degree e s l =
       let same : bound - 1 ≡ degree = omega (arith, s) in
-      sym (then-passed (runOutcome run) (degreeOutcome run) e)
-      ∙ sym (refused-by (leb bound d) (DegreeTooLarge (bound - 1)) Done (lt-leb bound d (omega (arith, s))))
+      sym (then_passed (run_outcome run) (degree_outcome run) e)
+      ∙ sym (refused_by (leb bound d) (DegreeTooLarge (bound - 1)) Done (lt-leb bound d (omega (arith, s))))
       ∙ ap (λ (n : ℕ). Refused (DegreeTooLarge n)) same
 
-  high-holds : (degree : ℕ) → proveOutcome run ≡ Refused (DegreeTooLarge degree)
-      → (storeAfter run ≡ honestStore run) × (lastAfter run ≡ run.last)
-  high-holds degree e = (
-    ap (λ (o : Outcome). afterwards o (honestStore run) run.store) (high-degree degree e).0,
-    ap (λ (o : Outcome). afterwards o (honestLast run) run.last) e,
+  high_holds : (degree : ℕ) → prove_outcome run ≡ Refused (DegreeTooLarge degree)
+      → (store_after run ≡ honest_store run) × (last_after run ≡ run.last)
+  high_holds degree e = (
+    ap (λ (o : Outcome). afterwards o (honest_store run) run.store) (high_degree degree e).0,
+    ap (λ (o : Outcome). afterwards o (honest_last run) run.last) e,
   )
 
-  pub done-holds-both : proveOutcome run ≡ Done → (storeAfter run ≡ honestStore run) × (lastAfter run ≡ honestLast run)
-  done-holds-both e = (
-    ap (λ (o : Outcome). afterwards o (honestStore run) run.store) (done-degree e).0,
-    ap (λ (o : Outcome). afterwards o (honestLast run) run.last) e,
+  pub done_holds_both : prove_outcome run ≡ Done → (store_after run ≡ honest_store run) × (last_after run ≡ honest_last run)
+  done_holds_both e = (
+    ap (λ (o : Outcome). afterwards o (honest_store run) run.store) (done_degree e).0,
+    ap (λ (o : Outcome). afterwards o (honest_last run) run.last) e,
   )
 
   -- a refusal before the degree leaves both lists
-  pub refused-prove : (cause : Cause) → runOutcome run ≡ Refused cause → proveOutcome run ≡ Refused cause
-  refused-prove cause e = sym (then-refused (runOutcome run) (degreeOutcome run) cause e)
+  pub refused_prove : (cause : Cause) → run_outcome run ≡ Refused cause → prove_outcome run ≡ Refused cause
+  refused_prove cause e = sym (then_refused (run_outcome run) (degree_outcome run) cause e)
 
-  pub refused-holds-both : (cause : Cause) → runOutcome run ≡ Refused cause
-      → (storeAfter run ≡ run.store) × (lastAfter run ≡ run.last)
-  refused-holds-both cause e = (
-    ap (λ (o : Outcome). afterwards o (honestStore run) run.store) e,
-    ap (λ (o : Outcome). afterwards o (honestLast run) run.last) (refused-prove cause e),
+  pub refused_holds_both : (cause : Cause) → run_outcome run ≡ Refused cause
+      → (store_after run ≡ run.store) × (last_after run ≡ run.last)
+  refused_holds_both cause e = (
+    ap (λ (o : Outcome). afterwards o (honest_store run) run.store) e,
+    ap (λ (o : Outcome). afterwards o (honest_last run) run.last) (refused_prove cause e),
   )
 
-  pub degree-number : (P : ℕ → Type 0) → P 0 → P 12 → P (numberOfOutcome (degreeOutcome run))
-  degree-number P p0 p12 = number-unless P (leb bound d) (DegreeTooLarge (bound - 1)) Done p12 p0
+  pub degree_number : (P : ℕ → Type 0) → P 0 → P 12 → P (number_of_outcome (degree_outcome run))
+  degree_number P p0 p12 = number_unless P (leb bound d) (DegreeTooLarge (bound - 1)) Done p12 p0
 
-pub prover-answers : ProverAnswers
-prover-answers =
+pub prover_answers : ProverAnswers
+prover_answers =
     record {
-      done = λ run. (λ e. done-degree run e, λ t. degree-done run t.0 t.1);
-      holds = done-holds-both;
-      too-high = λ run degree. (λ e. high-degree run degree e, λ t. degree-high run degree t.0 t.1 t.2);
-      too-high-holds = high-holds;
+      done = λ run. (λ e. done_degree run e, λ t. degree_done run t.0 t.1);
+      holds = done_holds_both;
+      too_high = λ run degree. (λ e. high_degree run degree e, λ t. degree_high run degree t.0 t.1 t.2);
+      too_high_holds = high_holds;
     }

@@ -10,103 +10,103 @@ use Rattle.refusal.specs.declared.Cause.{Cause}
 use Rattle.refusal.specs.declared.Cause.TheVariants.{RoundCheckFails}
 use Rattle.refusal.specs.declared.Outcome.TheVariants.{Done, Refused}
 use Rattle.refusal.specs.declared.Position.TheVariants.{At, Absent}
-use Rattle.refusal.specs.Numbers.{number_of, numberOfOutcome}
-use Rattle.refusal.proofs.Checks.{refused-by, number-then}
+use Rattle.refusal.specs.Numbers.{number_of, number_of_outcome}
+use Rattle.refusal.proofs.Checks.{refused_by, number_then}
 use Rattle.fri.specs.declared.Answer.TheVariants as answers
-use Rattle.fri.specs.Layout.{dimension, indexIn}
-use Rattle.fri.specs.Run.{Run, stepsIn, stepIn, roundsIn, layerIn}
+use Rattle.fri.specs.Layout.{dimension, index_in}
+use Rattle.fri.specs.Run.{Run, steps_in, step_in, rounds_in, layer_in}
 use Rattle.fri.specs.Layers.{fold_of}
-use Rattle.fri.specs.Checks.{runOutcome, queriesOutcome}
-use Rattle.fri.specs.Judge.{checksOutcome, verdictOf, numberOfAnswer, placeOfAnswer, roundOfAnswer}
-use Rattle.fri.specs.Rounds.{valueComputed, roundsOutcome}
+use Rattle.fri.specs.Checks.{run_outcome, queries_outcome}
+use Rattle.fri.specs.Judge.{checks_outcome, verdict_of, number_of_answer, place_of_answer, round_of_answer}
+use Rattle.fri.specs.Rounds.{value_computed, rounds_outcome}
 use Rattle.fri.specs.Demand.{ValidCoset, Accepted}
 use Rattle.fri.specs.Theorems.{Tells, FailsFirst, RoundChecks, Reads}
 use Rattle.fri.proofs.Layouts as laws
-use Rattle.fri.proofs.Cosets.{layer-steps-fit}
-use Rattle.fri.proofs.Values.{computed-entry, found-entry, found-last}
-use Rattle.fri.proofs.Rounds.{fails-of-refused, refused-by-round}
+use Rattle.fri.proofs.Cosets.{layer_steps_fit}
+use Rattle.fri.proofs.Values.{computed_entry, found_entry, found_last}
+use Rattle.fri.proofs.Rounds.{fails_of_refused, refused_by_round}
 use Rattle.fri.proofs.Checks as checks
 use Rattle.fri.proofs.Verdicts as verdicts
 
 -- the checks before them never answer 11
-checks-not-11 : (run : Run) (queries : List ℕ) → numberOfOutcome (checksOutcome run queries) ≢ 11
-checks-not-11 run queries =
-    number-then (λ n. n ≢ 11) (runOutcome run) (queriesOutcome run.k (stepIn run 0) queries)
-    (checks.run-not run 11 (omega arith) (ne_of_lt (omega arith)))
-    (checks.queries-number (λ n. n ≢ 11) (ne_of_lt (omega arith)) (ne_of_lt (omega arith)) (ne_of_lt (omega arith))
-    (λ e. ne_of_lt (omega arith) (sym e)) run.k (stepIn run 0) queries)
+checks_not_11 : (run : Run) (queries : List ℕ) → number_of_outcome (checks_outcome run queries) ≢ 11
+checks_not_11 run queries =
+    number_then (λ n. n ≢ 11) (run_outcome run) (queries_outcome run.k (step_in run 0) queries)
+    (checks.run_not run 11 (omega arith) (ne_of_lt (omega arith)))
+    (checks.queries_number (λ n. n ≢ 11) (ne_of_lt (omega arith)) (ne_of_lt (omega arith)) (ne_of_lt (omega arith))
+    (λ e. ne_of_lt (omega arith) (sym e)) run.k (step_in run 0) queries)
 
-round-refused : (run : Run) (queries : List ℕ) (query round : ℕ)
-    → (verdictOf run queries).answer ≡ answers.Refused (RoundCheckFails query round)
-    → (checksOutcome run queries ≡ Done) × FailsFirst run queries query round
-round-refused run queries query round e =
+round_refused : (run : Run) (queries : List ℕ) (query round : ℕ)
+    → (verdict_of run queries).answer ≡ answers.Refused (RoundCheckFails query round)
+    → (checks_outcome run queries ≡ Done) × FailsFirst run queries query round
+round_refused run queries query round e =
     ⊎_elim
-    (λ (h : checksOutcome run queries ≡ Refused (RoundCheckFails query round)).
-    absurd (checks-not-11 run queries (ap numberOfOutcome h)))
-    (λ (h : (checksOutcome run queries ≡ Done) × (roundsOutcome run queries 0 ≡ Refused (RoundCheckFails query round))).
-    (h.0, fails-of-refused run queries query round h.1))
-    (verdicts.refused-which run queries (RoundCheckFails query round) e)
+    (λ (h : checks_outcome run queries ≡ Refused (RoundCheckFails query round)).
+    absurd (checks_not_11 run queries (ap number_of_outcome h)))
+    (λ (h : (checks_outcome run queries ≡ Done) × (rounds_outcome run queries 0 ≡ Refused (RoundCheckFails query round))).
+    (h.0, fails_of_refused run queries query round h.1))
+    (verdicts.refused_which run queries (RoundCheckFails query round) e)
 
 -- a query's index in layer i + 1
-next-index : (run : Run) (j i : ℕ) → suc i ≤ roundsIn run
-    → indexIn (stepsIn run) j (suc i) ≡ j / 2 ^ (run.step * suc i)
-next-index run j i h = laws.index-of-layer run.k run.rate run.step j (suc i) h
+next_index : (run : Run) (j i : ℕ) → suc i ≤ rounds_in run
+    → index_in (steps_in run) j (suc i) ≡ j / 2 ^ (run.step * suc i)
+next_index run j i h = laws.index_of_layer run.k run.rate run.step j (suc i) h
 
-computed : (run : Run) (j i : ℕ) → ValidCoset run → j < 2 ^ run.k → i < roundsIn run
-    → valueComputed run j i ≡ get_or (fold_of run i (layerIn run i)) (j / 2 ^ (run.step * suc i)) 0
+computed : (run : Run) (j i : ℕ) → ValidCoset run → j < 2 ^ run.k → i < rounds_in run
+    → value_computed run j i ≡ get_or (fold_of run i (layer_in run i)) (j / 2 ^ (run.step * suc i)) 0
 computed run j i v l h =
-    computed-entry run v j i (j / 2 ^ (run.step * suc i))
-    (subst (λ (n : ℕ). n < 2 ^ dimension run.k (stepsIn run) (suc i)) (next-index run j i h)
-    (laws.index-within run.k (stepsIn run) (layer-steps-fit run v) j (suc i) h l))
-    (next-index run j i h)
+    computed_entry run v j i (j / 2 ^ (run.step * suc i))
+    (subst (λ (n : ℕ). n < 2 ^ dimension run.k (steps_in run) (suc i)) (next_index run j i h)
+    (laws.index_within run.k (steps_in run) (layer_steps_fit run v) j (suc i) h l))
+    (next_index run j i h)
 
-pub round-checks : RoundChecks
-round-checks =
+pub round_checks : RoundChecks
+round_checks =
     record {
       computed = computed;
       found = λ run j i h.
-          found-entry run j i (j / 2 ^ (run.step * suc i)) h (next-index run j i (omega arith));
-      found-last = λ run j i h. found-last run j i (j / 2 ^ (run.step * suc i)) h (next-index run j i (le_of_eq h));
+          found_entry run j i (j / 2 ^ (run.step * suc i)) h (next_index run j i (omega arith));
+      found_last = λ run j i h. found_last run j i (j / 2 ^ (run.step * suc i)) h (next_index run j i (le_of_eq h));
       accepted = λ run queries.
-          (λ e. verdicts.accepted-checks run queries e, λ t. verdicts.accepted-by run queries t.0 t.1);
+          (λ e. verdicts.accepted_checks run queries e, λ t. verdicts.accepted_by run queries t.0 t.1);
       refused = λ run queries query round. (
-        λ e. round-refused run queries query round e,
-        λ t. verdicts.refused-by run queries query round t.0 t.1,
+        λ e. round_refused run queries query round e,
+        λ t. verdicts.refused_by run queries query round t.0 t.1,
       );
     }
 
 -- ---- reads
 
-told-accepted : (run : Run) (queries : List ℕ) → Accepted run queries
-    → Tells (verdictOf run queries) 0 Absent Absent (length queries * roundsIn run * 2 ^ run.step)
-told-accepted run queries e =
-    let told = verdicts.accepted-checks run queries e in (
-      ap numberOfAnswer e,
-      ap placeOfAnswer e,
-      ap roundOfAnswer e,
-      verdicts.reads-accepted run queries told.0 told.1,
+told_accepted : (run : Run) (queries : List ℕ) → Accepted run queries
+    → Tells (verdict_of run queries) 0 Absent Absent (length queries * rounds_in run * 2 ^ run.step)
+told_accepted run queries e =
+    let told = verdicts.accepted_checks run queries e in (
+      ap number_of_answer e,
+      ap place_of_answer e,
+      ap round_of_answer e,
+      verdicts.reads_accepted run queries told.0 told.1,
     )
 
-told-refused : (run : Run) (queries : List ℕ) (query round : ℕ)
-    → (verdictOf run queries).answer ≡ answers.Refused (RoundCheckFails query round)
-    → Tells (verdictOf run queries) 11 (At query) (At round)
-    (query * roundsIn run * 2 ^ run.step + min (round + 2) (roundsIn run) * 2 ^ run.step)
-told-refused run queries query round e =
-    let told = round-refused run queries query round e in (
-      ap numberOfAnswer e,
-      ap placeOfAnswer e,
-      ap roundOfAnswer e,
-      verdicts.reads-refused run queries query round told.0 told.1,
+told_refused : (run : Run) (queries : List ℕ) (query round : ℕ)
+    → (verdict_of run queries).answer ≡ answers.Refused (RoundCheckFails query round)
+    → Tells (verdict_of run queries) 11 (At query) (At round)
+    (query * rounds_in run * 2 ^ run.step + min (round + 2) (rounds_in run) * 2 ^ run.step)
+told_refused run queries query round e =
+    let told = round_refused run queries query round e in (
+      ap number_of_answer e,
+      ap place_of_answer e,
+      ap round_of_answer e,
+      verdicts.reads_refused run queries query round told.0 told.1,
     )
 
-no_reads : (run : Run) (queries : List ℕ) (cause : Cause) → (verdictOf run queries).answer ≡ answers.Refused cause
-    → number_of cause ≢ 11 → (verdictOf run queries).reads ≡ 0
+no_reads : (run : Run) (queries : List ℕ) (cause : Cause) → (verdict_of run queries).answer ≡ answers.Refused cause
+    → number_of cause ≢ 11 → (verdict_of run queries).reads ≡ 0
 no_reads run queries cause e n =
     ⊎_elim
-    (λ (h : checksOutcome run queries ≡ Refused cause). (verdicts.refused-early run queries cause h).1)
-    (λ (h : (checksOutcome run queries ≡ Done) × (roundsOutcome run queries 0 ≡ Refused cause)).
-    absurd (n (refused-by-round run queries cause h.1)))
-    (verdicts.refused-which run queries cause e)
+    (λ (h : checks_outcome run queries ≡ Refused cause). (verdicts.refused_early run queries cause h).1)
+    (λ (h : (checks_outcome run queries ≡ Done) × (rounds_outcome run queries 0 ≡ Refused cause)).
+    absurd (n (refused_by_round run queries cause h.1)))
+    (verdicts.refused_which run queries cause e)
 
 pub reads : Reads
-reads = record { accepted = told-accepted; refused = told-refused; others = no_reads }
+reads = record { accepted = told_accepted; refused = told_refused; others = no_reads }

@@ -8,43 +8,43 @@ use borrow.Author.Tests.{lt-ltb, le-ltb}
 use Rattle.poly.specs.Carrier.{gf64}
 use Rattle.poly.specs.Polynomial.{evaluate}
 use Rattle.coset.specs.Coset.{point}
-use Rattle.coset.proofs.Points.{getD-tabulated}
-use Rattle.fold.specs.Fold.{folded, foldEntry}
-use Rattle.fri.specs.Layout.{dimension, indexIn}
-use Rattle.fri.specs.Run.{Run, stepsIn, roundsIn, challengeIn, layerIn, stepIn}
-use Rattle.fri.specs.Layers.{basisIn, offsetIn, fold_of}
-use Rattle.fri.specs.Rounds.{valueComputed, valueFound}
+use Rattle.coset.proofs.Points.{get_or-tabulated}
+use Rattle.fold.specs.Fold.{folded, fold_entry}
+use Rattle.fri.specs.Layout.{dimension, index_in}
+use Rattle.fri.specs.Run.{Run, steps_in, rounds_in, challenge_in, layer_in, step_in}
+use Rattle.fri.specs.Layers.{basis_in, offset_in, fold_of}
+use Rattle.fri.specs.Rounds.{value_computed, value_found}
 use Rattle.fri.specs.Demand.{ValidCoset}
-use Rattle.fri.proofs.Cosets.{length-layerBasis}
+use Rattle.fri.proofs.Cosets.{length-layer_basis}
 
 -- the fold's entry
-pub computed-entry : (run : Run) (v : ValidCoset run) (j i m : ℕ) → m < 2 ^ dimension run.k (stepsIn run) (suc i)
-    → indexIn (stepsIn run) j (suc i) ≡ m
-    → valueComputed run j i ≡ get_or (fold_of run i (layerIn run i)) m 0
-unfolding valueComputed fold_of folded dimension
-computed-entry run v j i m h e =
-    ap (foldEntry (stepIn run i) (offsetIn run i) (basisIn run i) (layerIn run i) (challengeIn run i)) e
-    ∙ sym (getD-tabulated (foldEntry (stepIn run i) (offsetIn run i) (basisIn run i) (layerIn run i)
-    (challengeIn run i)) 0 (2 ^ (length (basisIn run i) - stepIn run i)) m
-    (subst (λ (n : ℕ). m < 2 ^ (n - stepIn run i)) (sym (length-layerBasis run v i)) h)
-    ∙ ap (foldEntry (stepIn run i) (offsetIn run i) (basisIn run i) (layerIn run i) (challengeIn run i)) (zero-add m))
+pub computed_entry : (run : Run) (v : ValidCoset run) (j i m : ℕ) → m < 2 ^ dimension run.k (steps_in run) (suc i)
+    → index_in (steps_in run) j (suc i) ≡ m
+    → value_computed run j i ≡ get_or (fold_of run i (layer_in run i)) m 0
+unfolding value_computed fold_of folded dimension
+computed_entry run v j i m h e =
+    ap (fold_entry (step_in run i) (offset_in run i) (basis_in run i) (layer_in run i) (challenge_in run i)) e
+    ∙ sym (get_or-tabulated (fold_entry (step_in run i) (offset_in run i) (basis_in run i) (layer_in run i)
+    (challenge_in run i)) 0 (2 ^ (length (basis_in run i) - step_in run i)) m
+    (subst (λ (n : ℕ). m < 2 ^ (n - step_in run i)) (sym (length-layer_basis run v i)) h)
+    ∙ ap (fold_entry (step_in run i) (offset_in run i) (basis_in run i) (layer_in run i) (challenge_in run i)) (zero-add m))
 
 -- the next layer's entry
-pub found-entry : (run : Run) (j i m : ℕ) → suc i < roundsIn run → indexIn (stepsIn run) j (suc i) ≡ m
-    → valueFound run j i ≡ get_or (layerIn run (suc i)) m 0
-unfolding valueFound
-found-entry run j i m h e =
-    ap (λ (t : Bool). cond t (get_or (layerIn run (suc i)) (indexIn (stepsIn run) j (suc i)) 0)
-    (evaluate gf64 run.last (point (offsetIn run (suc i)) (basisIn run (suc i)) (indexIn (stepsIn run) j (suc i)))))
-    (lt-ltb (suc i) (roundsIn run) h)
-    ∙ ap (λ (n : ℕ). get_or (layerIn run (suc i)) n 0) e
+pub found_entry : (run : Run) (j i m : ℕ) → suc i < rounds_in run → index_in (steps_in run) j (suc i) ≡ m
+    → value_found run j i ≡ get_or (layer_in run (suc i)) m 0
+unfolding value_found
+found_entry run j i m h e =
+    ap (λ (t : Bool). cond t (get_or (layer_in run (suc i)) (index_in (steps_in run) j (suc i)) 0)
+    (evaluate gf64 run.last (point (offset_in run (suc i)) (basis_in run (suc i)) (index_in (steps_in run) j (suc i)))))
+    (lt-ltb (suc i) (rounds_in run) h)
+    ∙ ap (λ (n : ℕ). get_or (layer_in run (suc i)) n 0) e
 
 -- the last polynomial's value
-pub found-last : (run : Run) (j i m : ℕ) → suc i ≡ roundsIn run → indexIn (stepsIn run) j (suc i) ≡ m
-    → valueFound run j i ≡ evaluate gf64 run.last (point (offsetIn run (suc i)) (basisIn run (suc i)) m)
-unfolding valueFound
-found-last run j i m h e =
-    ap (λ (t : Bool). cond t (get_or (layerIn run (suc i)) (indexIn (stepsIn run) j (suc i)) 0)
-    (evaluate gf64 run.last (point (offsetIn run (suc i)) (basisIn run (suc i)) (indexIn (stepsIn run) j (suc i)))))
-    (le-ltb (suc i) (roundsIn run) (le_of_eq (sym h)))
-    ∙ ap (λ (n : ℕ). evaluate gf64 run.last (point (offsetIn run (suc i)) (basisIn run (suc i)) n)) e
+pub found_last : (run : Run) (j i m : ℕ) → suc i ≡ rounds_in run → index_in (steps_in run) j (suc i) ≡ m
+    → value_found run j i ≡ evaluate gf64 run.last (point (offset_in run (suc i)) (basis_in run (suc i)) m)
+unfolding value_found
+found_last run j i m h e =
+    ap (λ (t : Bool). cond t (get_or (layer_in run (suc i)) (index_in (steps_in run) j (suc i)) 0)
+    (evaluate gf64 run.last (point (offset_in run (suc i)) (basis_in run (suc i)) (index_in (steps_in run) j (suc i)))))
+    (le-ltb (suc i) (rounds_in run) (le_of_eq (sym h)))
+    ∙ ap (λ (n : ℕ). evaluate gf64 run.last (point (offset_in run (suc i)) (basis_in run (suc i)) n)) e

@@ -10,123 +10,123 @@ use Rattle.refusal.specs.declared.Cause.TheVariants.{RoundCheckFails}
 use Rattle.refusal.specs.declared.Outcome.{Outcome}
 use Rattle.refusal.specs.declared.Outcome.TheVariants.{Done, Refused}
 use Rattle.refusal.specs.Checks.{and_then}
-use Rattle.refusal.specs.Numbers.{number_of, place_of, roundOf, numberOfOutcome}
-use Rattle.refusal.proofs.Checks.{then-passed, then-refused, then-done, Either, which}
+use Rattle.refusal.specs.Numbers.{number_of, place_of, round_of, number_of_outcome}
+use Rattle.refusal.proofs.Checks.{then_passed, then_refused, then_done, Either, which}
 use Rattle.fri.specs.declared.Answer.{Answer}
 use Rattle.fri.specs.declared.Answer.TheVariants as answers
-use Rattle.fri.specs.Run.{Run, roundsIn, stepIn}
-use Rattle.fri.specs.Checks.{runOutcome, queriesOutcome}
-use Rattle.fri.specs.Judge.{checksOutcome, answer_of, readsAfter, verdictOf}
-use Rattle.fri.specs.Judge.{numberOfAnswer, placeOfAnswer, roundOfAnswer}
-use Rattle.fri.specs.Rounds.{roundsOutcome}
-use Rattle.fri.specs.Reads.{entriesRead}
+use Rattle.fri.specs.Run.{Run, rounds_in, step_in}
+use Rattle.fri.specs.Checks.{run_outcome, queries_outcome}
+use Rattle.fri.specs.Judge.{checks_outcome, answer_of, reads_after, verdict_of}
+use Rattle.fri.specs.Judge.{number_of_answer, place_of_answer, round_of_answer}
+use Rattle.fri.specs.Rounds.{rounds_outcome}
+use Rattle.fri.specs.Reads.{entries_read}
 use Rattle.fri.specs.Demand.{Accepted, ValidQueries, Apart}
 use Rattle.fri.specs.Theorems.{PassesEveryRound, FailsFirst, Tells}
-use Rattle.fri.proofs.Rounds.{all_pass, pass-of-done, first-failing, read_all}
-use Rattle.fri.proofs.Rounds.{read-until, entries-of-rounds, entries-until}
-use Rattle.fri.proofs.Checks.{queries-valid, queries-pass}
+use Rattle.fri.proofs.Rounds.{all_pass, pass_of_done, first_failing, read_all}
+use Rattle.fri.proofs.Rounds.{read_until, entries_of_rounds, entries_until}
+use Rattle.fri.proofs.Checks.{queries_valid, queries_pass}
 
 -- ---- an outcome as an answer
 
-pub done-of : (o : Outcome) → answer_of o ≡ answers.Accepted → o ≡ Done
-done-of Done e = refl
-done-of (Refused cause) e = absurd (let impossible : ◌≡◌ {A = ℕ} 0 1 = cc in omega arith)
+pub done_of : (o : Outcome) → answer_of o ≡ answers.Accepted → o ≡ Done
+done_of Done e = refl
+done_of (Refused cause) e = absurd (let impossible : ◌≡◌ {A = ℕ} 0 1 = cc in omega arith)
 
-pub refused-of : (o : Outcome) (cause : Cause) → answer_of o ≡ answers.Refused cause → o ≡ Refused cause
-refused-of Done cause e = absurd (let impossible : ◌≡◌ {A = ℕ} 0 1 = cc in omega arith)
-refused-of (Refused other) cause e = let same : other ≡ cause = cc in ap Refused same
+pub refused_of : (o : Outcome) (cause : Cause) → answer_of o ≡ answers.Refused cause → o ≡ Refused cause
+refused_of Done cause e = absurd (let impossible : ◌≡◌ {A = ℕ} 0 1 = cc in omega arith)
+refused_of (Refused other) cause e = let same : other ≡ cause = cc in ap Refused same
 
-pub same_number : (o : Outcome) → numberOfAnswer (answer_of o) ≡ numberOfOutcome o
+pub same_number : (o : Outcome) → number_of_answer (answer_of o) ≡ number_of_outcome o
 same_number Done = refl
 same_number (Refused cause) = refl
 
 module _ (run : Run) (queries : List ℕ) where
   abbrev outcome : Outcome
-  outcome = and_then (checksOutcome run queries) (roundsOutcome run queries 0)
+  outcome = and_then (checks_outcome run queries) (rounds_outcome run queries 0)
 
   abbrev AllPass : Type 0
   AllPass = (t : ℕ) → t < length queries → PassesEveryRound run (get_or queries t 0)
 
   -- ---- accepted
 
-  pub accepted-checks : Accepted run queries → (checksOutcome run queries ≡ Done) × AllPass
-  accepted-checks e =
-      let both = then-done (checksOutcome run queries) (roundsOutcome run queries 0) (done-of outcome e) in
-      (both.0, pass-of-done run queries both.1)
+  pub accepted_checks : Accepted run queries → (checks_outcome run queries ≡ Done) × AllPass
+  accepted_checks e =
+      let both = then_done (checks_outcome run queries) (rounds_outcome run queries 0) (done_of outcome e) in
+      (both.0, pass_of_done run queries both.1)
 
-  pub accepted-by : checksOutcome run queries ≡ Done → AllPass → Accepted run queries
-  accepted-by l h =
+  pub accepted_by : checks_outcome run queries ≡ Done → AllPass → Accepted run queries
+  accepted_by l h =
       ap answer_of
-      (sym (then-passed (checksOutcome run queries) (roundsOutcome run queries 0) l) ∙ all_pass run queries 0 h)
+      (sym (then_passed (checks_outcome run queries) (rounds_outcome run queries 0) l) ∙ all_pass run queries 0 h)
 
-  pub reads-accepted : checksOutcome run queries ≡ Done → AllPass
-      → (verdictOf run queries).reads ≡ length queries * roundsIn run * 2 ^ run.step
-  reads-accepted l h =
-      ap (λ (o : Outcome). readsAfter o (entriesRead run queries)) l
+  pub reads_accepted : checks_outcome run queries ≡ Done → AllPass
+      → (verdict_of run queries).reads ≡ length queries * rounds_in run * 2 ^ run.step
+  reads_accepted l h =
+      ap (λ (o : Outcome). reads_after o (entries_read run queries)) l
       ∙ read_all run queries h
-      ∙ ap (λ (n : ℕ). length queries * n) (entries-of-rounds run)
-      ∙ sym (mul_assoc (length queries) (roundsIn run) (2 ^ run.step))
+      ∙ ap (λ (n : ℕ). length queries * n) (entries_of_rounds run)
+      ∙ sym (mul_assoc (length queries) (rounds_in run) (2 ^ run.step))
 
-  pub accepted-verdict : checksOutcome run queries ≡ Done → AllPass
-      → verdictOf run queries
-      ≡ record { answer = answers.Accepted; reads = length queries * roundsIn run * 2 ^ run.step }
-  accepted-verdict l h =
-      ap₂ (λ (a : Answer) (n : ℕ). record { answer = a; reads = n }) (accepted-by l h) (reads-accepted l h)
+  pub accepted_verdict : checks_outcome run queries ≡ Done → AllPass
+      → verdict_of run queries
+      ≡ record { answer = answers.Accepted; reads = length queries * rounds_in run * 2 ^ run.step }
+  accepted_verdict l h =
+      ap₂ (λ (a : Answer) (n : ℕ). record { answer = a; reads = n }) (accepted_by l h) (reads_accepted l h)
 
   -- ---- refused by a round check
 
-  pub refused-which : (cause : Cause) → (verdictOf run queries).answer ≡ answers.Refused cause
-      → Either (checksOutcome run queries) (roundsOutcome run queries 0) cause
-  refused-which cause e =
-      which (checksOutcome run queries) (roundsOutcome run queries 0) cause (refused-of outcome cause e)
+  pub refused_which : (cause : Cause) → (verdict_of run queries).answer ≡ answers.Refused cause
+      → Either (checks_outcome run queries) (rounds_outcome run queries 0) cause
+  refused_which cause e =
+      which (checks_outcome run queries) (rounds_outcome run queries 0) cause (refused_of outcome cause e)
 
-  pub refused-by : (query round : ℕ) → checksOutcome run queries ≡ Done → FailsFirst run queries query round
-      → (verdictOf run queries).answer ≡ answers.Refused (RoundCheckFails query round)
-  refused-by query round l f =
-      ap answer_of (sym (then-passed (checksOutcome run queries) (roundsOutcome run queries 0) l)
-      ∙ first-failing run queries 0 query round f)
+  pub refused_by : (query round : ℕ) → checks_outcome run queries ≡ Done → FailsFirst run queries query round
+      → (verdict_of run queries).answer ≡ answers.Refused (RoundCheckFails query round)
+  refused_by query round l f =
+      ap answer_of (sym (then_passed (checks_outcome run queries) (rounds_outcome run queries 0) l)
+      ∙ first_failing run queries 0 query round f)
       ∙ ap (λ (n : ℕ). answers.Refused (RoundCheckFails n round)) (zero-add query)
 
-  pub reads-refused : (query round : ℕ) → checksOutcome run queries ≡ Done → FailsFirst run queries query round
-      → (verdictOf run queries).reads
-      ≡ query * roundsIn run * 2 ^ run.step + min (round + 2) (roundsIn run) * 2 ^ run.step
-  reads-refused query round l f =
-      ap (λ (o : Outcome). readsAfter o (entriesRead run queries)) l
-      ∙ read-until run queries query round f
+  pub reads_refused : (query round : ℕ) → checks_outcome run queries ≡ Done → FailsFirst run queries query round
+      → (verdict_of run queries).reads
+      ≡ query * rounds_in run * 2 ^ run.step + min (round + 2) (rounds_in run) * 2 ^ run.step
+  reads_refused query round l f =
+      ap (λ (o : Outcome). reads_after o (entries_read run queries)) l
+      ∙ read_until run queries query round f
       ∙ ap₂ ◌+◌
-      (ap (λ (n : ℕ). query * n) (entries-of-rounds run) ∙ sym (mul_assoc query (roundsIn run) (2 ^ run.step)))
-      (entries-until run round)
+      (ap (λ (n : ℕ). query * n) (entries_of_rounds run) ∙ sym (mul_assoc query (rounds_in run) (2 ^ run.step)))
+      (entries_until run round)
 
   -- ---- refused before the round checks
 
-  pub refused-early : (cause : Cause) → checksOutcome run queries ≡ Refused cause
-      → ((verdictOf run queries).answer ≡ answers.Refused cause) × ((verdictOf run queries).reads ≡ 0)
-  refused-early cause e = (
-    ap answer_of (sym (then-refused (checksOutcome run queries) (roundsOutcome run queries 0) cause e)),
-    ap (λ (o : Outcome). readsAfter o (entriesRead run queries)) e,
+  pub refused_early : (cause : Cause) → checks_outcome run queries ≡ Refused cause
+      → ((verdict_of run queries).answer ≡ answers.Refused cause) × ((verdict_of run queries).reads ≡ 0)
+  refused_early cause e = (
+    ap answer_of (sym (then_refused (checks_outcome run queries) (rounds_outcome run queries 0) cause e)),
+    ap (λ (o : Outcome). reads_after o (entries_read run queries)) e,
   )
 
-  pub told-early : (cause : Cause) → checksOutcome run queries ≡ Refused cause
-      → Tells (verdictOf run queries) (number_of cause) (place_of cause) (roundOf cause) 0
-  told-early cause e =
-      let both = refused-early cause e in
-      (ap numberOfAnswer both.0, ap placeOfAnswer both.0, ap roundOfAnswer both.0, both.1)
+  pub told_early : (cause : Cause) → checks_outcome run queries ≡ Refused cause
+      → Tells (verdict_of run queries) (number_of cause) (place_of cause) (round_of cause) 0
+  told_early cause e =
+      let both = refused_early cause e in
+      (ap number_of_answer both.0, ap place_of_answer both.0, ap round_of_answer both.0, both.1)
 
-  abbrev of-queries : Outcome
-  of-queries = queriesOutcome run.k (stepIn run 0) queries
+  abbrev of_queries : Outcome
+  of_queries = queries_outcome run.k (step_in run 0) queries
 
   -- a run's refusal is the judge's
-  pub run-refused : (cause : Cause) → runOutcome run ≡ Refused cause → checksOutcome run queries ≡ Refused cause
-  run-refused cause e = sym (then-refused (runOutcome run) of-queries cause e)
+  pub run_refused : (cause : Cause) → run_outcome run ≡ Refused cause → checks_outcome run queries ≡ Refused cause
+  run_refused cause e = sym (then_refused (run_outcome run) of_queries cause e)
 
-  pub checks-pass : runOutcome run ≡ Done → ValidQueries run.k queries → Apart (stepIn run 0) queries
-      → checksOutcome run queries ≡ Done
-  checks-pass e v apart =
-      sym (then-passed (runOutcome run) of-queries e) ∙ queries-pass run.k (stepIn run 0) queries v apart
+  pub checks_pass : run_outcome run ≡ Done → ValidQueries run.k queries → Apart (step_in run 0) queries
+      → checks_outcome run queries ≡ Done
+  checks_pass e v apart =
+      sym (then_passed (run_outcome run) of_queries e) ∙ queries_pass run.k (step_in run 0) queries v apart
 
-  pub checks-valid : checksOutcome run queries ≡ Done
-      → (runOutcome run ≡ Done) × ValidQueries run.k queries × Apart (stepIn run 0) queries
-  checks-valid e =
-      let both = then-done (runOutcome run) of-queries e in
-      let valid = queries-valid run.k (stepIn run 0) queries both.1 in
+  pub checks_valid : checks_outcome run queries ≡ Done
+      → (run_outcome run ≡ Done) × ValidQueries run.k queries × Apart (step_in run 0) queries
+  checks_valid e =
+      let both = then_done (run_outcome run) of_queries e in
+      let valid = queries_valid run.k (step_in run 0) queries both.1 in
       (both.0, valid.0, valid.1)

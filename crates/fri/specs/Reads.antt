@@ -2,31 +2,31 @@
 use Rattle.std.specs.Prelude.{List, [], ◌∷◌, ℕ, ◌+◌, ◌^◌, take}
 use Rattle.refusal.specs.declared.Position.{Position}
 use Rattle.refusal.specs.declared.Position.TheVariants.{At, Absent}
-use Rattle.fri.specs.Run.{Run, stepsIn}
-use Rattle.fri.specs.Rounds.{failingRound}
+use Rattle.fri.specs.Run.{Run, steps_in}
+use Rattle.fri.specs.Rounds.{failing_round}
 
 -- the number of entries of one coset for each of the steps, added up: a coset of a step has 2^step
-unfoldable pub entryCount : (steps : List ℕ) → ℕ
-entryCount [] = 0
-entryCount (step ∷ others) = 2 ^ step + entryCount others
+unfoldable pub entry_count : (steps : List ℕ) → ℕ
+entry_count [] = 0
+entry_count (step ∷ others) = 2 ^ step + entry_count others
 
 -- the steps of the rounds whose cosets a query reads: all or, where the check of round i fails,
 -- those up to round i and, for the value found, the next one, if there is one
-abbrev pub stepsRead : (steps : List ℕ) (failing : Position) → List ℕ
-stepsRead steps (At i) = take (i + 2) steps
-stepsRead steps Absent = steps
+abbrev pub steps_read : (steps : List ℕ) (failing : Position) → List ℕ
+steps_read steps (At i) = take (i + 2) steps
+steps_read steps Absent = steps
 
 -- the entries read for one query: those of these cosets
-abbrev pub queryReads : (run : Run) (failing : Position) → ℕ
-queryReads run failing = entryCount (stepsRead (stepsIn run) failing)
+abbrev pub query_reads : (run : Run) (failing : Position) → ℕ
+query_reads run failing = entry_count (steps_read (steps_in run) failing)
 
 -- what is read after a query: nothing where a check of it failed
-abbrev pub unlessFailed : (failing : Position) (reads : ℕ) → ℕ
-unlessFailed (At round) reads = 0
-unlessFailed Absent reads = reads
+abbrev pub unless_failed : (failing : Position) (reads : ℕ) → ℕ
+unless_failed (At round) reads = 0
+unless_failed Absent reads = reads
 
 -- the entries read query by query, up to the first that fails, counted anew for each
-unfoldable pub entriesRead : (run : Run) (queries : List ℕ) → ℕ
-entriesRead run [] = 0
-entriesRead run (j ∷ queries) =
-    queryReads run (failingRound run j) + unlessFailed (failingRound run j) (entriesRead run queries)
+unfoldable pub entries_read : (run : Run) (queries : List ℕ) → ℕ
+entries_read run [] = 0
+entries_read run (j ∷ queries) =
+    query_reads run (failing_round run j) + unless_failed (failing_round run j) (entries_read run queries)

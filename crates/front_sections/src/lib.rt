@@ -2,12 +2,12 @@
 // (1), their values.
 ghost use Rattle.std.specs.Prelude.{◌≡◌, ◌^◌, ◌≤◌, length};
 ghost use Rattle.coset.specs.Answers.{basisOutcome};
-ghost use Rattle.fri.specs.Checks.{indicesOutcome};
+ghost use Rattle.fri.specs.Checks.{indices_outcome};
 ghost use Rattle.layout.specs.Parameters.{Valid};
 ghost use Rattle.transcript.specs.Numerals.{entries_at};
-ghost use Rattle.transcript.specs.Sections.{sectionStart};
-ghost use Rattle.transcript.specs.Checks.{parametersSection, cosetSection, queriesSection, listsOutcome, frontOutcome};
-ghost use Rattle.sections.specs.Views.{sectionsIn, ParametersOf};
+ghost use Rattle.transcript.specs.Sections.{section_start};
+ghost use Rattle.transcript.specs.Checks.{parameters_section, coset_section, queries_section, lists_outcome, front_outcome};
+ghost use Rattle.sections.specs.Views.{sections_in, ParametersOf};
 
 use layout::Parameters;
 use refusal::{Cause, Outcome};
@@ -15,8 +15,8 @@ use sections::Sections;
 
 // Sections 1 to 4.
 pub fn checked_front(bytes: &[u8], sections: Sections) -> Outcome
-    requires { sections ≡ sectionsIn bytes.now }
-    ensures { result ≡ frontOutcome bytes.now }
+    requires { sections ≡ sections_in bytes.now }
+    ensures { result ≡ front_outcome bytes.now }
 {
     let first = checked_parameters(bytes);
     match first {
@@ -27,7 +27,7 @@ pub fn checked_front(bytes: &[u8], sections: Sections) -> Outcome
 
 // Section 1: k, R and η in range (4 to 7).
 fn checked_parameters(bytes: &[u8]) -> Outcome
-    ensures { result ≡ parametersSection bytes.now }
+    ensures { result ≡ parameters_section bytes.now }
 {
     let whole = sections::checked_due(bytes, 1, 0, 3);
     match whole {
@@ -38,8 +38,8 @@ fn checked_parameters(bytes: &[u8]) -> Outcome
 
 // Sections 2, 3 and 4.
 fn checked_lists(bytes: &[u8], sections: Sections, parameters: Parameters) -> Outcome
-    requires { (sections ≡ sectionsIn bytes.now) × ParametersOf bytes.now parameters }
-    ensures { result ≡ listsOutcome bytes.now }
+    requires { (sections ≡ sections_in bytes.now) × ParametersOf bytes.now parameters }
+    ensures { result ≡ lists_outcome bytes.now }
 {
     let coset = checked_coset(bytes, sections.coset, parameters);
     match coset {
@@ -61,8 +61,8 @@ fn checked_lists(bytes: &[u8], sections: Sections, parameters: Parameters) -> Ou
 
 // Section 2: an independent basis (8).
 fn checked_coset(bytes: &[u8], at: usize, parameters: Parameters) -> Outcome
-    requires { (at ≡ sectionStart bytes.now 2) × ParametersOf bytes.now parameters }
-    ensures { result ≡ cosetSection bytes.now }
+    requires { (at ≡ section_start bytes.now 2) × ParametersOf bytes.now parameters }
+    ensures { result ≡ coset_section bytes.now }
 {
     let whole = sections::checked_due(bytes, 2, at, parameters.k + 1);
     match whole {
@@ -85,8 +85,8 @@ fn checked_basis(bytes: &[u8], at: usize, basis: &mut [u64]) -> Outcome
 
 // Section 4: 1 to 256 queries (9), then their indices (10, then 17).
 fn checked_queries(bytes: &[u8], at: usize, parameters: Parameters) -> Outcome
-    requires { (at ≡ sectionStart bytes.now 4) × ParametersOf bytes.now parameters }
-    ensures { result ≡ queriesSection bytes.now }
+    requires { (at ≡ section_start bytes.now 4) × ParametersOf bytes.now parameters }
+    ensures { result ≡ queries_section bytes.now }
 {
     let count = entries::count_at(bytes, at);
     let whole = sections::checked_section(
@@ -109,7 +109,7 @@ fn checked_queries(bytes: &[u8], at: usize, parameters: Parameters) -> Outcome
 fn checked_indices(bytes: &[u8], at: usize, parameters: Parameters, queries: &mut [u64]) -> Outcome
     requires { Valid parameters × (length queries.old ≤ 256) × (at ≤ 2 ^ 40) }
     ensures { let indices = entries_at bytes.now at (length queries.old) in
-        result ≡ indicesOutcome parameters.k parameters.step indices }
+        result ≡ indices_outcome parameters.k parameters.step indices }
 {
     entries::read(bytes, at, queries);
     query_checks::checked_indices(parameters.k, parameters.step, &queries[..])

@@ -12,22 +12,22 @@ use lib.Arith.{lt-one}
 use lib.Pow.{pow_pos, split}
 use lib.Dec.{T, eqb, eqb→eq}
 use lib.Bits.{bit_xor, xor_self, xor_shifted, xor_shr, xor_mod}
-use Rattle.gf64.proofs.Xor.{xor-swap, xor-cancel, xor-shift, bit-add-l}
+use Rattle.gf64.proofs.Xor.{xor_swap, xor_cancel, xor_shift, bit_add_l}
 
 abbrev pub Additive : (ℕ → ℕ) → Type 0
 Additive f = (a b : ℕ) → f (bit_xor a b) ≡ bit_xor (f a) (f b)
 
-pub additive-zero : (f : ℕ → ℕ) → Additive f → f 0 ≡ 0
-additive-zero f h = sym (xor-cancel (f 0) (f 0)) ∙ ap (bit_xor (f 0)) (sym (h 0 0)) ∙ xor_self (f 0)
+pub additive_zero : (f : ℕ → ℕ) → Additive f → f 0 ≡ 0
+additive_zero f h = sym (xor_cancel (f 0) (f 0)) ∙ ap (bit_xor (f 0)) (sym (h 0 0)) ∙ xor_self (f 0)
 
 -- ---- additive maps to start from
 
-pub sum-additive : (f g : ℕ → ℕ) → Additive f → Additive g → Additive (λ x. bit_xor (f x) (g x))
-sum-additive f g hf hg a b = ap₂ bit_xor (hf a b) (hg a b) ∙ xor-swap (f a) (f b) (g a) (g b)
+pub sum_additive : (f g : ℕ → ℕ) → Additive f → Additive g → Additive (λ x. bit_xor (f x) (g x))
+sum_additive f g hf hg a b = ap₂ bit_xor (hf a b) (hg a b) ∙ xor_swap (f a) (f b) (g a) (g b)
 
-pub shift-left-additive : (k w : ℕ) → Additive (λ x. x * 2 ^ k % 2 ^ w)
-shift-left-additive k w a b =
-    ap (λ (x : ℕ). x % 2 ^ w) (sym (xor-shift k a b)) ∙ xor_mod (a * 2 ^ k) (b * 2 ^ k) w
+pub shift_left_additive : (k w : ℕ) → Additive (λ x. x * 2 ^ k % 2 ^ w)
+shift_left_additive k w a b =
+    ap (λ (x : ℕ). x % 2 ^ w) (sym (xor_shift k a b)) ∙ xor_mod (a * 2 ^ k) (b * 2 ^ k) w
 
 -- ---- agreement
 
@@ -38,18 +38,18 @@ top_bit f h k x =
     ∙ h (x / 2 ^ k * 2 ^ k) (x % 2 ^ k)
 
 module _ (f g : ℕ → ℕ) (hf : Additive f) (hg : Additive g) where
-  agree-bit : (b k : ℕ) → b < 2 → f (2 ^ k) ≡ g (2 ^ k) → f (b * 2 ^ k) ≡ g (b * 2 ^ k)
-  agree-bit zero k h e =
-      ap f (zero-mul (2 ^ k)) ∙ additive-zero f hf ∙ sym (additive-zero g hg) ∙ ap g (sym (zero-mul (2 ^ k)))
-  agree-bit (suc zero) k h e = ap f (one-mul (2 ^ k)) ∙ e ∙ ap g (sym (one-mul (2 ^ k)))
-  agree-bit (suc (suc b)) k h e = absurd (omega arith)
+  agree_bit : (b k : ℕ) → b < 2 → f (2 ^ k) ≡ g (2 ^ k) → f (b * 2 ^ k) ≡ g (b * 2 ^ k)
+  agree_bit zero k h e =
+      ap f (zero-mul (2 ^ k)) ∙ additive_zero f hf ∙ sym (additive_zero g hg) ∙ ap g (sym (zero-mul (2 ^ k)))
+  agree_bit (suc zero) k h e = ap f (one-mul (2 ^ k)) ∙ e ∙ ap g (sym (one-mul (2 ^ k)))
+  agree_bit (suc (suc b)) k h e = absurd (omega arith)
 
   pub agree : (k : ℕ) → ((i : ℕ) → i < k → f (2 ^ i) ≡ g (2 ^ i)) → (x : ℕ) → x < 2 ^ k → f x ≡ g x
-  agree zero e x h = ap f (lt-one h) ∙ additive-zero f hf ∙ sym (additive-zero g hg) ∙ ap g (sym (lt-one h))
+  agree zero e x h = ap f (lt-one h) ∙ additive_zero f hf ∙ sym (additive_zero g hg) ∙ ap g (sym (lt-one h))
   agree (suc k) e x h =
       top_bit f hf k x
       ∙ ap₂ bit_xor
-      (agree-bit (x / 2 ^ k) k ((div-lt_iff_lt-mul (pow_pos k)).1 (omega arith)) (e k (le_refl (suc k))))
+      (agree_bit (x / 2 ^ k) k ((div-lt_iff_lt-mul (pow_pos k)).1 (omega arith)) (e k (le_refl (suc k))))
       (agree k (λ i l. e i (omega arith)) (x % 2 ^ k) (mod-lt x (pow_pos k)))
       ∙ sym (top_bit g hg k x)
 
@@ -64,39 +64,39 @@ both_right true b t = t
 both_right false b t = absurd t
 
 -- f and g agree on the powers of two below 2^k
-unfoldable pub agreeOn : (ℕ → ℕ) → (ℕ → ℕ) → ℕ → Bool
-agreeOn f g zero = true
-agreeOn f g (suc k) = eqb (f (2 ^ k)) (g (2 ^ k)) && agreeOn f g k
+unfoldable pub agree_on : (ℕ → ℕ) → (ℕ → ℕ) → ℕ → Bool
+agree_on f g zero = true
+agree_on f g (suc k) = eqb (f (2 ^ k)) (g (2 ^ k)) && agree_on f g k
 
-agreeOn-at : (f g : ℕ → ℕ) (k : ℕ) → T (agreeOn f g k) → (i : ℕ) → i < k → f (2 ^ i) ≡ g (2 ^ i)
-unfolding agreeOn
-agreeOn-at f g zero t i h = absurd (not-suc-le-zero h)
-agreeOn-at f g (suc k) t i h =
+agree_on_at : (f g : ℕ → ℕ) (k : ℕ) → T (agree_on f g k) → (i : ℕ) → i < k → f (2 ^ i) ≡ g (2 ^ i)
+unfolding agree_on
+agree_on_at f g zero t i h = absurd (not-suc-le-zero h)
+agree_on_at f g (suc k) t i h =
     ⊎_elim
     (λ (e : i ≡ k).
     subst (λ (n : ℕ). f (2 ^ n) ≡ g (2 ^ n)) (sym e) (eqb→eq (f (2 ^ k)) (g (2 ^ k)) (both_left here rest t)))
-    (λ l. agreeOn-at f g k (both_right here rest t) i l)
+    (λ l. agree_on_at f g k (both_right here rest t) i l)
     (eq-or-lt_of_le (le_of_suc-le-suc h))
   where
     here : Bool
     here = eqb (f (2 ^ k)) (g (2 ^ k))
 
     rest : Bool
-    rest = agreeOn f g k
+    rest = agree_on f g k
 
-pub agree-tested : (f g : ℕ → ℕ) → Additive f → Additive g → (k : ℕ) → T (agreeOn f g k) → (x : ℕ) → x < 2 ^ k
+pub agree_tested : (f g : ℕ → ℕ) → Additive f → Additive g → (k : ℕ) → T (agree_on f g k) → (x : ℕ) → x < 2 ^ k
     → f x ≡ g x
-agree-tested f g hf hg k t = agree f g hf hg k (agreeOn-at f g k t)
+agree_tested f g hf hg k t = agree f g hf hg k (agree_on_at f g k t)
 
 -- ---- the additive map that sends 2^i to entry i of a list
 
-unfoldable pub mapBits : List ℕ → ℕ → ℕ
-mapBits [] y = 0
-mapBits (c ∷ cs) y = bit_xor (y % 2 * c) (mapBits cs (y / 2))
+unfoldable pub map_bits : List ℕ → ℕ → ℕ
+map_bits [] y = 0
+map_bits (c ∷ cs) y = bit_xor (y % 2 * c) (map_bits cs (y / 2))
 
-pub mapBits-additive : (cs : List ℕ) → Additive (mapBits cs)
-unfolding mapBits
-mapBits-additive [] a b = refl
-mapBits-additive (c ∷ cs) a b =
-    ap₂ bit_xor (bit-add-l a b c) (ap (mapBits cs) (xor_shr a b 1) ∙ mapBits-additive cs (a / 2) (b / 2))
-    ∙ xor-swap (a % 2 * c) (b % 2 * c) (mapBits cs (a / 2)) (mapBits cs (b / 2))
+pub map_bits_additive : (cs : List ℕ) → Additive (map_bits cs)
+unfolding map_bits
+map_bits_additive [] a b = refl
+map_bits_additive (c ∷ cs) a b =
+    ap₂ bit_xor (bit_add_l a b c) (ap (map_bits cs) (xor_shr a b 1) ∙ map_bits_additive cs (a / 2) (b / 2))
+    ∙ xor_swap (a % 2 * c) (b % 2 * c) (map_bits cs (a / 2)) (map_bits cs (b / 2))

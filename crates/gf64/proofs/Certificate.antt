@@ -6,16 +6,16 @@ use Prim.Native.Nat.{ℕ, ◌*◌, ◌/◌, ◌^◌, ◌<◌}
 use lib.Dec.{T}
 use native.Mathlib.Omega.{arith}
 use lib.Bits.{bit_xor, xor_self}
-use Rattle.gf64.specs.Polynomial.{carryless, carrylessIn, timesT, remainder, remainderIn}
-use Rattle.gf64.specs.Field.{product, timesWhere, powerIn, power}
-use Rattle.gf64.proofs.Xor.{xor-half, xor-double}
-use Rattle.gf64.proofs.Ring.{square-add}
-use Rattle.gf64.proofs.Additive.{Additive, additive-zero, agreeOn, agree-tested}
-use Rattle.gf64.proofs.Additive.{mapBits, mapBits-additive, sum-additive}
+use Rattle.gf64.specs.Polynomial.{carryless, carryless_in, times_t, remainder, remainder_in}
+use Rattle.gf64.specs.Field.{product, times_where, power_in, power}
+use Rattle.gf64.proofs.Xor.{xor_half, xor_double}
+use Rattle.gf64.proofs.Ring.{square_add}
+use Rattle.gf64.proofs.Additive.{Additive, additive_zero, agree_on, agree_tested}
+use Rattle.gf64.proofs.Additive.{map_bits, map_bits_additive, sum_additive}
 
-pub t-power : power 2 (2 ^ 64) ≡ 2
-unfolding power powerIn timesWhere product carryless carrylessIn timesT remainder remainderIn
-t-power = refl
+pub t_power : power 2 (2 ^ 64) ≡ 2
+unfolding power power_in times_where product carryless carryless_in times_t remainder remainder_in
+t_power = refl
 
 -- entry i is what 2^i is sent to
 undo : List ℕ
@@ -38,28 +38,28 @@ undo =
     0x84f35772fac2c232 ∷ 0x0000000000000000 ∷ 0x800000000000000e ∷ 0xc041e55948fbfdce ∷ []
 
 undone : ℕ → ℕ
-undone x = mapBits undo (bit_xor (product x x) x)
+undone x = map_bits undo (bit_xor (product x x) x)
 
-undone-additive : Additive undone
+undone_additive : Additive undone
 unfolding undone
-undone-additive a b =
-    ap (mapBits undo) (sum-additive (λ x. product x x) (λ x. x) square-add (λ x y. refl) a b)
-    ∙ mapBits-additive undo (bit_xor (product a a) a) (bit_xor (product b b) b)
+undone_additive a b =
+    ap (map_bits undo) (sum_additive (λ x. product x x) (λ x. x) square_add (λ x y. refl) a b)
+    ∙ map_bits_additive undo (bit_xor (product a a) a) (bit_xor (product b b) b)
 
-cleared-additive : Additive (λ x. x / 2 * 2)
-cleared-additive a b = ap (λ (x : ℕ). x * 2) (xor-half a b) ∙ sym (xor-double (a / 2) (b / 2))
+cleared_additive : Additive (λ x. x / 2 * 2)
+cleared_additive a b = ap (λ (x : ℕ). x * 2) (xor_half a b) ∙ sym (xor_double (a / 2) (b / 2))
 
-undone-tested : T (agreeOn undone (λ x. x / 2 * 2) 64)
-unfolding agreeOn undone undo mapBits product carryless carrylessIn timesT remainder remainderIn
-undone-tested = tt
+undone_tested : T (agree_on undone (λ x. x / 2 * 2) 64)
+unfolding agree_on undone undo map_bits product carryless carryless_in times_t remainder remainder_in
+undone_tested = tt
 
 -- x² + x decides x up to bit 0, so an element that is its own square is 0 or 1
-pub idempotent-small : (e : ℕ) → e < 2 ^ 64 → product e e ≡ e → e < 2
+pub idempotent_small : (e : ℕ) → e < 2 ^ 64 → product e e ≡ e → e < 2
 unfolding undone
-idempotent-small e h p = omega (arith, cleared)
+idempotent_small e h p = omega (arith, cleared)
   where
     cleared : e / 2 * 2 ≡ 0
     cleared =
-        sym (agree-tested undone (λ x. x / 2 * 2) undone-additive cleared-additive 64 undone-tested e h)
-        ∙ ap (λ (x : ℕ). mapBits undo (bit_xor x e)) p ∙ ap (mapBits undo) (xor_self e)
-        ∙ additive-zero (mapBits undo) (mapBits-additive undo)
+        sym (agree_tested undone (λ x. x / 2 * 2) undone_additive cleared_additive 64 undone_tested e h)
+        ∙ ap (λ (x : ℕ). map_bits undo (bit_xor x e)) p ∙ ap (map_bits undo) (xor_self e)
+        ∙ additive_zero (map_bits undo) (map_bits_additive undo)

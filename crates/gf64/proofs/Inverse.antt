@@ -8,39 +8,39 @@ use native.Mathlib.Omega.{arith}
 use lib.Pow.{pow-lt}
 use Rattle.gf64.specs.Polynomial.{remainder}
 use Rattle.gf64.specs.Field.{product, power, inverse}
-use Rattle.gf64.proofs.Carryless.{carryless-double-l, carryless-one-l}
-use Rattle.gf64.proofs.Remainder.{remainder-id}
-use Rattle.gf64.proofs.Ring.{product_lt, product-comm, product-assoc, product-one-l}
-use Rattle.gf64.proofs.Ring.{product-one-r, product-zero-l, product-zero-r}
+use Rattle.gf64.proofs.Carryless.{carryless_double_l, carryless_one_l}
+use Rattle.gf64.proofs.Remainder.{remainder_id}
+use Rattle.gf64.proofs.Ring.{product_lt, product_comm, product_assoc, product_one_l}
+use Rattle.gf64.proofs.Ring.{product_one_r, product-zero_l, product-zero_r}
 use Rattle.gf64.proofs.Additive.{agree}
-use Rattle.gf64.proofs.Power.{power_zero, power-suc, power-mul, power-lt, power-sum}
-use Rattle.gf64.proofs.Certificate.{t-power, idempotent-small}
+use Rattle.gf64.proofs.Power.{power_zero, power-suc, power-mul, power_lt, power-sum}
+use Rattle.gf64.proofs.Certificate.{t_power, idempotent_small}
 
 -- ---- a^(2^64) = a
 
 double : (a : ℕ) → a * 2 < 2 ^ 64 → product 2 a ≡ a * 2
 unfolding product
-double a h = ap remainder (carryless-double-l 1 a ∙ ap (λ (x : ℕ). x * 2) (carryless-one-l a)) ∙ remainder-id (a * 2) h
+double a h = ap remainder (carryless_double_l 1 a ∙ ap (λ (x : ℕ). x * 2) (carryless_one_l a)) ∙ remainder_id (a * 2) h
 
-powers-of-t : (i : ℕ) → i < 64 → power 2 i ≡ 2 ^ i
-powers-of-t zero h = power_zero 2
-powers-of-t (suc i) h =
-    power-suc 2 i ∙ ap (product 2) (powers-of-t i (omega arith))
+powers_of_t : (i : ℕ) → i < 64 → power 2 i ≡ 2 ^ i
+powers_of_t zero h = power_zero 2
+powers_of_t (suc i) h =
+    power-suc 2 i ∙ ap (product 2) (powers_of_t i (omega arith))
     ∙ double (2 ^ i) (subst (λ (x : ℕ). x < 2 ^ 64) (pow-suc 2 i) (pow-lt h)) ∙ sym (pow-suc 2 i)
 
-frobenius-at : (i : ℕ) → i < 64 → power (2 ^ i) (2 ^ 64) ≡ 2 ^ i
-frobenius-at i h =
-    ap (λ (x : ℕ). power x (2 ^ 64)) (sym (powers-of-t i h)) ∙ sym (power-mul 2 i (2 ^ 64))
-    ∙ ap (power 2) (mul_comm i (2 ^ 64)) ∙ power-mul 2 (2 ^ 64) i ∙ ap (λ (x : ℕ). power x i) t-power ∙ powers-of-t i h
+frobenius_at : (i : ℕ) → i < 64 → power (2 ^ i) (2 ^ 64) ≡ 2 ^ i
+frobenius_at i h =
+    ap (λ (x : ℕ). power x (2 ^ 64)) (sym (powers_of_t i h)) ∙ sym (power-mul 2 i (2 ^ 64))
+    ∙ ap (power 2) (mul_comm i (2 ^ 64)) ∙ power-mul 2 (2 ^ 64) i ∙ ap (λ (x : ℕ). power x i) t_power ∙ powers_of_t i h
 
 pub frobenius : (a : ℕ) → a < 2 ^ 64 → power a (2 ^ 64) ≡ a
-frobenius = agree (λ a. power a (2 ^ 64)) (λ a. a) (power-sum 64) (λ a b. refl) 64 frobenius-at
+frobenius = agree (λ a. power a (2 ^ 64)) (λ a. a) (power-sum 64) (λ a b. refl) 64 frobenius_at
 
 -- ---- the inverse
 
-pub inverse-lt : (a : ℕ) → inverse a < 2 ^ 64
+pub inverse_lt : (a : ℕ) → inverse a < 2 ^ 64
 unfolding inverse
-inverse-lt a = power-lt a (2 ^ 64 - 2)
+inverse_lt a = power_lt a (2 ^ 64 - 2)
 
 -- a² · inverse a
 absorbed : (a : ℕ) → a < 2 ^ 64 → product a (product a (inverse a)) ≡ a
@@ -50,35 +50,35 @@ absorbed a h =
 
 own_square : (a : ℕ) → a < 2 ^ 64 → product (product a (inverse a)) (product a (inverse a)) ≡ product a (inverse a)
 own_square a h =
-    sym (product-assoc (product a (inverse a)) a (inverse a))
-    ∙ ap (λ (x : ℕ). product x (inverse a)) (product-comm (product a (inverse a)) a ∙ absorbed a h)
+    sym (product_assoc (product a (inverse a)) a (inverse a))
+    ∙ ap (λ (x : ℕ). product x (inverse a)) (product_comm (product a (inverse a)) a ∙ absorbed a h)
 
-pub inverse-right : (a : ℕ) → a < 2 ^ 64 → a ≢ 0 → product a (inverse a) ≡ 1
-inverse-right a h nz =
+pub inverse_right : (a : ℕ) → a < 2 ^ 64 → a ≢ 0 → product a (inverse a) ≡ 1
+inverse_right a h nz =
     pick (product a (inverse a)) refl
-    (idempotent-small (product a (inverse a)) (product_lt a (inverse a)) (own_square a h))
+    (idempotent_small (product a (inverse a)) (product_lt a (inverse a)) (own_square a h))
   where
     pick : (e : ℕ) → product a (inverse a) ≡ e → e < 2 → product a (inverse a) ≡ 1
-    pick zero p l = absurd (nz (sym (absorbed a h) ∙ ap (product a) p ∙ product-zero-r a))
+    pick zero p l = absurd (nz (sym (absorbed a h) ∙ ap (product a) p ∙ product-zero_r a))
     pick (suc zero) p l = p
     pick (suc (suc e)) p l = absurd (omega arith)
 
-pub inverse-unique : (a x : ℕ) → a < 2 ^ 64 → x < 2 ^ 64 → product a x ≡ 1 → x ≡ inverse a
-inverse-unique a x ha hx e =
-    sym (product-one-r x hx) ∙ ap (product x) (sym (inverse-right a ha nonzero)) ∙ sym (product-assoc x a (inverse a))
-    ∙ ap (λ (y : ℕ). product y (inverse a)) (product-comm x a ∙ e) ∙ product-one-l (inverse a) (inverse-lt a)
+pub inverse_unique : (a x : ℕ) → a < 2 ^ 64 → x < 2 ^ 64 → product a x ≡ 1 → x ≡ inverse a
+inverse_unique a x ha hx e =
+    sym (product_one_r x hx) ∙ ap (product x) (sym (inverse_right a ha nonzero)) ∙ sym (product_assoc x a (inverse a))
+    ∙ ap (λ (y : ℕ). product y (inverse a)) (product_comm x a ∙ e) ∙ product_one_l (inverse a) (inverse_lt a)
   where
     nonzero : a ≢ 0
-    nonzero z = zero-not-one (sym (product-zero-l x) ∙ ap (λ (y : ℕ). product y x) (sym z) ∙ e)
+    nonzero z = zero_not_one (sym (product-zero_l x) ∙ ap (λ (y : ℕ). product y x) (sym z) ∙ e)
       where
-        zero-not-one : ◌≡◌ {A = ℕ} 0 1 → ⊥
-        zero-not-one p = omega arith
+        zero_not_one : ◌≡◌ {A = ℕ} 0 1 → ⊥
+        zero_not_one p = omega arith
 
-pub no-zero-divisors : (a b : ℕ) → a < 2 ^ 64 → b < 2 ^ 64 → a ≢ 0 → product a b ≡ 0 → b ≡ 0
-no-zero-divisors a b ha hb nz e =
-    sym (product-one-l b hb) ∙ ap (λ (x : ℕ). product x b) (sym (inverse-right a ha nz) ∙ product-comm a (inverse a))
-    ∙ product-assoc (inverse a) a b ∙ ap (product (inverse a)) e ∙ product-zero-r (inverse a)
+pub no_zero_divisors : (a b : ℕ) → a < 2 ^ 64 → b < 2 ^ 64 → a ≢ 0 → product a b ≡ 0 → b ≡ 0
+no_zero_divisors a b ha hb nz e =
+    sym (product_one_l b hb) ∙ ap (λ (x : ℕ). product x b) (sym (inverse_right a ha nz) ∙ product_comm a (inverse a))
+    ∙ product_assoc (inverse a) a b ∙ ap (product (inverse a)) e ∙ product-zero_r (inverse a)
 
 pub inverse-zero : inverse 0 ≡ 0
 unfolding inverse
-inverse-zero = power-suc 0 (2 ^ 64 - 3) ∙ product-zero-l (power 0 (2 ^ 64 - 3))
+inverse-zero = power-suc 0 (2 ^ 64 - 3) ∙ product-zero_l (power 0 (2 ^ 64 - 3))

@@ -10,84 +10,84 @@ use native.Mathlib.Bridge.{le_by_compare, IsLe}
 use lib.Arith.{bin_ind, half_le}
 use lib.Pow.{pow_pos, pow_mono}
 use lib.Bits.{bit_xor, xor_shr, xor_mod, xor_lt, xor_shifted}
-use Rattle.gf64.specs.Polynomial.{carryless, timesT, remainder, remainderIn, reduction, modulus}
-use Rattle.gf64.proofs.Xor.{xor_assoc, xor-swap, xor-double, xor-split}
-use Rattle.gf64.proofs.Xor.{xor-cancel, xor-left-comm, by_bit, bit-add-l}
-use Rattle.gf64.proofs.Carryless.{carryless-step, carryless-zero-l, carryless-double-l, carryless-add-l}
-use Rattle.gf64.proofs.Carryless.{carryless-one-l, carryless-bit-r, carryless-comm, carryless-assoc}
-use Rattle.gf64.proofs.Carryless.{carryless-shift-l}
+use Rattle.gf64.specs.Polynomial.{carryless, times_t, remainder, remainder_in, reduction, modulus}
+use Rattle.gf64.proofs.Xor.{xor_assoc, xor_swap, xor_double, xor_split}
+use Rattle.gf64.proofs.Xor.{xor_cancel, xor_left_comm, by_bit, bit_add_l}
+use Rattle.gf64.proofs.Carryless.{carryless_step, carryless-zero_l, carryless_double_l, carryless-add_l}
+use Rattle.gf64.proofs.Carryless.{carryless_one_l, carryless_bit_r, carryless_comm, carryless_assoc}
+use Rattle.gf64.proofs.Carryless.{carryless_shift_l}
 
 -- ---- t · v reduced
 
-pub timesT-add : (a b : ℕ) → timesT (bit_xor a b) ≡ bit_xor (timesT a) (timesT b)
-unfolding timesT
-timesT-add a b =
+pub times_t-add : (a b : ℕ) → times_t (bit_xor a b) ≡ bit_xor (times_t a) (times_t b)
+unfolding times_t
+times_t-add a b =
     ap₂ bit_xor
-    (ap (λ (x : ℕ). x % 2 * reduction) (xor_shr a b 63) ∙ bit-add-l (a / 2 ^ 63) (b / 2 ^ 63) reduction)
-    (ap (λ (x : ℕ). x % 2 ^ 64) (sym (xor-double a b)) ∙ xor_mod (a * 2) (b * 2) 64)
-    ∙ xor-swap (a / 2 ^ 63 % 2 * reduction) (b / 2 ^ 63 % 2 * reduction) (a * 2 % 2 ^ 64) (b * 2 % 2 ^ 64)
+    (ap (λ (x : ℕ). x % 2 * reduction) (xor_shr a b 63) ∙ bit_add_l (a / 2 ^ 63) (b / 2 ^ 63) reduction)
+    (ap (λ (x : ℕ). x % 2 ^ 64) (sym (xor_double a b)) ∙ xor_mod (a * 2) (b * 2) 64)
+    ∙ xor_swap (a / 2 ^ 63 % 2 * reduction) (b / 2 ^ 63 % 2 * reduction) (a * 2 % 2 ^ 64) (b * 2 % 2 ^ 64)
 
-timesT-lt : (v : ℕ) → timesT v < 2 ^ 64
-unfolding timesT IsLe
-timesT-lt v =
+times_t_lt : (v : ℕ) → times_t v < 2 ^ 64
+unfolding times_t IsLe
+times_t_lt v =
     xor_lt 64 (v / 2 ^ 63 % 2 * reduction) (v * 2 % 2 ^ 64)
     (by_bit (λ (r : ℕ). r * reduction < 2 ^ 64) (le_by_compare 1 (2 ^ 64) tt)
     (le_by_compare (suc reduction) (2 ^ 64) tt) (v / 2 ^ 63)) (mod-lt (v * 2) (pow_pos 64))
 
-timesT-zero : timesT 0 ≡ 0
-unfolding timesT
-timesT-zero = refl
+times_t-zero : times_t 0 ≡ 0
+unfolding times_t
+times_t-zero = refl
 
 -- nothing to reduce where t · v has no bit 64
-timesT-short : (v : ℕ) → v < 2 ^ 63 → timesT v ≡ v * 2
-unfolding timesT
-timesT-short v h =
+times_t_short : (v : ℕ) → v < 2 ^ 63 → times_t v ≡ v * 2
+unfolding times_t
+times_t_short v h =
     ap₂ (λ (x y : ℕ). bit_xor (x % 2 * reduction) y) (div-eq_of_lt h) (mod-eq_of_lt (omega arith))
 
 -- ---- the step
 
-more : (n x : ℕ) → x ≤ n → remainderIn (suc n) x ≡ remainderIn n x
-unfolding remainderIn
+more : (n x : ℕ) → x ≤ n → remainder_in (suc n) x ≡ remainder_in n x
+unfolding remainder_in
 more zero zero h = refl
 more zero (suc x) h = absurd (not-suc-le-zero h)
 more (suc n) zero h = refl
-more (suc n) (suc x) h = ap (λ (r : ℕ). bit_xor (suc x % 2) (timesT r)) (more n (suc x / 2) (half_le h))
+more (suc n) (suc x) h = ap (λ (r : ℕ). bit_xor (suc x % 2) (times_t r)) (more n (suc x / 2) (half_le h))
 
-enough : (n x : ℕ) → x ≤ n → remainderIn n x ≡ remainderIn x x
-enough n x h = le_ind (λ (m : ℕ). remainderIn m x ≡ remainderIn x x) refl (λ m k e. more m x k ∙ e) n h
+enough : (n x : ℕ) → x ≤ n → remainder_in n x ≡ remainder_in x x
+enough n x h = le_ind (λ (m : ℕ). remainder_in m x ≡ remainder_in x x) refl (λ m k e. more m x k ∙ e) n h
 
-pub remainder-step : (x : ℕ) → remainder x ≡ bit_xor (x % 2) (timesT (remainder (x / 2)))
-unfolding remainder remainderIn
-remainder-step zero = sym timesT-zero
-remainder-step (suc x) =
-    ap (λ (r : ℕ). bit_xor (suc x % 2) (timesT r)) (enough x (suc x / 2) (half_le (le_refl (suc x))))
+pub remainder_step : (x : ℕ) → remainder x ≡ bit_xor (x % 2) (times_t (remainder (x / 2)))
+unfolding remainder remainder_in
+remainder_step zero = sym times_t-zero
+remainder_step (suc x) =
+    ap (λ (r : ℕ). bit_xor (suc x % 2) (times_t r)) (enough x (suc x / 2) (half_le (le_refl (suc x))))
 
 pub remainder-zero : remainder 0 ≡ 0
-unfolding remainder remainderIn
+unfolding remainder remainder_in
 remainder-zero = refl
 
 -- ---- below 2^64; additive; the identity below 2^64
 
-bit-lt : (x : ℕ) → x % 2 < 2 ^ 64
+bit_lt : (x : ℕ) → x % 2 < 2 ^ 64
 unfolding IsLe
-bit-lt x = by_bit (λ (r : ℕ). r < 2 ^ 64) (le_by_compare 1 (2 ^ 64) tt) (le_by_compare 2 (2 ^ 64) tt) x
+bit_lt x = by_bit (λ (r : ℕ). r < 2 ^ 64) (le_by_compare 1 (2 ^ 64) tt) (le_by_compare 2 (2 ^ 64) tt) x
 
-pub remainder-lt : (x : ℕ) → remainder x < 2 ^ 64
-remainder-lt x =
-    subst (λ (r : ℕ). r < 2 ^ 64) (sym (remainder-step x))
-    (xor_lt 64 (x % 2) (timesT (remainder (x / 2))) (bit-lt x) (timesT-lt (remainder (x / 2))))
+pub remainder_lt : (x : ℕ) → remainder x < 2 ^ 64
+remainder_lt x =
+    subst (λ (r : ℕ). r < 2 ^ 64) (sym (remainder_step x))
+    (xor_lt 64 (x % 2) (times_t (remainder (x / 2))) (bit_lt x) (times_t_lt (remainder (x / 2))))
 
 pub remainder-add : (x y : ℕ) → remainder (bit_xor x y) ≡ bit_xor (remainder x) (remainder y)
 remainder-add =
     bin_ind (λ (n : ℕ). (y : ℕ) → remainder (bit_xor n y) ≡ bit_xor (remainder n) (remainder y))
     (λ y. ap (λ (r : ℕ). bit_xor r (remainder y)) (sym remainder-zero))
     (λ n ih y.
-    remainder-step (bit_xor n y)
-    ∙ ap₂ (λ (p q : ℕ). bit_xor p (timesT q)) (xor_mod n y 1)
+    remainder_step (bit_xor n y)
+    ∙ ap₂ (λ (p q : ℕ). bit_xor p (times_t q)) (xor_mod n y 1)
     (ap remainder (xor_shr n y 1) ∙ ih (y / 2))
-    ∙ ap (bit_xor (bit_xor (n % 2) (y % 2))) (timesT-add (remainder (n / 2)) (remainder (y / 2)))
-    ∙ xor-swap (n % 2) (y % 2) (timesT (remainder (n / 2))) (timesT (remainder (y / 2)))
-    ∙ ap₂ bit_xor (sym (remainder-step n)) (sym (remainder-step y)))
+    ∙ ap (bit_xor (bit_xor (n % 2) (y % 2))) (times_t-add (remainder (n / 2)) (remainder (y / 2)))
+    ∙ xor_swap (n % 2) (y % 2) (times_t (remainder (n / 2))) (times_t (remainder (y / 2)))
+    ∙ ap₂ bit_xor (sym (remainder_step n)) (sym (remainder_step y)))
 
 below : (k x : ℕ) → x < 2 ^ k → k ≤ 64 → remainder x ≡ x
 below zero x h l = ap remainder e ∙ remainder-zero ∙ sym e
@@ -95,10 +95,10 @@ below zero x h l = ap remainder e ∙ remainder-zero ∙ sym e
     e : x ≡ 0
     e = omega arith
 below (suc k) x h l =
-    remainder-step x
-    ∙ ap (λ (r : ℕ). bit_xor (x % 2) (timesT r)) (below k (x / 2) half (omega arith))
-    ∙ ap (bit_xor (x % 2)) (timesT-short (x / 2) short)
-    ∙ xor-split x
+    remainder_step x
+    ∙ ap (λ (r : ℕ). bit_xor (x % 2) (times_t r)) (below k (x / 2) half (omega arith))
+    ∙ ap (bit_xor (x % 2)) (times_t_short (x / 2) short)
+    ∙ xor_split x
   where
     half : x / 2 < 2 ^ k
     half = omega arith
@@ -106,29 +106,29 @@ below (suc k) x h l =
     short : x / 2 < 2 ^ 63
     short = le_trans half (pow_mono (le_of_suc-le-suc l))
 
-pub remainder-id : (x : ℕ) → x < 2 ^ 64 → remainder x ≡ x
-remainder-id x h = below 64 x h (le_refl 64)
+pub remainder_id : (x : ℕ) → x < 2 ^ 64 → remainder x ≡ x
+remainder_id x h = below 64 x h (le_refl 64)
 
-pub remainder-double : (x : ℕ) → remainder (x * 2) ≡ timesT (remainder x)
-remainder-double x =
-    remainder-step (x * 2)
-    ∙ ap₂ (λ (p q : ℕ). bit_xor p (timesT (remainder q))) (mul-mod_left x 2) (mul-div_cancel x (zero-lt-suc 1))
+pub remainder_double : (x : ℕ) → remainder (x * 2) ≡ times_t (remainder x)
+remainder_double x =
+    remainder_step (x * 2)
+    ∙ ap₂ (λ (p q : ℕ). bit_xor p (times_t (remainder q))) (mul-mod_left x 2) (mul-div_cancel x (zero-lt-suc 1))
 
 -- ---- multiples of the modulus
 
 remainder-modulus : remainder modulus ≡ 0
-unfolding remainder remainderIn timesT
+unfolding remainder remainder_in times_t
 remainder-modulus = refl
 
-pub remainder-multiple : (q : ℕ) → remainder (carryless q modulus) ≡ 0
-remainder-multiple =
-    bin_ind (λ (n : ℕ). remainder (carryless n modulus) ≡ 0) (ap remainder (carryless-zero-l modulus) ∙ remainder-zero)
+pub remainder_multiple : (q : ℕ) → remainder (carryless q modulus) ≡ 0
+remainder_multiple =
+    bin_ind (λ (n : ℕ). remainder (carryless n modulus) ≡ 0) (ap remainder (carryless-zero_l modulus) ∙ remainder-zero)
     (λ n ih.
-    ap remainder (carryless-step n modulus)
+    ap remainder (carryless_step n modulus)
     ∙ remainder-add (n % 2 * modulus) (carryless (n / 2) modulus * 2)
     ∙ ap₂ bit_xor
     (by_bit (λ (r : ℕ). remainder (r * modulus) ≡ 0) remainder-zero remainder-modulus n)
-    (remainder-double (carryless (n / 2) modulus) ∙ ap timesT ih ∙ timesT-zero))
+    (remainder_double (carryless (n / 2) modulus) ∙ ap times_t ih ∙ times_t-zero))
 
 -- ---- division with remainder
 
@@ -143,90 +143,90 @@ top_split r h = e ∙ sym (xor_shifted (r / 2 ^ 63 % 2) 64 (r * 2 % 2 ^ 64) (mod
     e : r * 2 ≡ r / 2 ^ 63 % 2 * 2 ^ 64 + r * 2 % 2 ^ 64
     e = omega arith
 
-top-modulus : (r : ℕ) → top r * modulus ≡ bit_xor (top r * 2 ^ 64) (top r * reduction)
+top_modulus : (r : ℕ) → top r * modulus ≡ bit_xor (top r * 2 ^ 64) (top r * reduction)
 unfolding top
-top-modulus r = by_bit (λ (b : ℕ). b * modulus ≡ bit_xor (b * 2 ^ 64) (b * reduction)) refl refl (r / 2 ^ 63)
+top_modulus r = by_bit (λ (b : ℕ). b * modulus ≡ bit_xor (b * 2 ^ 64) (b * reduction)) refl refl (r / 2 ^ 63)
 
 -- t · r is t · r reduced, and the modulus besides where r has bit 63
-carried : (r : ℕ) → r < 2 ^ 64 → r * 2 ≡ bit_xor (top r * modulus) (timesT r)
-unfolding timesT top
+carried : (r : ℕ) → r < 2 ^ 64 → r * 2 ≡ bit_xor (top r * modulus) (times_t r)
+unfolding times_t top
 carried r h =
     top_split r h
-    ∙ ap (bit_xor (top r * 2 ^ 64)) (sym (xor-cancel (top r * reduction) (r * 2 % 2 ^ 64)))
-    ∙ sym (xor_assoc (top r * 2 ^ 64) (top r * reduction) (timesT r))
-    ∙ ap (λ (x : ℕ). bit_xor x (timesT r)) (sym (top-modulus r))
+    ∙ ap (bit_xor (top r * 2 ^ 64)) (sym (xor_cancel (top r * reduction) (r * 2 % 2 ^ 64)))
+    ∙ sym (xor_assoc (top r * 2 ^ 64) (top r * reduction) (times_t r))
+    ∙ ap (λ (x : ℕ). bit_xor x (times_t r)) (sym (top_modulus r))
 
 -- the quotient's next bit is the one that t carries out of the remainder so far
-quotient-step : (x q : ℕ) → x / 2 ≡ bit_xor (carryless q modulus) (remainder (x / 2))
+quotient_step : (x q : ℕ) → x / 2 ≡ bit_xor (carryless q modulus) (remainder (x / 2))
     → x ≡ bit_xor (carryless (bit_xor (q * 2) (top (remainder (x / 2)))) modulus) (remainder x)
 unfolding top
-quotient-step x q e =
-    sym (xor-split x)
+quotient_step x q e =
+    sym (xor_split x)
     ∙ ap (λ (y : ℕ). bit_xor (x % 2) (y * 2)) e
     ∙ ap (bit_xor (x % 2))
-    (sym (xor-double (carryless q modulus) r)
-    ∙ ap₂ bit_xor (sym (carryless-double-l q modulus)) (carried r (remainder-lt (x / 2)))
-    ∙ sym (xor_assoc (carryless (q * 2) modulus) (top r * modulus) (timesT r)))
-    ∙ xor-left-comm (x % 2) (bit_xor (carryless (q * 2) modulus) (top r * modulus)) (timesT r)
+    (sym (xor_double (carryless q modulus) r)
+    ∙ ap₂ bit_xor (sym (carryless_double_l q modulus)) (carried r (remainder_lt (x / 2)))
+    ∙ sym (xor_assoc (carryless (q * 2) modulus) (top r * modulus) (times_t r)))
+    ∙ xor_left_comm (x % 2) (bit_xor (carryless (q * 2) modulus) (top r * modulus)) (times_t r)
     ∙ ap₂ bit_xor
     (ap (bit_xor (carryless (q * 2) modulus))
-    (sym (carryless-bit-r (r / 2 ^ 63) modulus) ∙ carryless-comm modulus (top r))
-    ∙ sym (carryless-add-l (q * 2) (top r) modulus))
-    (sym (remainder-step x))
+    (sym (carryless_bit_r (r / 2 ^ 63) modulus) ∙ carryless_comm modulus (top r))
+    ∙ sym (carryless-add_l (q * 2) (top r) modulus))
+    (sym (remainder_step x))
   where
     r : ℕ
     r = remainder (x / 2)
 
 -- x is a multiple of the modulus and the remainder
-pub remainder-decomposes : (x : ℕ) → (q : ℕ) × (x ≡ bit_xor (carryless q modulus) (remainder x))
-remainder-decomposes =
+pub remainder_decomposes : (x : ℕ) → (q : ℕ) × (x ≡ bit_xor (carryless q modulus) (remainder x))
+remainder_decomposes =
     bin_ind (λ (n : ℕ). (q : ℕ) × (n ≡ bit_xor (carryless q modulus) (remainder n)))
-    (0, sym (ap₂ bit_xor (carryless-zero-l modulus) remainder-zero))
-    (λ n ih. (bit_xor (ih.0 * 2) (top (remainder (n / 2))), quotient-step n ih.0 ih.1))
+    (0, sym (ap₂ bit_xor (carryless-zero_l modulus) remainder-zero))
+    (λ n ih. (bit_xor (ih.0 * 2) (top (remainder (n / 2))), quotient_step n ih.0 ih.1))
 
-pub remainder-unique : (x q r : ℕ) → r < 2 ^ 64 → x ≡ bit_xor (carryless q modulus) r → r ≡ remainder x
-remainder-unique x q r h e =
-    sym (remainder-id r h) ∙ ap (λ (m : ℕ). bit_xor m (remainder r)) (sym (remainder-multiple q))
+pub remainder_unique : (x q r : ℕ) → r < 2 ^ 64 → x ≡ bit_xor (carryless q modulus) r → r ≡ remainder x
+remainder_unique x q r h e =
+    sym (remainder_id r h) ∙ ap (λ (m : ℕ). bit_xor m (remainder r)) (sym (remainder_multiple q))
     ∙ sym (remainder-add (carryless q modulus) r) ∙ ap remainder (sym e)
 
 -- ---- a factor may be reduced before the product is
 
-pub remainder-factor : (a b : ℕ) → remainder (carryless (remainder a) b) ≡ remainder (carryless a b)
-remainder-factor a b =
+pub remainder_factor : (a b : ℕ) → remainder (carryless (remainder a) b) ≡ remainder (carryless a b)
+remainder_factor a b =
     sym (ap (λ (x : ℕ). remainder (carryless x b)) e
-    ∙ ap remainder (carryless-add-l (carryless q modulus) (remainder a) b)
+    ∙ ap remainder (carryless-add_l (carryless q modulus) (remainder a) b)
     ∙ remainder-add (carryless (carryless q modulus) b) (carryless (remainder a) b)
     ∙ ap (λ (x : ℕ). bit_xor x (remainder (carryless (remainder a) b)))
-    (ap remainder swapped ∙ remainder-multiple (carryless q b)))
+    (ap remainder swapped ∙ remainder_multiple (carryless q b)))
   where
     q : ℕ
-    q = (remainder-decomposes a).0
+    q = (remainder_decomposes a).0
 
     e : a ≡ bit_xor (carryless q modulus) (remainder a)
-    e = (remainder-decomposes a).1
+    e = (remainder_decomposes a).1
 
     swapped : carryless (carryless q modulus) b ≡ carryless (carryless q b) modulus
     swapped =
-        carryless-assoc q modulus b ∙ ap (carryless q) (carryless-comm modulus b) ∙ sym (carryless-assoc q b modulus)
+        carryless_assoc q modulus b ∙ ap (carryless q) (carryless_comm modulus b) ∙ sym (carryless_assoc q b modulus)
 
 -- ---- t^64 is t^4 + t^3 + t + 1
 
-pub remainder-high : (h l : ℕ) → l < 2 ^ 64 → remainder (h * 2 ^ 64 + l) ≡ bit_xor (remainder (carryless reduction h)) l
-remainder-high h l hl =
-    ap remainder (sym (xor_shifted h 64 l hl)) ∙ remainder-add (h * 2 ^ 64) l ∙ ap₂ bit_xor high (remainder-id l hl)
+pub remainder_high : (h l : ℕ) → l < 2 ^ 64 → remainder (h * 2 ^ 64 + l) ≡ bit_xor (remainder (carryless reduction h)) l
+remainder_high h l hl =
+    ap remainder (sym (xor_shifted h 64 l hl)) ∙ remainder-add (h * 2 ^ 64) l ∙ ap₂ bit_xor high (remainder_id l hl)
   where
     -- t^64 · h is the modulus times h and (t^4 + t^3 + t + 1) · h
     parts : h * 2 ^ 64 ≡ bit_xor (carryless h modulus) (carryless reduction h)
     parts =
-        ap (λ (x : ℕ). x * 2 ^ 64) (sym (carryless-one-l h)) ∙ sym (carryless-shift-l 64 1 h)
-        ∙ carryless-add-l modulus reduction h
-        ∙ ap (λ (x : ℕ). bit_xor x (carryless reduction h)) (carryless-comm modulus h)
+        ap (λ (x : ℕ). x * 2 ^ 64) (sym (carryless_one_l h)) ∙ sym (carryless_shift_l 64 1 h)
+        ∙ carryless-add_l modulus reduction h
+        ∙ ap (λ (x : ℕ). bit_xor x (carryless reduction h)) (carryless_comm modulus h)
 
     high : remainder (h * 2 ^ 64) ≡ remainder (carryless reduction h)
     high =
         ap remainder parts ∙ remainder-add (carryless h modulus) (carryless reduction h)
-        ∙ ap (λ (x : ℕ). bit_xor x (remainder (carryless reduction h))) (remainder-multiple h)
+        ∙ ap (λ (x : ℕ). bit_xor x (remainder (carryless reduction h))) (remainder_multiple h)
 
-pub remainder-t64 : remainder (2 ^ 64) ≡ reduction
-unfolding remainder remainderIn timesT
-remainder-t64 = refl
+pub remainder_t64 : remainder (2 ^ 64) ≡ reduction
+unfolding remainder remainder_in times_t
+remainder_t64 = refl

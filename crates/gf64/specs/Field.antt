@@ -16,22 +16,22 @@ unfoldable pub product : (a b : ℕ) → ℕ
 product a b = remainder (carryless a b)
 
 -- p, times a where the bit is set
-unfoldable pub timesWhere : (bit a p : ℕ) → ℕ
-timesWhere zero a p = p
-timesWhere (suc bit) a p = product a p
+unfoldable pub times_where : (bit a p : ℕ) → ℕ
+times_where zero a p = p
+times_where (suc bit) a p = product a p
 
 -- with n = 2 n' + n₀ the power a^n is the square of a^n', times a where n₀ is set; `depth` only bounds the recursion
-unfoldable pub powerIn : (depth a n : ℕ) → ℕ
-powerIn zero a n = 1
-powerIn (suc depth) a zero = 1
-powerIn (suc depth) a (suc n) =
-    let p = powerIn depth a (suc n / 2) in
-    timesWhere (suc n % 2) a (product p p)
+unfoldable pub power_in : (depth a n : ℕ) → ℕ
+power_in zero a n = 1
+power_in (suc depth) a zero = 1
+power_in (suc depth) a (suc n) =
+    let p = power_in depth a (suc n / 2) in
+    times_where (suc n % 2) a (product p p)
 
 -- a to the power n
 unfoldable pub power : (a n : ℕ) → ℕ
-unfolding powerIn
-power a n = powerIn n a n
+unfolding power_in
+power a n = power_in n a n
 
 -- the inverse of a nonzero element, and 0 of 0; that it is the only inverse is `Inverses.unique` of Theorems.antt
 unfoldable pub inverse : (a : ℕ) → ℕ

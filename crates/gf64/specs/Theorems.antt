@@ -31,8 +31,8 @@ pub record SumGroup : Type 0 where
   pub closed : (a b : ℕ) → IsElement a → IsElement b → IsElement (sum a b)
   pub commutative : (a b : ℕ) → sum a b ≡ sum b a
   pub associative : (a b c : ℕ) → sum (sum a b) c ≡ sum a (sum b c)
-  pub zero-neutral : (a : ℕ) → sum 0 a ≡ a
-  pub own-negative : (a : ℕ) → sum a a ≡ 0
+  pub zero_neutral : (a : ℕ) → sum 0 a ≡ a
+  pub own_negative : (a : ℕ) → sum a a ≡ 0
 
 -- the product is commutative, associative and distributive on all naturals; one is neutral on elements
 pub record ProductRing : Type 0 where
@@ -40,21 +40,21 @@ pub record ProductRing : Type 0 where
   pub commutative : (a b : ℕ) → product a b ≡ product b a
   pub associative : (a b c : ℕ) → product (product a b) c ≡ product a (product b c)
   pub distributive : (a b c : ℕ) → product a (sum b c) ≡ sum (product a b) (product a c)
-  pub one-neutral : (a : ℕ) → IsElement a → product 1 a ≡ a
-  pub square-additive : (a b : ℕ) → product (sum a b) (sum a b) ≡ sum (product a a) (product b b)
+  pub one_neutral : (a : ℕ) → IsElement a → product 1 a ≡ a
+  pub square_additive : (a b : ℕ) → product (sum a b) (sum a b) ≡ sum (product a a) (product b b)
 
 -- every nonzero element has exactly one inverse, `inverse`, which gives zero for zero; there are no zero divisors
 pub record Inverses : Type 0 where
   pub closed : (a : ℕ) → IsElement (inverse a)
   pub inverts : (a : ℕ) → IsElement a → a ≢ 0 → product a (inverse a) ≡ 1
   pub unique : (a x : ℕ) → IsElement a → IsElement x → product a x ≡ 1 → x ≡ inverse a
-  pub no-zero-divisors : (a b : ℕ) → IsElement a → IsElement b → a ≢ 0 → product a b ≡ 0 → b ≡ 0
+  pub no_zero_divisors : (a b : ℕ) → IsElement a → IsElement b → a ≢ 0 → product a b ≡ 0 → b ≡ 0
   pub of_zero : inverse 0 ≡ 0
 
 -- `power` is the repeated product
 pub record Powers : Type 0 where
   pub at_zero : (a : ℕ) → power a 0 ≡ 1
-  pub at-successor : (a n : ℕ) → power a (suc n) ≡ product a (power a n)
+  pub at_successor : (a n : ℕ) → power a (suc n) ≡ product a (power a n)
 
 -- cases A, B and C of Table A
 pub record FieldCases : Type 0 where

@@ -1,11 +1,11 @@
 // The layers of a prover: the word folded at one challenge after the other.
 ghost use Rattle.std.specs.Prelude.{◌≡◌, ◌++◌, suc, ◌-◌, ◌^◌, length, take};
-ghost use Rattle.fri.specs.Layout.{dimension, layerStart};
-ghost use Rattle.fri.specs.Run.{Run, stepsIn, roundsIn};
-ghost use Rattle.fri.specs.Layers.{honestLayer, honestStore};
-ghost use Rattle.layout.specs.Parameters.{stepsBy};
-ghost use Rattle.honest_layers.specs.Input.{input_of, Passed, cosetIn, layerFrom};
-ghost use Rattle.honest_layers.specs.Folds.{foldOver, FoldInto, FoldBehind, RoundFold, LastFold};
+ghost use Rattle.fri.specs.Layout.{dimension, layer_start};
+ghost use Rattle.fri.specs.Run.{Run, steps_in, rounds_in};
+ghost use Rattle.fri.specs.Layers.{honest_layer, honest_store};
+ghost use Rattle.layout.specs.Parameters.{steps_by};
+ghost use Rattle.honest_layers.specs.Input.{input_of, Passed, coset_in, layer_from};
+ghost use Rattle.honest_layers.specs.Folds.{fold_over, FoldInto, FoldBehind, RoundFold, LastFold};
 
 use field::Element;
 use layer_cosets::LayerCoset;
@@ -24,10 +24,10 @@ pub fn fold_layers(
     ghost run: { Run }
     requires word_value { input_of parameters offset.0 basis.now challenges.now word.now ≡ run }
     requires passed { Passed run (length store.old) }
-    requires next_len { length next.old ≡ 2 ^ dimension run.k (stepsIn run) (roundsIn run) }
-    ensures answer { result ≡ cosetIn run (roundsIn run) }
-    ensures store { store.new ≡ honestStore run }
-    ensures next { next.new ≡ honestLayer run (roundsIn run) }
+    requires next_len { length next.old ≡ 2 ^ dimension run.k (steps_in run) (rounds_in run) }
+    ensures answer { result ≡ coset_in run (rounds_in run) }
+    ensures store { store.new ≡ honest_store run }
+    ensures next { next.new ≡ honest_layer run (rounds_in run) }
 {
     let coset = fill_store(parameters, offset, basis, challenges, word, store);
     let challenge = Element(challenges[challenges.len() - 1]);
@@ -45,8 +45,8 @@ fn fold_last(
     next: &mut [u64],
 )
     requires { LastFold parameters coset word.now store.now next.old }
-    ensures { let before = layerFrom parameters word.now store.now (length (stepsBy parameters) - 1) in
-        next.new ≡ foldOver parameters.step coset before challenge.0 }
+    ensures { let before = layer_from parameters word.now store.now (length (steps_by parameters) - 1) in
+        next.new ≡ fold_over parameters.step coset before challenge.0 }
 {
     let before = parameters.rounds() - 1;
     if before == 0 {
@@ -69,8 +69,8 @@ fn fill_store(
     ghost run: { Run }
     requires word_value { input_of parameters offset.0 basis.now challenges.now word.now ≡ run }
     requires passed { Passed run (length store.old) }
-    ensures answer { result ≡ cosetIn run (roundsIn run - 1) }
-    ensures store { store.new ≡ honestStore run }
+    ensures answer { result ≡ coset_in run (rounds_in run - 1) }
+    ensures store { store.new ≡ honest_store run }
 {
     let rounds = parameters.rounds();
     let mut coset = LayerCoset::first(offset, basis);
@@ -94,10 +94,10 @@ fn fold_round(
     store: &mut [u64],
 )
     requires { RoundFold parameters coset i word.now store.old }
-    ensures { let start = layerStart parameters.k (stepsBy parameters) in
-        let layer = layerFrom parameters word.now store.old i in
+    ensures { let start = layer_start parameters.k (steps_by parameters) in
+        let layer = layer_from parameters word.now store.old i in
         take (start (suc (suc i))) store.new
-        ≡ take (start (suc i)) store.old ++ foldOver parameters.step coset layer challenge.0 }
+        ≡ take (start (suc i)) store.old ++ fold_over parameters.step coset layer challenge.0 }
 {
     let end = parameters.layer_start(i + 2);
     if i == 0 {
@@ -111,7 +111,7 @@ fn fold_round(
 // Folds a layer into the next one.
 fn fold_layer(coset: LayerCoset, step: usize, challenge: Element, layer: &[u64], next: &mut [u64])
     requires { FoldInto step coset layer.now next.old }
-    ensures { next.new ≡ foldOver step coset layer.now challenge.0 }
+    ensures { next.new ≡ fold_over step coset layer.now challenge.0 }
 {
     let elements = coset.step_elements(step);
     let basis = coset.basis;
@@ -130,7 +130,7 @@ fn fold_layer(coset: LayerCoset, step: usize, challenge: Element, layer: &[u64],
 fn fold_behind(coset: LayerCoset, step: usize, challenge: Element, joined: &mut [u64])
     requires { FoldBehind step coset joined.old }
     ensures { let layer = take (2 ^ coset.dimension) joined.old in
-        joined.new ≡ layer ++ foldOver step coset layer challenge.0 }
+        joined.new ≡ layer ++ fold_over step coset layer challenge.0 }
 {
     let elements = coset.step_elements(step);
     let basis = coset.basis;

@@ -2,7 +2,7 @@
 ghost use Rattle.std.specs.Prelude.{◌≡◌, map, take};
 ghost use Rattle.poly.specs.Carrier.{gf64};
 ghost use Rattle.poly.specs.Polynomial.{padded};
-ghost use Rattle.coset.specs.Span.{firstDependent};
+ghost use Rattle.coset.specs.Span.{first_dependent};
 ghost use Rattle.coset.specs.Answers.{basisOutcome};
 ghost use Rattle.coset.specs.Elimination.{cleared};
 
@@ -21,7 +21,7 @@ pub fn checked_basis(basis: &[u64]) -> Outcome
 
 // The first place whose element lies in the span of the earlier ones.
 fn first_dependent(basis: &[u64]) -> Position
-    ensures { result ≡ firstDependent basis.now }
+    ensures { result ≡ first_dependent basis.now }
 {
     let first = first_among_64(basis);
     match first {
@@ -38,7 +38,7 @@ fn first_dependent(basis: &[u64]) -> Position
 
 // The same among the first 64 elements, by elimination.
 fn first_among_64(basis: &[u64]) -> Position
-    ensures { result ≡ firstDependent (take 64 basis.now) }
+    ensures { result ≡ first_dependent (take 64 basis.now) }
 {
     let count = poly::lesser(basis.len(), 64);
     let mut rows = first_64(basis);

@@ -5,10 +5,10 @@ use Rattle.input.specs.declared.Reading.TheVariants.{More, Done, Failed}
 
 -- after count of size bytes a read answered this number: one below 0 is a failure, 0 is the end of the input,
 -- and at size there is no more room
-abbrev pub readAfter : (count : ℕ) (got : ℤ) (size : ℕ) → Reading
-readAfter count (negsuc _) size = Failed
-readAfter count (pos zero) size = Done count
-readAfter count (pos (suc n)) size = cond (ltb (count + suc n) size) (More (count + suc n)) (Done size)
+abbrev pub read_after : (count : ℕ) (got : ℤ) (size : ℕ) → Reading
+read_after count (negsuc _) size = Failed
+read_after count (pos zero) size = Done count
+read_after count (pos (suc n)) size = cond (ltb (count + suc n) size) (More (count + suc n)) (Done size)
 
 -- reading is over: it failed, or it is done with no more bytes than there is room for. No contract of the kit says
 -- which bytes a read gives, so that each of these is what some input comes to

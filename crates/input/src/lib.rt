@@ -1,7 +1,7 @@
 // Reading an input, for the programs: all bytes of standard input, as far as a lent list has room for them.
 ghost use Rattle.std.specs.Prelude.{◌≡◌, ◌-◌, ◌≤◌, length};
 ghost use Rattle.libc.specs.Io.{Moved};
-ghost use Rattle.input.specs.Reading.{readAfter, Over};
+ghost use Rattle.input.specs.Reading.{read_after, Over};
 
 use libc::STDIN_FILENO;
 
@@ -32,7 +32,7 @@ pub fn read(input: &mut [u8]) -> Reading
 fn after(count: usize, got: isize, size: usize) -> Reading
     requires room { count ≤ size }
     requires moved { Moved (size - count) got }
-    ensures { result ≡ readAfter count got size }
+    ensures { result ≡ read_after count got size }
 {
     if got < 0 {
         return Reading::Failed;

@@ -2,9 +2,9 @@
 // the limit of 65,536 is read, so that a longer input is known; what follows it decides nothing. Where a read fails
 // nothing is printed.
 ghost use Rattle.std.specs.Prelude.{◌≡◌, ◌+◌, ◌≤◌, length, take};
-ghost use Rattle.transcript.specs.Judge.{inputLimit};
+ghost use Rattle.transcript.specs.Judge.{input_limit};
 ghost use Rattle.input.specs.Reading.{Over, Prints};
-ghost use Rattle.judge.specs.Printed.{verdictLines};
+ghost use Rattle.judge.specs.Printed.{verdict_lines};
 
 use input::Reading;
 use libc::STDOUT_FILENO;
@@ -12,9 +12,9 @@ use report::Text;
 
 // What is printed. The list has room for the limit and one byte more.
 fn answer(input: &[u8], reading: Reading) -> Text
-    requires size { length input.now ≡ inputLimit + 1 }
+    requires size { length input.now ≡ input_limit + 1 }
     requires over { Over (length input.now) reading }
-    ensures text { Prints verdictLines reading input.now (take result.length result.bytes) }
+    ensures text { Prints verdict_lines reading input.now (take result.length result.bytes) }
     ensures fits { (result.length ≤ length result.bytes) × (result.length ≡ length (take result.length result.bytes)) }
 {
     let Reading::Done(count) = reading else {
@@ -28,7 +28,7 @@ fn answer(input: &[u8], reading: Reading) -> Text
 
 // The lines again, which the contract holds to those of the whole input.
 fn printed<'a>(lines: &'a [u8], input: &[u8], reading: Reading) -> &'a [u8]
-    requires { Prints verdictLines reading input.now lines.now }
+    requires { Prints verdict_lines reading input.now lines.now }
     ensures { result.now ≡ lines.now }
 {
     lines

@@ -7,15 +7,15 @@ use Rattle.poly.specs.Carrier.{gf64}
 use Rattle.poly.specs.Polynomial.{padded}
 use Rattle.poly.proofs.Filling.{take-padded}
 use Rattle.layer_cosets.specs.declared.LayerCoset.{LayerCoset}
-use Rattle.layer_cosets.specs.Cosets.{layerCosetOf, basisOf}
+use Rattle.layer_cosets.specs.Cosets.{layer_coset_of, basis_of}
 
-pub coset-equal : (offset : ℕ) (held : List ℕ) (dimension : ℕ) (offset' : ℕ) (basis : List ℕ)
+pub coset_equal : (offset : ℕ) (held : List ℕ) (dimension : ℕ) (offset' : ℕ) (basis : List ℕ)
     → offset ≡ offset' → held ≡ padded gf64 20 basis → dimension ≡ length basis
     → ◌≡◌ {A = LayerCoset} (record { offset = record { 0 = offset }; basis = held; dimension = dimension })
-    (layerCosetOf offset' basis)
-coset-equal offset held dimension offset' basis o b d =
+    (layer_coset_of offset' basis)
+coset_equal offset held dimension offset' basis o b d =
     ap₂ (λ (x : ℕ) (l : List ℕ). record { offset = record { 0 = x }; basis = l; dimension = dimension }) o b
     ∙ ap (λ (n : ℕ). record { offset = record { 0 = offset' }; basis = padded gf64 20 basis; dimension = n }) d
 
-pub basisOf-coset : (offset : ℕ) (basis : List ℕ) → basisOf (layerCosetOf offset basis) ≡ basis
-basisOf-coset offset basis = take-padded 20 basis
+pub basis_of_coset : (offset : ℕ) (basis : List ℕ) → basis_of (layer_coset_of offset basis) ≡ basis
+basis_of_coset offset basis = take-padded 20 basis

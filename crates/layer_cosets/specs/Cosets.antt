@@ -5,8 +5,8 @@ use Rattle.poly.specs.Polynomial.{padded}
 use Rattle.layer_cosets.specs.declared.LayerCoset.{LayerCoset}
 
 -- offset and basis by value, where the basis has at most 20 elements
-abbrev pub layerCosetOf : (offset : ℕ) (basis : List ℕ) → LayerCoset
-layerCosetOf offset basis =
+abbrev pub layer_coset_of : (offset : ℕ) (basis : List ℕ) → LayerCoset
+layer_coset_of offset basis =
     record {
       offset = record { 0 = offset };
       basis = padded gf64 20 basis;
@@ -14,5 +14,5 @@ layerCosetOf offset basis =
     }
 
 -- its basis, without the zeros after it
-abbrev pub basisOf : (coset : LayerCoset) → List ℕ
-basisOf coset = take coset.dimension coset.basis
+abbrev pub basis_of : (coset : LayerCoset) → List ℕ
+basis_of coset = take coset.dimension coset.basis

@@ -2,9 +2,9 @@
 ghost use Rattle.std.specs.Prelude.{◌≡◌, ◌≤◌, length};
 ghost use Rattle.poly.specs.Carrier.{gf64};
 ghost use Rattle.poly.specs.Polynomial.{padded};
-ghost use Rattle.coset.specs.Steps.{stepElements};
-ghost use Rattle.coset.specs.Subspace.{nextOffset, nextBasis};
-ghost use Rattle.layer_cosets.specs.Cosets.{layerCosetOf, basisOf};
+ghost use Rattle.coset.specs.Steps.{step_elements};
+ghost use Rattle.coset.specs.Subspace.{next_offset, next_basis};
+ghost use Rattle.layer_cosets.specs.Cosets.{layer_coset_of, basis_of};
 
 use field::Element;
 
@@ -20,7 +20,7 @@ impl LayerCoset {
     // That of layer 0.
     pub fn first(offset: Element, basis: &[u64]) -> LayerCoset
         requires { length basis.now ≤ 20 }
-        ensures { result ≡ layerCosetOf offset.0 basis.now }
+        ensures { result ≡ layer_coset_of offset.0 basis.now }
     {
         let mut elements = [0u64; 20];
         poly::copy(basis, &mut elements);
@@ -34,7 +34,7 @@ impl LayerCoset {
     // That of the next layer.
     pub fn next(self, step: usize) -> LayerCoset
         requires { (step ≤ 3) × (step ≤ self.dimension) × (self.dimension ≤ 20) }
-        ensures { result ≡ layerCosetOf (nextOffset step self.offset.0 (basisOf self)) (nextBasis step (basisOf self)) }
+        ensures { result ≡ layer_coset_of (next_offset step self.offset.0 (basis_of self)) (next_basis step (basis_of self)) }
     {
         let elements = self.step_elements(step);
         let basis = self.basis;
@@ -49,7 +49,7 @@ impl LayerCoset {
     // The elements of the maps of a step, and zeros.
     pub fn step_elements(self, step: usize) -> [u64; 3]
         requires { (step ≤ 3) × (step ≤ self.dimension) × (self.dimension ≤ 20) }
-        ensures { result ≡ padded gf64 3 (stepElements step (basisOf self)) }
+        ensures { result ≡ padded gf64 3 (step_elements step (basis_of self)) }
     {
         let basis = self.basis;
         let dimension = self.dimension;

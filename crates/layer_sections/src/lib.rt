@@ -1,9 +1,9 @@
 // The refusals before the round checks: sections 1 to 4, then those of the layers and the last one, then bytes after
 // it (3).
 ghost use Rattle.std.specs.Prelude.{◌≡◌};
-ghost use Rattle.transcript.specs.Sections.{sectionStart, layerSection, transcriptRounds};
-ghost use Rattle.transcript.specs.Checks.{endOutcome, layersOutcome, transcriptOutcome};
-ghost use Rattle.sections.specs.Views.{sectionsIn, ParametersOf};
+ghost use Rattle.transcript.specs.Sections.{section_start, layer_section, transcript_rounds};
+ghost use Rattle.transcript.specs.Checks.{end_outcome, layers_outcome, transcript_outcome};
+ghost use Rattle.sections.specs.Views.{sections_in, ParametersOf};
 
 use layout::Parameters;
 use refusal::{Cause, Outcome};
@@ -11,8 +11,8 @@ use sections::Sections;
 
 // All sections.
 pub fn checked(bytes: &[u8], sections: Sections) -> Outcome
-    requires { sections ≡ sectionsIn bytes.now }
-    ensures { result ≡ transcriptOutcome bytes.now }
+    requires { sections ≡ sections_in bytes.now }
+    ensures { result ≡ transcript_outcome bytes.now }
 {
     let front = front_sections::checked_front(bytes, sections);
     match front {
@@ -23,8 +23,8 @@ pub fn checked(bytes: &[u8], sections: Sections) -> Outcome
 
 // The sections of the layers, and the last one.
 fn checked_layers(bytes: &[u8], layers: usize, parameters: Parameters) -> Outcome
-    requires { (layers ≡ sectionStart bytes.now 5) × ParametersOf bytes.now parameters }
-    ensures { result ≡ layersOutcome bytes.now }
+    requires { (layers ≡ section_start bytes.now 5) × ParametersOf bytes.now parameters }
+    ensures { result ≡ layers_outcome bytes.now }
 {
     let rounds = parameters.rounds();
     let mut at = layers;
@@ -45,8 +45,8 @@ fn checked_layers(bytes: &[u8], layers: usize, parameters: Parameters) -> Outcom
 // The last coefficients, after which nothing follows (3).
 fn checked_end(bytes: &[u8], at: usize, parameters: Parameters) -> Outcome
     requires { let sent = bytes.now in
-        (at ≡ sectionStart sent (layerSection (transcriptRounds sent))) × ParametersOf sent parameters }
-    ensures { result ≡ endOutcome bytes.now }
+        (at ≡ section_start sent (layer_section (transcript_rounds sent))) × ParametersOf sent parameters }
+    ensures { result ≡ end_outcome bytes.now }
 {
     let whole = sections::checked_due(bytes, 5 + parameters.rounds(), at, parameters.last_count());
     match whole {

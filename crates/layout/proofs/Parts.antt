@@ -10,124 +10,124 @@ use lib.ListN.{length, take, drop}
 use borrow.Author.Tests.{leb-true, ltb-true, lt-leb, le-leb, le-ltb, lt-ltb, ne_eqb, eq-eqb}
 use Rattle.refusal.specs.declared.Outcome.{Outcome}
 use Rattle.refusal.specs.declared.Outcome.TheVariants.{Done, Refused}
-use Rattle.refusal.proofs.Checks.{both_true, first-false, second-false, each-true, equal-of-test}
-use Rattle.fri.specs.Layout.{dimension, layerStart, storeLength, storedLayer}
-use Rattle.fri.specs.Checks.{parametersOutcome}
-use Rattle.fri.specs.Lookup.{partAfter, inStore, layerPart}
-use Rattle.fri.proofs.Layouts.{layer-before, length-steps}
+use Rattle.refusal.proofs.Checks.{both_true, first_false, second_false, each_true, equal_of_test}
+use Rattle.fri.specs.Layout.{dimension, layer_start, store_length, stored_layer}
+use Rattle.fri.specs.Checks.{parameters_outcome}
+use Rattle.fri.specs.Lookup.{part_after, in_store, layer_part}
+use Rattle.fri.proofs.Layouts.{layer_before, length_steps}
 use Rattle.layout.specs.declared.Parameters.{Parameters}
 use Rattle.layout.specs.declared.Part.{Part}
-use Rattle.layout.specs.Parameters.{stepsBy}
-use Rattle.layout.specs.Lengths.{orZeros, lengthsDue, lengthsOf}
-use Rattle.layout.specs.Parts.{empty, orEmpty, part_of, partIn}
-use Rattle.layout.proofs.Sizes.{storeLength-is}
+use Rattle.layout.specs.Parameters.{steps_by}
+use Rattle.layout.specs.Lengths.{or_zeros, lengths_due, lengths_of}
+use Rattle.layout.specs.Parts.{empty, or_empty, part_of, part_in}
+use Rattle.layout.proofs.Sizes.{store_length_is}
 
-storedLayer-is : (k : ℕ) (steps store : List ℕ) (i : ℕ)
-    → take (2 ^ dimension k steps i) (drop (layerStart k steps i) store) ≡ storedLayer k steps store i
-unfolding storedLayer
-storedLayer-is k steps store i = refl
+stored_layer_is : (k : ℕ) (steps store : List ℕ) (i : ℕ)
+    → take (2 ^ dimension k steps i) (drop (layer_start k steps i) store) ≡ stored_layer k steps store i
+unfolding stored_layer
+stored_layer_is k steps store i = refl
 
 module _ (p : Parameters) (count i : ℕ) where
   abbrev found : Part
-  found = record { start = layerStart p.k (stepsBy p) i; length = 2 ^ dimension p.k (stepsBy p) i }
+  found = record { start = layer_start p.k (steps_by p) i; length = 2 ^ dimension p.k (steps_by p) i }
 
   -- the store has a layer i
   abbrev pub has : Bool
-  has = leb 1 i && ltb i (length (stepsBy p)) && eqb count (storeLength p.k (stepsBy p))
+  has = leb 1 i && ltb i (length (steps_by p)) && eqb count (store_length p.k (steps_by p))
 
   -- the lookup by what its two tests answer
-  pub part-where : (outcome : Outcome) (test : Bool) → parametersOutcome p.k p.rate p.step ≡ outcome
-      → has ≡ test → orEmpty outcome (cond test found empty) ≡ part_of p count i
-  part-where outcome test e f =
-      sym (ap₂ (λ (o : Outcome) (t : Bool). orEmpty o (cond t found empty)) e f)
+  pub part_where : (outcome : Outcome) (test : Bool) → parameters_outcome p.k p.rate p.step ≡ outcome
+      → has ≡ test → or_empty outcome (cond test found empty) ≡ part_of p count i
+  part_where outcome test e f =
+      sym (ap₂ (λ (o : Outcome) (t : Bool). or_empty o (cond t found empty)) e f)
 
   abbrev fits : Bool
-  fits = eqb count (storeLength p.k (stepsBy p))
+  fits = eqb count (store_length p.k (steps_by p))
 
   -- an i that is none of the layers in the store, by the rounds told
-  pub part-outside : (i < 1) ⊎ ((lengthsOf p).rounds ≤ i) → empty ≡ part_of p count i
-  part-outside = by (parametersOutcome p.k p.rate p.step) refl
+  pub part_outside : (i < 1) ⊎ ((lengths_of p).rounds ≤ i) → empty ≡ part_of p count i
+  part_outside = by (parameters_outcome p.k p.rate p.step) refl
     where
-      by : (outcome : Outcome) → parametersOutcome p.k p.rate p.step ≡ outcome
-          → (i < 1) ⊎ ((orZeros outcome (lengthsDue p)).rounds ≤ i) → empty ≡ part_of p count i
+      by : (outcome : Outcome) → parameters_outcome p.k p.rate p.step ≡ outcome
+          → (i < 1) ⊎ ((or_zeros outcome (lengths_due p)).rounds ≤ i) → empty ≡ part_of p count i
       by Done e h =
-          let r = length (stepsBy p) in
+          let r = length (steps_by p) in
           let outside : (leb 1 i && ltb i r) ≡ false =
-          ⊎_elim (λ t. first-false (leb 1 i) (ltb i r) (lt-leb 1 i t))
+          ⊎_elim (λ t. first_false (leb 1 i) (ltb i r) (lt-leb 1 i t))
           (λ t.
-          second-false (leb 1 i) (ltb i r)
-          (le-ltb i r (omega (arith, t, length-steps p.k p.rate p.step))))
+          second_false (leb 1 i) (ltb i r)
+          (le-ltb i r (omega (arith, t, length_steps p.k p.rate p.step))))
           h
           in
-          part-where Done false e (first-false (leb 1 i && ltb i r) fits outside)
-      by (Refused cause) e h = part-where (Refused cause) has e refl
+          part_where Done false e (first_false (leb 1 i && ltb i r) fits outside)
+      by (Refused cause) e h = part_where (Refused cause) has e refl
 
   -- a store of another length than the one told
-  pub part-misfit : count ≢ (lengthsOf p).store → empty ≡ part_of p count i
-  part-misfit = by (parametersOutcome p.k p.rate p.step) refl
+  pub part_misfit : count ≢ (lengths_of p).store → empty ≡ part_of p count i
+  part_misfit = by (parameters_outcome p.k p.rate p.step) refl
     where
-      by : (outcome : Outcome) → parametersOutcome p.k p.rate p.step ≡ outcome
-          → count ≢ (orZeros outcome (lengthsDue p)).store → empty ≡ part_of p count i
+      by : (outcome : Outcome) → parameters_outcome p.k p.rate p.step ≡ outcome
+          → count ≢ (or_zeros outcome (lengths_due p)).store → empty ≡ part_of p count i
       by Done e h =
-          part-where Done false e
-          (second-false (leb 1 i && ltb i (length (stepsBy p))) fits (ne_eqb count (storeLength p.k (stepsBy p)) h))
-      by (Refused cause) e h = part-where (Refused cause) has e refl
+          part_where Done false e
+          (second_false (leb 1 i && ltb i (length (steps_by p))) fits (ne_eqb count (store_length p.k (steps_by p)) h))
+      by (Refused cause) e h = part_where (Refused cause) has e refl
 
   -- there is a round only where the parameters are in range
-  pub round-told : i < (lengthsOf p).rounds → parametersOutcome p.k p.rate p.step ≡ Done
-  round-told = by (parametersOutcome p.k p.rate p.step) refl
+  pub round_told : i < (lengths_of p).rounds → parameters_outcome p.k p.rate p.step ≡ Done
+  round_told = by (parameters_outcome p.k p.rate p.step) refl
     where
-      by : (outcome : Outcome) → parametersOutcome p.k p.rate p.step ≡ outcome
-          → i < (orZeros outcome (lengthsDue p)).rounds → parametersOutcome p.k p.rate p.step ≡ Done
+      by : (outcome : Outcome) → parameters_outcome p.k p.rate p.step ≡ outcome
+          → i < (or_zeros outcome (lengths_due p)).rounds → parameters_outcome p.k p.rate p.step ≡ Done
       by Done e h = e
       by (Refused cause) e h = absurd (omega (arith, h))
 
   -- the rounds told are then those of the steps
-  pub below-rounds : i < (lengthsOf p).rounds → i < length (stepsBy p)
-  below-rounds h =
+  pub below_rounds : i < (lengths_of p).rounds → i < length (steps_by p)
+  below_rounds h =
       omega (
         arith,
         h,
-        ap (λ (o : Outcome). (orZeros o (lengthsDue p)).rounds) (round-told h),
-        length-steps p.k p.rate p.step,
+        ap (λ (o : Outcome). (or_zeros o (lengths_due p)).rounds) (round_told h),
+        length_steps p.k p.rate p.step,
       )
 
   -- a layer in the store
-  pub part-found : parametersOutcome p.k p.rate p.step ≡ Done → 1 ≤ i → i < (lengthsOf p).rounds
-      → count ≡ (lengthsOf p).store → found ≡ part_of p count i
-  part-found e least most whole =
-      let r = length (stepsBy p) in
-      part-where Done true e
+  pub part_found : parameters_outcome p.k p.rate p.step ≡ Done → 1 ≤ i → i < (lengths_of p).rounds
+      → count ≡ (lengths_of p).store → found ≡ part_of p count i
+  part_found e least most whole =
+      let r = length (steps_by p) in
+      part_where Done true e
       (both_true (leb 1 i && ltb i r) fits
-      (both_true (leb 1 i) (ltb i r) (le-leb 1 i least) (lt-ltb i r (below-rounds most)))
-      (eq-eqb count (storeLength p.k (stepsBy p))
-      (whole ∙ ap (λ (o : Outcome). (orZeros o (lengthsDue p)).store) e)))
+      (both_true (leb 1 i) (ltb i r) (le-leb 1 i least) (lt-ltb i r (below_rounds most)))
+      (eq-eqb count (store_length p.k (steps_by p))
+      (whole ∙ ap (λ (o : Outcome). (or_zeros o (lengths_due p)).store) e)))
 
   -- it lies within the store
-  pub part-within : (part_of p count i).start + (part_of p count i).length ≤ count
-  part-within = by (parametersOutcome p.k p.rate p.step) has refl
+  pub part_within : (part_of p count i).start + (part_of p count i).length ≤ count
+  part_within = by (parameters_outcome p.k p.rate p.step) has refl
     where
       by : (outcome : Outcome) (test : Bool) → has ≡ test
-          → (orEmpty outcome (cond test found empty)).start + (orEmpty outcome (cond test found empty)).length ≤ count
+          → (or_empty outcome (cond test found empty)).start + (or_empty outcome (cond test found empty)).length ≤ count
       by Done true e =
-          let all = each-true (leb 1 i && ltb i (length (stepsBy p))) (eqb count (storeLength p.k (stepsBy p))) e in
-          let both = each-true (leb 1 i) (ltb i (length (stepsBy p))) all.0 in
-          let whole = equal-of-test count (storeLength p.k (stepsBy p)) all.1 in
+          let all = each_true (leb 1 i && ltb i (length (steps_by p))) (eqb count (store_length p.k (steps_by p))) e in
+          let both = each_true (leb 1 i) (ltb i (length (steps_by p))) all.0 in
+          let whole = equal_of_test count (store_length p.k (steps_by p)) all.1 in
           let least = leb-true 1 i both.0 in
-          let inside = ltb-true i (length (stepsBy p)) both.1 in
-          let ends = layer-before p.k (stepsBy p) i (length (stepsBy p)) least inside in
-          omega (arith, whole, storeLength-is p.k (stepsBy p), ends)
+          let inside = ltb-true i (length (steps_by p)) both.1 in
+          let ends = layer_before p.k (steps_by p) i (length (steps_by p)) least inside in
+          omega (arith, whole, store_length_is p.k (steps_by p), ends)
       by Done false e = omega arith
       by (Refused cause) test e = omega arith
 
 -- and it is the layer
-pub part-taken : (p : Parameters) (store : List ℕ) (i : ℕ)
-    → partIn (part_of p (length store) i) store ≡ layerPart p.k p.rate p.step store i
-part-taken p store i = by (parametersOutcome p.k p.rate p.step) (inStore p.k (stepsBy p) store i)
+pub part_taken : (p : Parameters) (store : List ℕ) (i : ℕ)
+    → part_in (part_of p (length store) i) store ≡ layer_part p.k p.rate p.step store i
+part_taken p store i = by (parameters_outcome p.k p.rate p.step) (in_store p.k (steps_by p) store i)
   where
     by : (outcome : Outcome) (test : Bool)
-        → partIn (orEmpty outcome (cond test (found p (length store) i) empty)) store
-        ≡ partAfter outcome (cond test (storedLayer p.k (stepsBy p) store i) [])
-    by Done true = storedLayer-is p.k (stepsBy p) store i
+        → part_in (or_empty outcome (cond test (found p (length store) i) empty)) store
+        ≡ part_after outcome (cond test (stored_layer p.k (steps_by p) store i) [])
+    by Done true = stored_layer_is p.k (steps_by p) store i
     by Done false = refl
     by (Refused cause) test = refl

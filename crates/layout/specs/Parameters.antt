@@ -6,8 +6,8 @@ use Rattle.fri.specs.Demand.{ValidParameters}
 use Rattle.layout.specs.declared.Parameters.{Parameters}
 
 -- the steps of the rounds
-abbrev pub stepsBy : (p : Parameters) → List ℕ
-stepsBy p = steps_of p.k p.rate p.step
+abbrev pub steps_by : (p : Parameters) → List ℕ
+steps_by p = steps_of p.k p.rate p.step
 
 -- parameters in range
 abbrev pub Valid : (p : Parameters) → Type 0

@@ -1,11 +1,11 @@
 // The parameters of a run, and where each of its layers lies in the store.
 ghost use Rattle.std.specs.Prelude.{◌≡◌, ◌≤◌, length};
-ghost use Rattle.fri.specs.Layout.{dimension, lastCount, layerStart};
-ghost use Rattle.fri.specs.Checks.{parametersOutcome};
-ghost use Rattle.fri.specs.Lookup.{layerPart};
-ghost use Rattle.layout.specs.Parameters.{stepsBy, Valid};
-ghost use Rattle.layout.specs.Parts.{part_of, partIn};
-ghost use Rattle.layout.specs.Lengths.{lengthsOf};
+ghost use Rattle.fri.specs.Layout.{dimension, last_count, layer_start};
+ghost use Rattle.fri.specs.Checks.{parameters_outcome};
+ghost use Rattle.fri.specs.Lookup.{layer_part};
+ghost use Rattle.layout.specs.Parameters.{steps_by, Valid};
+ghost use Rattle.layout.specs.Parts.{part_of, part_in};
+ghost use Rattle.layout.specs.Lengths.{lengths_of};
 
 use refusal::{Cause, Outcome};
 
@@ -34,8 +34,8 @@ pub struct Lengths {
 
 // Layer i of a store, 1 ≤ i < r, or the empty part for bad parameters, another i or a store of another length.
 pub fn layer(parameters: Parameters, store: &[u64], i: usize) -> &[u64]
-    ensures layer { result.now ≡ layerPart parameters.k parameters.rate parameters.step store.now i }
-    ensures part { result.now ≡ partIn (part_of parameters (length store.now) i) store.now }
+    ensures layer { result.now ≡ layer_part parameters.k parameters.rate parameters.step store.now i }
+    ensures part { result.now ≡ part_in (part_of parameters (length store.now) i) store.now }
 {
     let part = parameters.part(store.len(), i);
     let start = part.start;
@@ -46,7 +46,7 @@ pub fn layer(parameters: Parameters, store: &[u64], i: usize) -> &[u64]
 impl Parameters {
     // Refuses parameters out of range, in the order 4, 5, 6, 7.
     pub fn checked(self) -> Outcome
-        ensures { result ≡ parametersOutcome self.k self.rate self.step }
+        ensures { result ≡ parameters_outcome self.k self.rate self.step }
     {
         if self.k < 2 || self.k > 20 {
             return Outcome::Refused(Cause::DimensionOutOfRange);
@@ -66,15 +66,15 @@ impl Parameters {
     // r.
     pub fn rounds(self) -> usize
         requires { Valid self }
-        ensures { result ≡ length (stepsBy self) }
+        ensures { result ≡ length (steps_by self) }
     {
         (self.k - self.rate) / self.step
     }
 
     // The dimension of layer i.
     pub fn dimension(self, i: usize) -> usize
-        requires { Valid self × (i ≤ length (stepsBy self)) }
-        ensures { result ≡ dimension self.k (stepsBy self) i }
+        requires { Valid self × (i ≤ length (steps_by self)) }
+        ensures { result ≡ dimension self.k (steps_by self) i }
     {
         self.k - i * self.step
     }
@@ -82,15 +82,15 @@ impl Parameters {
     // d.
     pub fn last_count(self) -> usize
         requires { Valid self }
-        ensures { result ≡ lastCount self.k self.rate (stepsBy self) }
+        ensures { result ≡ last_count self.k self.rate (steps_by self) }
     {
         1 << (self.dimension(self.rounds()) - self.rate)
     }
 
     // Where layer i, from 1 on, begins in the store.
     pub fn layer_start(self, i: usize) -> usize
-        requires { Valid self × (1 ≤ i) × (i ≤ length (stepsBy self)) }
-        ensures { result ≡ layerStart self.k (stepsBy self) i }
+        requires { Valid self × (1 ≤ i) × (i ≤ length (steps_by self)) }
+        ensures { result ≡ layer_start self.k (steps_by self) i }
     {
         let mut start: usize = 0;
         let mut before: usize = 1;
@@ -103,7 +103,7 @@ impl Parameters {
 
     // What prover and judge are to be lent; all 0 for parameters out of range.
     pub fn lengths(self) -> Lengths
-        ensures { result ≡ lengthsOf self }
+        ensures { result ≡ lengths_of self }
     {
         let outcome = self.checked();
         match outcome {

@@ -5,18 +5,18 @@ use mathlib.Core.List.{◌++◌}
 use Prim.Native.Nat.{◌-◌}
 use Rattle.refusal.specs.declared.Position.{Position}
 use Rattle.refusal.specs.declared.Position.TheVariants.{Absent}
-use Rattle.refusal.proofs.Theorems.{round-numbers}
+use Rattle.refusal.proofs.Theorems.{round_numbers}
 use Rattle.fri.specs.declared.Answer.{Answer}
 use Rattle.fri.specs.declared.Answer.TheVariants.{Accepted, Refused}
 use Rattle.fri.specs.declared.Verdict.{Verdict}
-use Rattle.fri.specs.Judge.{numberOfAnswer, placeOfAnswer, roundOfAnswer}
-use Rattle.line_text.specs.Digits.{bytes, digits, placesWithin, decimal}
-use Rattle.line_text.specs.Lines.{orHyphen, answerText, numbersText, line_of, lines_of}
+use Rattle.fri.specs.Judge.{number_of_answer, place_of_answer, round_of_answer}
+use Rattle.line_text.specs.Digits.{bytes, digits, places_within, decimal}
+use Rattle.line_text.specs.Lines.{or_hyphen, answer_text, numbers_text, line_of, lines_of}
 use Rattle.line_text.specs.Theorems.{Examples, PrintedRounds, Decimals}
 use Rattle.line_text.proofs.Decimals as laws
 
 pub examples : Examples
-unfolding lines_of line_of numbersText answerText orHyphen decimal digits placesWithin bytes
+unfolding lines_of line_of numbers_text answer_text or_hyphen decimal digits places_within bytes
 examples =
     record {
       header = refl;
@@ -27,31 +27,31 @@ examples =
       shared = refl;
     }
 
-no-round : (answer : Answer) → numberOfAnswer answer ≢ 11 → roundOfAnswer answer ≡ Absent
-no-round Accepted n = refl
-no-round (Refused cause) n = round-numbers.eleven-alone cause n
+no_round : (answer : Answer) → number_of_answer answer ≢ 11 → round_of_answer answer ≡ Absent
+no_round Accepted n = refl
+no_round (Refused cause) n = round_numbers.eleven_alone cause n
 
-hyphen : (verdict : Verdict) → numberOfAnswer verdict.answer ≢ 11
+hyphen : (verdict : Verdict) → number_of_answer verdict.answer ≢ 11
     → line_of verdict
-    ≡ answerText verdict.answer
-    ++ numbersText (numberOfAnswer verdict.answer) (placeOfAnswer verdict.answer) Absent verdict.reads
+    ≡ answer_text verdict.answer
+    ++ numbers_text (number_of_answer verdict.answer) (place_of_answer verdict.answer) Absent verdict.reads
 unfolding line_of
 hyphen verdict n =
-    ap (λ (round : Position). answerText verdict.answer
-    ++ numbersText (numberOfAnswer verdict.answer) (placeOfAnswer verdict.answer) round verdict.reads)
-    (no-round verdict.answer n)
+    ap (λ (round : Position). answer_text verdict.answer
+    ++ numbers_text (number_of_answer verdict.answer) (place_of_answer verdict.answer) round verdict.reads)
+    (no_round verdict.answer n)
 
-pub printed-rounds : PrintedRounds
-unfolding line_of answerText
-printed-rounds = record { eleven = λ query round reads. refl; eleven-alone = hyphen }
+pub printed_rounds : PrintedRounds
+unfolding line_of answer_text
+printed_rounds = record { eleven = λ query round reads. refl; eleven_alone = hyphen }
 
 pub decimals : Decimals
-unfolding decimal digits placesWithin bytes
+unfolding decimal digits places_within bytes
 decimals =
     record {
-      value = λ n h. laws.value 19 n (laws.below-20-digits h);
-      ascii = λ n. laws.digits_decimal (placesWithin 19 n) n;
-      leading = λ n h. laws.leading 19 n (laws.below-20-digits h);
+      value = λ n h. laws.value 19 n (laws.below_20_digits h);
+      ascii = λ n. laws.digits_decimal (places_within 19 n) n;
+      leading = λ n h. laws.leading 19 n (laws.below_20_digits h);
       zero = refl;
       largest = refl;
     }

@@ -18,10 +18,10 @@ digits base zero n = []
 digits base (suc width) n = digits base width (n / base) ++ (digit (n % base) ∷ [])
 
 -- how many decimal digits n has, at most `more` and one: 1 below 10, else one more than its tenth has
-unfoldable pub placesWithin : (more n : ℕ) → ℕ
-placesWithin zero n = 1
-placesWithin (suc more) n = cond (ltb n 10) 1 (suc (placesWithin more (n / 10)))
+unfoldable pub places_within : (more n : ℕ) → ℕ
+places_within zero n = 1
+places_within (suc more) n = cond (ltb n 10) 1 (suc (places_within more (n / 10)))
 
 -- a number's decimal digits, with no zero in front; a 64-bit number has at most 20
 unfoldable pub decimal : (n : ℕ) → List ℕ
-decimal n = digits 10 (placesWithin 19 n) n
+decimal n = digits 10 (places_within 19 n) n

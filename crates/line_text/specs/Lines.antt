@@ -5,36 +5,36 @@ use Rattle.refusal.specs.declared.Position.TheVariants.{At, Absent}
 use Rattle.fri.specs.declared.Answer.{Answer}
 use Rattle.fri.specs.declared.Answer.TheVariants.{Accepted, Refused}
 use Rattle.fri.specs.declared.Verdict.{Verdict}
-use Rattle.fri.specs.Judge.{numberOfAnswer, placeOfAnswer, roundOfAnswer}
+use Rattle.fri.specs.Judge.{number_of_answer, place_of_answer, round_of_answer}
 use Rattle.line_text.specs.Digits.{bytes, decimal}
 
 -- a place or a round, or a hyphen where there is none
-unfoldable pub orHyphen : (position : Position) → List ℕ
-orHyphen (At n) = decimal n
-orHyphen Absent = bytes "-"
+unfoldable pub or_hyphen : (position : Position) → List ℕ
+or_hyphen (At n) = decimal n
+or_hyphen Absent = bytes "-"
 
 -- the line's first word
-unfoldable pub answerText : (answer : Answer) → List ℕ
-answerText Accepted = bytes "accepted"
-answerText (Refused cause) = bytes "refused"
+unfoldable pub answer_text : (answer : Answer) → List ℕ
+answer_text Accepted = bytes "accepted"
+answer_text (Refused cause) = bytes "refused"
 
 -- what follows the answer: number, place, round and reads, each after a space, and a line feed
-unfoldable pub numbersText : (number : ℕ) (place round : Position) (reads : ℕ) → List ℕ
-numbersText number place round reads =
+unfoldable pub numbers_text : (number : ℕ) (place round : Position) (reads : ℕ) → List ℕ
+numbers_text number place round reads =
     (bytes " " ++ decimal number)
-    ++ (bytes " " ++ orHyphen place)
-    ++ (bytes " " ++ orHyphen round)
+    ++ (bytes " " ++ or_hyphen place)
+    ++ (bytes " " ++ or_hyphen round)
     ++ (bytes " " ++ decimal reads)
     ++ bytes "\n"
 
 -- the line: answer, number, place, round, reads
 unfoldable pub line_of : (verdict : Verdict) → List ℕ
 line_of verdict =
-    answerText verdict.answer
-    ++ numbersText
-    (numberOfAnswer verdict.answer)
-    (placeOfAnswer verdict.answer)
-    (roundOfAnswer verdict.answer)
+    answer_text verdict.answer
+    ++ numbers_text
+    (number_of_answer verdict.answer)
+    (place_of_answer verdict.answer)
+    (round_of_answer verdict.answer)
     verdict.reads
 
 -- the header and the line

@@ -5,9 +5,9 @@ use Rattle.refusal.specs.declared.Cause.TheVariants.{RoundCheckFails, CosetShare
 use Rattle.refusal.specs.declared.Position.TheVariants.{At, Absent}
 use Rattle.fri.specs.declared.Answer.TheVariants.{Accepted, Refused}
 use Rattle.fri.specs.declared.Verdict.{Verdict}
-use Rattle.fri.specs.Judge.{numberOfAnswer, placeOfAnswer}
+use Rattle.fri.specs.Judge.{number_of_answer, place_of_answer}
 use Rattle.line_text.specs.Digits.{bytes, decimal}
-use Rattle.line_text.specs.Lines.{answerText, numbersText, line_of, lines_of}
+use Rattle.line_text.specs.Lines.{answer_text, numbers_text, line_of, lines_of}
 
 -- the lines of the verdicts of cases G and H, of two queries in one coset, and the codes of the texts in them
 pub record Examples : Type 0 where
@@ -31,19 +31,19 @@ pub record Examples : Type 0 where
 pub record PrintedRounds : Type 0 where
   pub eleven : (query round reads : ℕ)
       → line_of (record { answer = Refused (RoundCheckFails query round); reads = reads })
-      ≡ bytes "refused" ++ numbersText 11 (At query) (At round) reads
-  pub eleven-alone : (verdict : Verdict) → numberOfAnswer verdict.answer ≢ 11
+      ≡ bytes "refused" ++ numbers_text 11 (At query) (At round) reads
+  pub eleven_alone : (verdict : Verdict) → number_of_answer verdict.answer ≢ 11
       → line_of verdict
-      ≡ answerText verdict.answer
-      ++ numbersText (numberOfAnswer verdict.answer) (placeOfAnswer verdict.answer) Absent verdict.reads
+      ≡ answer_text verdict.answer
+      ++ numbers_text (number_of_answer verdict.answer) (place_of_answer verdict.answer) Absent verdict.reads
 
 -- the number that decimal digits stand for, read on after those that stand for `before`
-unfoldable pub valueAfter : (before : ℕ) (digits : List ℕ) → ℕ
-valueAfter before [] = before
-valueAfter before (d ∷ rest) = valueAfter (10 * before + (d - 48)) rest
+unfoldable pub value_after : (before : ℕ) (digits : List ℕ) → ℕ
+value_after before [] = before
+value_after before (d ∷ rest) = value_after (10 * before + (d - 48)) rest
 
 abbrev pub value_of : (digits : List ℕ) → ℕ
-value_of = valueAfter 0
+value_of = value_after 0
 
 -- of a 64-bit number the digits stand for it, each is `0` to `9`, and the first is not `0` but for 0 itself
 pub record Decimals : Type 0 where

@@ -3,7 +3,7 @@
 ghost use Rattle.std.specs.Prelude.{◌≡◌, ◌≢◌, ◌++◌, map, ◌≤◌, length, drop};
 ghost use Rattle.gf64.specs.Field.{inverse};
 ghost use Rattle.poly.specs.Polynomial.{All};
-ghost use Rattle.list_inverse.specs.Products.{nonzeroProduct, ProductsBefore};
+ghost use Rattle.list_inverse.specs.Products.{nonzero_product, ProductsBefore};
 
 use field::{Element, reduction};
 
@@ -50,7 +50,7 @@ fn invert_block(block: &mut [u64])
 // of all its elements.
 fn products_before(block: &[u64], before: &mut [u64]) -> u64
     requires { length block.now ≤ length before.old }
-    ensures all { result ≡ nonzeroProduct block.now (length block.now) }
+    ensures all { result ≡ nonzero_product block.now (length block.now) }
     ensures each { ProductsBefore block.now before.new }
 {
     let mut product: u64 = 1;
@@ -70,7 +70,7 @@ fn products_before(block: &[u64], before: &mut [u64]) -> u64
 // the elements before it, it is the inverse of this one.
 fn divide_back(rest: u64, before: &[u64], block: &mut [u64])
     requires { (length block.old ≤ length before.now) × ProductsBefore block.old before.now
-        × (rest ≡ inverse (nonzeroProduct block.old (length block.old))) }
+        × (rest ≡ inverse (nonzero_product block.old (length block.old))) }
     ensures { block.new ≡ map inverse block.old }
 {
     let mut rest = rest;

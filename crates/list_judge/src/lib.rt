@@ -2,7 +2,7 @@
 // read.
 ghost use Rattle.std.specs.Prelude.{◌≡◌};
 ghost use Rattle.fri.specs.Run.{Run};
-ghost use Rattle.fri.specs.Judge.{checksOutcome, verdictOf};
+ghost use Rattle.fri.specs.Judge.{checks_outcome, verdict_of};
 ghost use Rattle.layout.specs.Parameters.{run_of};
 ghost use Rattle.refusal.specs.declared.Outcome.TheVariants as outcomes;
 
@@ -14,7 +14,7 @@ use round_checks::QueryPoint;
 
 // The verdict on a run, with the entries read. Refused, in this order: parameters (4, 5, 6, 7), the lowest list whose
 // length is not the one due (13), a dependent basis (8), the number of queries (9), a query out of range (10), one that
-// shares a first-layer coset with an earlier one (17), and the first round check that fails (11).
+// shares a first_layer coset with an earlier one (17), and the first round check that fails (11).
 pub fn judge(
     parameters: Parameters,
     offset: Element,
@@ -27,7 +27,7 @@ pub fn judge(
 ) -> Verdict
     ensures { let run = run_of parameters offset.0 basis.now challenges.now word.now
         store.now last.now in
-        result ≡ verdictOf run queries.now }
+        result ≡ verdict_of run queries.now }
 {
     let outcome = checked(
         parameters, offset, basis, challenges, queries, word, store, last,
@@ -56,7 +56,7 @@ fn checked(
 ) -> Outcome
     ensures { let run = run_of parameters offset.0 basis.now challenges.now word.now
         store.now last.now in
-        result ≡ checksOutcome run queries.now }
+        result ≡ checks_outcome run queries.now }
 {
     let outcome = run_checks::checked(parameters, offset, basis, challenges, word, store, last);
     match outcome {
@@ -78,8 +78,8 @@ fn judge_checked(
 ) -> Verdict
     ghost run: { Run }
     requires last_value { run_of parameters offset.0 basis.now challenges.now word.now store.now last.now ≡ run }
-    requires queries_value { checksOutcome run queries.now ≡ outcomes.Done }
-    ensures { result ≡ verdictOf run queries.now }
+    requires queries_value { checks_outcome run queries.now ≡ outcomes.Done }
+    ensures { result ≡ verdict_of run queries.now }
 {
     let count = parameters.rounds();
     let table = round_checks::set_up(parameters, basis, challenges);

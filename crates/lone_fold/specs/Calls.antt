@@ -18,39 +18,39 @@ pub record FoldCall : Type 0 where
   pub next : List ℕ
 
 -- what all checks of a call give
-abbrev pub outcomeOfCall : (call : FoldCall) → Outcome
-outcomeOfCall call =
+abbrev pub outcome_of_call : (call : FoldCall) → Outcome
+outcome_of_call call =
     foldOutcome call.k call.step call.basis call.word call.values call.next
 
 -- its answer
-abbrev pub answerOfCall : (call : FoldCall) → Folded
-answerOfCall call =
+abbrev pub answer_of_call : (call : FoldCall) → Folded
+answer_of_call call =
     foldAnswer call.k call.step call.offset call.basis call.word call.values call.next
 
 -- what list 6 holds afterwards
-abbrev pub valuesAfterCall : (call : FoldCall) → List ℕ
-valuesAfterCall call =
+abbrev pub values_after_call : (call : FoldCall) → List ℕ
+values_after_call call =
     foldValuesAfter call.k call.step call.offset call.basis call.word call.challenge call.values
     call.next
 
 -- what list 7 holds afterwards
-abbrev pub nextAfterCall : (call : FoldCall) → List ℕ
-nextAfterCall call =
+abbrev pub next_after_call : (call : FoldCall) → List ℕ
+next_after_call call =
     nextBasisAfter call.k call.step call.basis call.word call.values call.next
 
 -- what a call answers, and what it leaves in the two lent lists
 pub record FoldedBy (call : FoldCall) (folded : Folded) (filled basis : List ℕ) : Type 0 where
-  pub answer : folded ≡ answerOfCall call
-  pub output : filled ≡ valuesAfterCall call
-  pub next : basis ≡ nextAfterCall call
+  pub answer : folded ≡ answer_of_call call
+  pub output : filled ≡ values_after_call call
+  pub next : basis ≡ next_after_call call
 
 -- what holds after the checks
 pub record CallFits (step : ℕ) (basis word values next : List ℕ) : Type 0 where
-  pub step-least : 1 ≤ step
-  pub step-most : step ≤ 3
+  pub step_least : 1 ≤ step
+  pub step_most : step ≤ 3
   pub step_fits : step ≤ length basis
-  pub basis-most : length basis ≤ 20
+  pub basis_most : length basis ≤ 20
   pub independent : Independent basis
   pub word_fits : length word ≡ 2 ^ length basis
-  pub values-fit : length values ≡ 2 ^ (length basis - step)
+  pub values_fit : length values ≡ 2 ^ (length basis - step)
   pub next_fits : length next ≡ length basis - step

@@ -2,7 +2,7 @@
 ghost use Rattle.std.specs.Prelude.{◌≡◌, ◌≤◌, length};
 ghost use Rattle.refusal.specs.Checks.{and_then};
 ghost use Rattle.coset.specs.Answers.{basisOutcome};
-ghost use Rattle.coset.specs.Subspace.{nextOffset, nextBasis};
+ghost use Rattle.coset.specs.Subspace.{next_offset, next_basis};
 ghost use Rattle.fold.specs.Fold.{folded};
 ghost use Rattle.fold.specs.Answers.{foldRangesOutcome, foldLengthsOutcome};
 ghost use Rattle.lone_fold.specs.Calls.{FoldCall, FoldedBy, CallFits};
@@ -57,9 +57,9 @@ fn fold_checked(
     next: &mut [u64],
 ) -> Element
     requires { CallFits step basis.now word.now values.old next.old }
-    ensures answer { result.0 ≡ nextOffset step offset.0 basis.now }
+    ensures answer { result.0 ≡ next_offset step offset.0 basis.now }
     ensures output { values.new ≡ folded step offset.0 basis.now word.now challenge.0 }
-    ensures next { next.new ≡ nextBasis step basis.now }
+    ensures next { next.new ≡ next_basis step basis.now }
 {
     let elements = next_coset::step_elements(basis, step);
     word_fold::fill_values(&elements[..step], offset, basis, word, challenge, values);

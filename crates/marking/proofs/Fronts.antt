@@ -6,15 +6,15 @@ use native.Mathlib.Omega.{arith}
 use native.Mathlib.Nat.{zero-add}
 use lib.ListN.{length, drop}
 use Rattle.placing.specs.Put.{Put}
-use Rattle.sheet_text.specs.Sheet.{inFront}
+use Rattle.sheet_text.specs.Sheet.{in_front}
 use Rattle.sheet_text.proofs.Fronts.{in-front}
 
-pub put-in-front : {held text : List ℕ} {end : ℕ} {left : List ℕ} → Put held 0 text end left → left ≡ inFront text held
-put-in-front {held} {text} put =
+pub put_in_front : {held text : List ℕ} {end : ℕ} {left : List ℕ} → Put held 0 text end left → left ≡ in_front text held
+put_in_front {held} {text} put =
     put.list
     ∙ ap (λ (n : ℕ). text ++ drop n held) (put.ends ∙ zero-add (length text))
     ∙ sym (in-front text held (omega (arith, put.room, put.ends)))
 
-pub nothing-in-front : (text held : List ℕ) → text ≡ [] → held ≡ inFront text held
-nothing-in-front text held e =
-    sym (ap (λ (t : List ℕ). inFront t held) e ∙ in-front [] held (omega arith))
+pub nothing_in_front : (text held : List ℕ) → text ≡ [] → held ≡ in_front text held
+nothing_in_front text held e =
+    sym (ap (λ (t : List ℕ). in_front t held) e ∙ in-front [] held (omega arith))

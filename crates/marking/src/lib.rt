@@ -1,9 +1,9 @@
 // The marking sheet of a transcript, put into a lent list of bytes: a line for every query and every round.
 ghost use Rattle.std.specs.Prelude.{◌≡◌, length};
 ghost use Rattle.refusal.specs.declared.Outcome.TheVariants as outcomes;
-ghost use Rattle.transcript.specs.Checks.{transcriptOutcome};
-ghost use Rattle.sections.specs.Views.{sectionsIn};
-ghost use Rattle.sheet_text.specs.Sheet.{transcriptSheet, sheetOf, inFront};
+ghost use Rattle.transcript.specs.Checks.{transcript_outcome};
+ghost use Rattle.sections.specs.Views.{sections_in};
+ghost use Rattle.sheet_text.specs.Sheet.{transcript_sheet, sheet_of, in_front};
 
 use refusal::Outcome;
 use sections::Sections;
@@ -14,8 +14,8 @@ const LINE_LENGTH: usize = 56;
 // Puts the sheet of a transcript of any length at the front of the list, which keeps what stands behind, and answers
 // its length. A list that has less room is left as it was. A transcript that its sections refuse has no lines.
 pub fn sheet(bytes: &[u8], out: &mut [u8]) -> usize
-    ensures length { result ≡ length (transcriptSheet bytes.now) }
-    ensures list { out.new ≡ inFront (transcriptSheet bytes.now) out.old }
+    ensures length { result ≡ length (transcript_sheet bytes.now) }
+    ensures list { out.new ≡ in_front (transcript_sheet bytes.now) out.old }
 {
     let sections = sections::find(bytes);
     let outcome = layer_sections::checked(bytes, sections);
@@ -27,8 +27,8 @@ pub fn sheet(bytes: &[u8], out: &mut [u8]) -> usize
 
 // What the program `sheet` prints: the same, but nothing over the limit of 65,536 bytes.
 pub fn sheet_input(bytes: &[u8], out: &mut [u8]) -> usize
-    ensures length { result ≡ length (sheetOf bytes.now) }
-    ensures list { out.new ≡ inFront (sheetOf bytes.now) out.old }
+    ensures length { result ≡ length (sheet_of bytes.now) }
+    ensures list { out.new ≡ in_front (sheet_of bytes.now) out.old }
 {
     if bytes.len() > 65536 {
         return 0;
@@ -38,9 +38,9 @@ pub fn sheet_input(bytes: &[u8], out: &mut [u8]) -> usize
 
 // The sheet where all sections pass. Its length is known before any round is computed.
 fn sheet_checked(bytes: &[u8], sections: Sections, out: &mut [u8]) -> usize
-    requires { (sections ≡ sectionsIn bytes.now) × (transcriptOutcome bytes.now ≡ outcomes.Done) }
-    ensures length { result ≡ length (transcriptSheet bytes.now) }
-    ensures list { out.new ≡ inFront (transcriptSheet bytes.now) out.old }
+    requires { (sections ≡ sections_in bytes.now) × (transcript_outcome bytes.now ≡ outcomes.Done) }
+    ensures length { result ≡ length (transcript_sheet bytes.now) }
+    ensures list { out.new ≡ in_front (transcript_sheet bytes.now) out.old }
 {
     let lists = small_lists::read(bytes, sections);
     let length = lists.query_count * lists.rounds * LINE_LENGTH;

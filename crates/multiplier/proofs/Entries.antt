@@ -10,21 +10,21 @@ use lib.Pow.{pow-add}
 use lib.Bits.{bit_xor, xor_shifted, xor_comm}
 use borrow.Author.Count.{below_more}
 use Rattle.gf64.specs.Field.{product}
-use Rattle.gf64.proofs.Xor.{xor-shift}
-use Rattle.gf64.proofs.Ring.{product-add-r, product-zero-r}
+use Rattle.gf64.proofs.Xor.{xor_shift}
+use Rattle.gf64.proofs.Ring.{product-add_r, product-zero_r}
 use Rattle.multiplier.specs.Table.{placed, Filled, Multiples}
-use Rattle.multiplier.proofs.Places.{product-shifted}
+use Rattle.multiplier.proofs.Places.{product_shifted}
 
 -- ---- the polynomial of an entry
 
 place_of : (m n v : ℕ) → v < 16 → m ≡ 16 * n + v → m / 16 ≡ n
 place_of m n v h e = omega arith
 
-digit-of : (m n v : ℕ) → v < 16 → m ≡ 16 * n + v → m % 16 ≡ v
-digit-of m n v h e = omega arith
+digit_of : (m n v : ℕ) → v < 16 → m ≡ 16 * n + v → m % 16 ≡ v
+digit_of m n v h e = omega arith
 
 placed_at : (m n v : ℕ) → v < 16 → m ≡ 16 * n + v → placed m ≡ v * 2 ^ (4 * n)
-placed_at m n v h e = ap₂ (λ (u q : ℕ). u * 2 ^ (4 * q)) (digit-of m n v h e) (place_of m n v h e)
+placed_at m n v h e = ap₂ (λ (u q : ℕ). u * 2 ^ (4 * q)) (digit_of m n v h e) (place_of m n v h e)
 
 -- the sum of the entry of bit k and that of the bits below it
 placed-sum : (at count n k j : ℕ) → at ≡ 16 * n → count ≡ 2 ^ k → count ≤ 8 → j < count
@@ -32,7 +32,7 @@ placed-sum : (at count n k j : ℕ) → at ≡ 16 * n → count ≡ 2 ^ k → co
 placed-sum at count n k j ea ec h l =
     ap₂ bit_xor (placed_at (at + j) n j (omega arith) (omega arith))
     (placed_at (at + count) n count (omega arith) (omega arith))
-    ∙ xor-shift (4 * n) j count
+    ∙ xor_shift (4 * n) j count
     ∙ ap (λ (v : ℕ). v * 2 ^ (4 * n)) (xor_comm j count ∙ joined)
     ∙ sym (placed_at (at + count + j) n (count + j) (omega arith) (omega arith))
   where
@@ -57,40 +57,40 @@ pub filled_zero : (c : ℕ) (t : List ℕ) (at n : ℕ) → at < length t → at
     → Filled c (set t at 0) (at + 1)
 filled_zero c t at n inside e filled =
     filled_next c t at 0 inside filled
-    (sym (product-zero-r c) ∙ ap (product c)
+    (sym (product-zero_r c) ∙ ap (product c)
     (sym (zero-mul (2 ^ (4 * n))) ∙ sym (placed_at at n 0 (omega arith) (omega arith))))
 
-pub from-sum : (c at count n k j x step : ℕ) → at ≡ 16 * n → count ≡ 2 ^ k → count ≤ 8 → j < count
+pub from_sum : (c at count n k j x step : ℕ) → at ≡ 16 * n → count ≡ 2 ^ k → count ≤ 8 → j < count
     → x ≡ product c (placed (at + j)) → step ≡ product c (placed (at + count))
     → bit_xor x step ≡ product c (placed (at + count + j))
-from-sum c at count n k j x step ea ec h l ex es =
-    ap₂ bit_xor ex es ∙ sym (product-add-r c (placed (at + j)) (placed (at + count)))
+from_sum c at count n k j x step ea ec h l ex es =
+    ap₂ bit_xor ex es ∙ sym (product-add_r c (placed (at + j)) (placed (at + count)))
     ∙ ap (product c) (placed-sum at count n k j ea ec h l)
 
 -- ---- the rows of a block
 
 -- the step b · t^k is entry at + 2^k
-pub step-at : (c at n k b step : ℕ) → at ≡ 16 * n → 2 ^ k < 16 → b ≡ product c (2 ^ (4 * n))
+pub step_at : (c at n k b step : ℕ) → at ≡ 16 * n → 2 ^ k < 16 → b ≡ product c (2 ^ (4 * n))
     → step ≡ product b (2 ^ k) → step ≡ product c (placed (at + 2 ^ k))
-step-at c at n k b step ea h eb es =
-    es ∙ ap (λ (x : ℕ). product x (2 ^ k)) eb ∙ product-shifted c (2 ^ (4 * n)) k
+step_at c at n k b step ea h eb es =
+    es ∙ ap (λ (x : ℕ). product x (2 ^ k)) eb ∙ product_shifted c (2 ^ (4 * n)) k
     ∙ ap (product c)
     (mul_comm (2 ^ (4 * n)) (2 ^ k) ∙ sym (placed_at (at + 2 ^ k) n (2 ^ k) h (ap (λ (x : ℕ). x + 2 ^ k) ea)))
 
-pub next-step : (b k step next : ℕ) → step ≡ product b (2 ^ k) → next ≡ product step (2 ^ 1)
+pub next_step : (b k step next : ℕ) → step ≡ product b (2 ^ k) → next ≡ product step (2 ^ 1)
     → next ≡ product b (2 ^ k * 2 ^ 1)
-next-step b k step next es en = en ∙ ap (λ (x : ℕ). product x (2 ^ 1)) es ∙ product-shifted b (2 ^ k) 1
+next_step b k step next es en = en ∙ ap (λ (x : ℕ). product x (2 ^ 1)) es ∙ product_shifted b (2 ^ k) 1
 
 -- ---- all entries
 
 pub next_place : (c n b next : ℕ) → b ≡ product c (2 ^ (4 * n)) → next ≡ product b (2 ^ 4)
     → next ≡ product c (2 ^ (4 * (n + 1)))
 next_place c n b next eb en =
-    en ∙ ap (λ (x : ℕ). product x (2 ^ 4)) eb ∙ product-shifted c (2 ^ (4 * n)) 4
+    en ∙ ap (λ (x : ℕ). product x (2 ^ 4)) eb ∙ product_shifted c (2 ^ (4 * n)) 4
     ∙ ap (product c) (sym (pow-add 2 (4 * n) 4) ∙ ap (λ (k : ℕ). 2 ^ k) (sym (mul-add 4 n 1)))
 
-pub filled-all : (c : ℕ) (t : List ℕ) → Filled c t 64 → Multiples c t
-filled-all c t filled =
+pub filled_all : (c : ℕ) (t : List ℕ) → Filled c t 64 → Multiples c t
+filled_all c t filled =
     record {
       at = λ n v hn hv.
           filled (16 * n + v) (omega arith)

@@ -8,29 +8,29 @@ use lib.ListN.{length, get_or, take, drop, length-drop, length-append}
 use lib.Seq.{drop-cons, drop-length, take-length, take-suc, take_at, drop_at, length-take-le}
 use borrow.Rule.Slice.PartMut.{mid_of, put_mid}
 use Rattle.poly.specs.Carrier.{gf64}
-use Rattle.poly.specs.Newton.{hornerStep, expanded}
-use Rattle.poly.proofs.Parts.{mid-suffix, put-suffix}
+use Rattle.poly.specs.Newton.{horner_step, expanded}
+use Rattle.poly.proofs.Parts.{mid_suffix, put_suffix}
 use Rattle.poly.proofs.Newton.{length-expanded}
 
 -- the first i coefficients of the form, and those from i on expanded
-unfoldable pub expandedFrom : List ℕ → List ℕ → ℕ → List ℕ
-expandedFrom points cs i = take i cs ++ expanded gf64 (drop i points) (drop i cs)
+unfoldable pub expanded_from : List ℕ → List ℕ → ℕ → List ℕ
+expanded_from points cs i = take i cs ++ expanded gf64 (drop i points) (drop i cs)
 
-pub expanded-start : (points cs : List ℕ) → length points ≡ length cs → cs ≡ expandedFrom points cs (length cs)
-unfolding expandedFrom expanded
-expanded-start points cs h =
+pub expanded_start : (points cs : List ℕ) → length points ≡ length cs → cs ≡ expanded_from points cs (length cs)
+unfolding expanded_from expanded
+expanded_start points cs h =
     sym
     (ap₂ (λ (a b : List ℕ). take (length cs) cs ++ expanded gf64 a b)
     (ap (λ (n : ℕ). drop n points) (sym h) ∙ drop-length points) (drop-length cs)
     ∙ append-nil (take (length cs) cs) ∙ take-length cs)
 
 module _ (points cs now : List ℕ) (j : ℕ) (same : length points ≡ length cs) (inside : j < length cs)
-    (inv : now ≡ expandedFrom points cs (suc j)) where
+    (inv : now ≡ expanded_from points cs (suc j)) where
   rest : List ℕ
   rest = expanded gf64 (drop (suc j) points) (drop (suc j) cs)
 
   parted : now ≡ take j cs ++ get_or cs j 0 ∷ rest
-  unfolding expandedFrom rest
+  unfolding expanded_from rest
   parted =
       inv ∙ ap (λ (l : List ℕ). l ++ expanded gf64 (drop (suc j) points) (drop (suc j) cs)) (take-suc cs j 0 inside)
       ∙ append_assoc (take j cs) (get_or cs j 0 ∷ []) (expanded gf64 (drop (suc j) points) (drop (suc j) cs))
@@ -41,50 +41,50 @@ module _ (points cs now : List ℕ) (j : ℕ) (same : length points ≡ length c
   back : drop j now ≡ get_or cs j 0 ∷ rest
   back = ap (drop j) parted ∙ drop_at (take j cs) (get_or cs j 0 ∷ rest) j (length-take-le j cs (le_of_lt inside))
 
-  from-here : (x : ℕ) → x ≡ get_or points j 0
-      → hornerStep gf64 x (get_or cs j 0 ∷ rest) ≡ expanded gf64 (drop j points) (drop j cs)
+  from_here : (x : ℕ) → x ≡ get_or points j 0
+      → horner_step gf64 x (get_or cs j 0 ∷ rest) ≡ expanded gf64 (drop j points) (drop j cs)
   unfolding expanded rest
-  from-here x at =
-      ap (λ (z : ℕ). hornerStep gf64 z (get_or cs j 0 ∷ expanded gf64 (drop (suc j) points) (drop (suc j) cs))) at
+  from_here x at =
+      ap (λ (z : ℕ). horner_step gf64 z (get_or cs j 0 ∷ expanded gf64 (drop (suc j) points) (drop (suc j) cs))) at
       ∙ sym (ap₂ (expanded gf64) (drop-cons points j 0 (omega arith)) (drop-cons cs j 0 inside))
 
-  now-length : j ≤ length now
-  now-length =
+  now_length : j ≤ length now
+  now_length =
       subst (λ (n : ℕ). j ≤ n)
       (sym (ap length parted ∙ length-append (take j cs) (get_or cs j 0 ∷ rest)))
       (omega (arith, length-take-le j cs (le_of_lt inside)))
 
   expanded-suc : (x : ℕ) (changed : List ℕ) → x ≡ get_or points j 0
-      → changed ≡ hornerStep gf64 x (mid_of j (length now - j) now)
-      → put_mid j (length now - j) now changed ≡ expandedFrom points cs j
-  unfolding expandedFrom
+      → changed ≡ horner_step gf64 x (mid_of j (length now - j) now)
+      → put_mid j (length now - j) now changed ≡ expanded_from points cs j
+  unfolding expanded_from
   expanded-suc x changed at e =
-      put-suffix j now changed now-length
-      ∙ ap₂ ◌++◌ front (e ∙ ap (hornerStep gf64 x) (mid-suffix j now ∙ back) ∙ from-here x at)
+      put_suffix j now changed now_length
+      ∙ ap₂ ◌++◌ front (e ∙ ap (horner_step gf64 x) (mid_suffix j now ∙ back) ∙ from_here x at)
 
 -- the point before joins
-pub expanded-next : (points cs now : List ℕ) (i x : ℕ) (changed : List ℕ) → length points ≡ length cs → 0 < i
+pub expanded_next : (points cs now : List ℕ) (i x : ℕ) (changed : List ℕ) → length points ≡ length cs → 0 < i
     → i ≤ length cs
-    → now ≡ expandedFrom points cs i → x ≡ get_or points (i - 1) 0
-    → changed ≡ hornerStep gf64 x (mid_of (i - 1) (length now - (i - 1)) now)
-    → put_mid (i - 1) (length now - (i - 1)) now changed ≡ expandedFrom points cs (i - 1)
-expanded-next points cs now i x changed same pos h inv at e = by (i - 1) (omega arith) at e
+    → now ≡ expanded_from points cs i → x ≡ get_or points (i - 1) 0
+    → changed ≡ horner_step gf64 x (mid_of (i - 1) (length now - (i - 1)) now)
+    → put_mid (i - 1) (length now - (i - 1)) now changed ≡ expanded_from points cs (i - 1)
+expanded_next points cs now i x changed same pos h inv at e = by (i - 1) (omega arith) at e
   where
-    by : (j : ℕ) → suc j ≡ i → x ≡ get_or points j 0 → changed ≡ hornerStep gf64 x (mid_of j (length now - j) now)
-        → put_mid j (length now - j) now changed ≡ expandedFrom points cs j
+    by : (j : ℕ) → suc j ≡ i → x ≡ get_or points j 0 → changed ≡ horner_step gf64 x (mid_of j (length now - j) now)
+        → put_mid j (length now - j) now changed ≡ expanded_from points cs j
     by j s at e =
-        expanded-suc points cs now j same (omega arith) (inv ∙ ap (expandedFrom points cs) (sym s)) x changed at e
+        expanded-suc points cs now j same (omega arith) (inv ∙ ap (expanded_from points cs) (sym s)) x changed at e
 
-pub expanded-end : (points cs now : List ℕ) (i : ℕ) → i ≤ 0 → now ≡ expandedFrom points cs i
+pub expanded_end : (points cs now : List ℕ) (i : ℕ) → i ≤ 0 → now ≡ expanded_from points cs i
     → now ≡ expanded gf64 points cs
-unfolding expandedFrom
-expanded-end points cs now zero h inv = inv
-expanded-end points cs now (suc i) h inv = absurd (omega arith)
+unfolding expanded_from
+expanded_end points cs now zero h inv = inv
+expanded_end points cs now (suc i) h inv = absurd (omega arith)
 
-pub length-expandedFrom : (points cs : List ℕ) (i : ℕ) → length points ≡ length cs → i ≤ length cs
-    → length (expandedFrom points cs i) ≡ length cs
-unfolding expandedFrom
-length-expandedFrom points cs i same h =
+pub length_expanded_from : (points cs : List ℕ) (i : ℕ) → length points ≡ length cs → i ≤ length cs
+    → length (expanded_from points cs i) ≡ length cs
+unfolding expanded_from
+length_expanded_from points cs i same h =
     length-append (take i cs) (expanded gf64 (drop i points) (drop i cs))
     ∙ omega (
       arith,

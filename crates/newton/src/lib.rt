@@ -2,7 +2,7 @@
 ghost use Rattle.std.specs.Prelude.{◌≡◌, ◌≢◌, ◌^◌, ◌≤◌, length, take};
 ghost use Rattle.poly.specs.Carrier.{gf64};
 ghost use Rattle.poly.specs.Polynomial.{All};
-ghost use Rattle.poly.specs.Newton.{newtonCoefficient, newtonCoefficients, hornerStep, expanded};
+ghost use Rattle.poly.specs.Newton.{newton_coefficient, newton_coefficients, horner_step, expanded};
 ghost use Rattle.coset.specs.Coset.{points};
 ghost use Rattle.coset.specs.Span.{Independent};
 ghost use Rattle.reed_solomon.specs.Codes.{interpolated};
@@ -24,7 +24,7 @@ fn fill_newton(offset: Element, basis: &[u64], coefficients: &mut [u64])
     requires { (length basis.now ≤ 12) × Independent basis.now
         × (length coefficients.old ≡ 2 ^ length basis.now) }
     ensures { let all = points offset.0 basis.now in
-        coefficients.new ≡ newtonCoefficients gf64 all coefficients.old }
+        coefficients.new ≡ newton_coefficients gf64 all coefficients.old }
 {
     let mut i: usize = 0;
     while i < coefficients.len() {
@@ -47,7 +47,7 @@ fn newton_coefficient(
     requires { (length basis.now ≤ 12) × (length known.now ≤ 2 ^ length basis.now)
         × All (λ x. z.0 ≢ x) (take (length known.now) (points offset.0 basis.now)) }
     ensures { let passed = take (length known.now) (points offset.0 basis.now) in
-        result.0 ≡ newtonCoefficient gf64 passed known.now z.0 y.0 }
+        result.0 ≡ newton_coefficient gf64 passed known.now z.0 y.0 }
 {
     let sums = points::prefix_sums(basis);
     let mut value = Element::ZERO;
@@ -79,7 +79,7 @@ fn expand(offset: Element, basis: &[u64], coefficients: &mut [u64])
 
 // The coefficients c, p become those of c + (X - x) · p.
 fn join(coefficients: &mut [u64], x: Element)
-    ensures { coefficients.new ≡ hornerStep gf64 x.0 coefficients.old }
+    ensures { coefficients.new ≡ horner_step gf64 x.0 coefficients.old }
 {
     let mut next: usize = 1;
     while next < coefficients.len() {

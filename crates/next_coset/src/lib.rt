@@ -2,14 +2,14 @@
 ghost use Rattle.std.specs.Prelude.{◌≡◌, map, ◌++◌, ◌≤◌, length, drop};
 ghost use Rattle.poly.specs.Carrier.{gf64};
 ghost use Rattle.poly.specs.Polynomial.{padded};
-ghost use Rattle.coset.specs.Subspace.{nextBasis};
-ghost use Rattle.coset.specs.Steps.{composedMaps, stepElements};
+ghost use Rattle.coset.specs.Subspace.{next_basis};
+ghost use Rattle.coset.specs.Steps.{composed_maps, step_elements};
 
 use field::Element;
 
 // X · (X - e) for each of the elements, one after the other.
 pub fn composed_maps(elements: &[u64], x: Element) -> Element
-    ensures { result.0 ≡ composedMaps elements.now x.0 }
+    ensures { result.0 ≡ composed_maps elements.now x.0 }
 {
     let mut y = x;
     let mut i: usize = 0;
@@ -26,7 +26,7 @@ pub fn composed_maps(elements: &[u64], x: Element) -> Element
 pub fn fill_elements(basis: &[u64], elements: &mut [u64])
     requires { length basis.now ≤ length elements.old }
     ensures { let k = length basis.now in
-        elements.new ≡ stepElements k basis.now ++ drop k elements.old }
+        elements.new ≡ step_elements k basis.now ++ drop k elements.old }
 {
     let mut t: usize = 0;
     while t < basis.len() {
@@ -39,7 +39,7 @@ pub fn fill_elements(basis: &[u64], elements: &mut [u64])
 // Those of a step, and zeros.
 pub fn step_elements(basis: &[u64], step: usize) -> [u64; 3]
     requires { (step ≤ 3) × (step ≤ length basis.now) }
-    ensures { result ≡ padded gf64 3 (stepElements step basis.now) }
+    ensures { result ≡ padded gf64 3 (step_elements step basis.now) }
 {
     let mut elements = [0u64; 3];
     fill_elements(&basis[..step], &mut elements);
@@ -49,7 +49,7 @@ pub fn step_elements(basis: &[u64], step: usize) -> [u64; 3]
 // The image of each number under the maps, into the front of a list.
 pub fn fill_images(elements: &[u64], xs: &[u64], images: &mut [u64])
     requires { length xs.now ≤ length images.old }
-    ensures { let front = map (composedMaps elements.now) xs.now in
+    ensures { let front = map (composed_maps elements.now) xs.now in
         images.new ≡ front ++ drop (length xs.now) images.old }
 {
     let mut i: usize = 0;
@@ -63,7 +63,7 @@ pub fn fill_images(elements: &[u64], xs: &[u64], images: &mut [u64])
 // The basis of the next coset, and zeros.
 pub fn next_basis(basis: &[u64], step: usize) -> [u64; 20]
     requires { (step ≤ 3) × (step ≤ length basis.now) × (length basis.now ≤ 20) }
-    ensures { result ≡ padded gf64 20 (nextBasis step basis.now) }
+    ensures { result ≡ padded gf64 20 (next_basis step basis.now) }
 {
     let elements = step_elements(basis, step);
     let mut next = [0u64; 20];

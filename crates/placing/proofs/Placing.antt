@@ -20,11 +20,11 @@ module _ {held : List ℕ} {at : ℕ} {text : List ℕ} {end : ℕ} {left : List
   pub take_put : take end left ≡ take at held ++ text
   take_put = ap (take end) put.list ∙ take_at (take at held ++ text) (drop end held) end length_before
 
-  pub drop-put : drop end left ≡ drop end held
-  drop-put = ap (drop end) put.list ∙ drop_at (take at held ++ text) (drop end held) end length_before
+  pub drop_put : drop end left ≡ drop end held
+  drop_put = ap (drop end) put.list ∙ drop_at (take at held ++ text) (drop end held) end length_before
 
-  pub length-put : length left ≡ length held
-  length-put =
+  pub length_put : length left ≡ length held
+  length_put =
       let r = put.room in
       ap length put.list ∙ length-append (take at held ++ text) (drop end held)
       ∙ omega (arith, length_before, length-drop end held)
@@ -34,28 +34,28 @@ later l m end h =
     let e : end ≡ m + (end - m) = omega arith in
     ap (λ (n : ℕ). drop n l) e ∙ sym (drop-drop (end - m) m l)
 
-pub put-append : {held mid left s t : List ℕ} {at m end : ℕ}
+pub put_append : {held mid left s t : List ℕ} {at m end : ℕ}
     → Put held at s m mid → Put mid m t end left → Put held at (s ++ t) end left
-put-append {held} {mid} {left} {s} {t} {at} {m} {end} p q =
+put_append {held} {mid} {left} {s} {t} {at} {m} {end} p q =
     record {
       list =
           q.list ∙ ap₂ (λ (a d : List ℕ). a ++ t ++ d) (take_put p) rest
           ∙ ap {B = List ℕ} (λ l. l ++ drop end held) (append_assoc (take at held) s t);
       ends = let e = p.ends in let f = q.ends in omega (arith, length-append s t);
-      room = let r = q.room in omega (arith, length-put p);
+      room = let r = q.room in omega (arith, length_put p);
     }
   where
     onward : m ≤ end
     onward = let f = q.ends in omega arith
 
     rest : drop end mid ≡ drop end held
-    rest = later mid m end onward ∙ ap (drop (end - m)) (drop-put p) ∙ sym (later held m end onward)
+    rest = later mid m end onward ∙ ap (drop (end - m)) (drop_put p) ∙ sym (later held m end onward)
 
 pub put_same : {held left s t : List ℕ} {at end : ℕ} → Put held at s end left → s ≡ t → Put held at t end left
 put_same {held} {left} {at = at} {end = end} p e = subst (λ (text : List ℕ). Put held at text end left) e p
 
-pub put-nothing : (held : List ℕ) (at : ℕ) → at ≤ length held → Put held at [] at held
-put-nothing held at h =
+pub put_nothing : (held : List ℕ) (at : ℕ) → at ≤ length held → Put held at [] at held
+put_nothing held at h =
     record {
       list =
           sym
@@ -83,9 +83,9 @@ pasted held text at i e l room =
 unfoldable pub filled : (held text : List ℕ) (at i : ℕ) → List ℕ
 filled held text at i = take (at + i) held ++ (drop i text ++ drop (at + length text) held)
 
-pub filled-start : (held text : List ℕ) (at i : ℕ) → length text ≡ i → held ≡ filled held text at i
+pub filled_start : (held text : List ℕ) (at i : ℕ) → length text ≡ i → held ≡ filled held text at i
 unfolding filled
-filled-start held text at i e =
+filled_start held text at i e =
     sym
     (ap (λ (n : ℕ). take (at + n) held ++ (drop n text ++ drop (at + length text) held)) (sym e)
     ∙ ap (λ (s : List ℕ). take (at + length text) held ++ (s ++ drop (at + length text) held)) (drop-length text)
@@ -112,11 +112,11 @@ filled_next held text at i v h room e =
     more : at + suc i ≡ suc (at + i)
     more = omega arith
 
-pub filled-end : {left : List ℕ} (held text : List ℕ) (at width i : ℕ)
+pub filled_end : {left : List ℕ} (held text : List ℕ) (at width i : ℕ)
     → left ≡ filled held text at i → i ≡ 0 → length text ≡ width
     → at + width ≤ length held → Put held at text (at + width) left
 unfolding filled
-filled-end held text at width i e none l room =
+filled_end held text at width i e none l room =
     record {
       list =
           e ∙ ap (λ (n : ℕ). take (at + n) held ++ (drop n text ++ drop (at + length text) held)) none
@@ -128,19 +128,19 @@ filled-end held text at width i e none l room =
 
 -- ---- a text at the front of zeros
 
-drop-zeros : (m n : ℕ) → drop m (replicate {A = ℕ} n 0) ≡ replicate (n - m) 0
-drop-zeros zero n = let same : n ≡ n - 0 = omega arith in ap (λ (x : ℕ). replicate x 0) same
-drop-zeros (suc m) zero = let none : 0 ≡ 0 - suc m = omega arith in ap (λ (x : ℕ). replicate x 0) none
-drop-zeros (suc m) (suc n) =
+drop_zeros : (m n : ℕ) → drop m (replicate {A = ℕ} n 0) ≡ replicate (n - m) 0
+drop_zeros zero n = let same : n ≡ n - 0 = omega arith in ap (λ (x : ℕ). replicate x 0) same
+drop_zeros (suc m) zero = let none : 0 ≡ 0 - suc m = omega arith in ap (λ (x : ℕ). replicate x 0) none
+drop_zeros (suc m) (suc n) =
     let same : n - m ≡ suc n - suc m = omega arith in
-    drop-zeros m n ∙ ap (λ (x : ℕ). replicate x 0) same
+    drop_zeros m n ∙ ap (λ (x : ℕ). replicate x 0) same
 
-pub text_in-front : {held text : List ℕ} {end : ℕ} {left : List ℕ} → Put held 0 text end left → take end left ≡ text
-text_in-front put = take_put put
+pub text_in_front : {held text : List ℕ} {end : ℕ} {left : List ℕ} → Put held 0 text end left → take end left ≡ text
+text_in_front put = take_put put
 
-pub zeros-after : (size : ℕ) {text : List ℕ} {end : ℕ} {left : List ℕ} → Put (replicate size 0) 0 text end left
+pub zeros_after : (size : ℕ) {text : List ℕ} {end : ℕ} {left : List ℕ} → Put (replicate size 0) 0 text end left
     → drop end left ≡ replicate (size - end) 0
-zeros-after size {end = end} put = drop-put put ∙ drop-zeros end size
+zeros_after size {end = end} put = drop_put put ∙ drop_zeros end size
 
 -- its bytes are among those of the list
 pub within : {held text : List ℕ} {at end : ℕ} {left : List ℕ}
@@ -148,4 +148,4 @@ pub within : {held text : List ℕ} {at end : ℕ} {left : List ℕ}
 within {end = end} {left = left} put = (inside, sym (length-take-le end left inside))
   where
     inside : end ≤ length left
-    inside = let r = put.room in omega (arith, length-put put)
+    inside = let r = put.room in omega (arith, length_put put)

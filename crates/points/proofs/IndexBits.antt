@@ -11,24 +11,24 @@ use lib.ListN.{length, get_or, drop, drop_of_length-le}
 use lib.Seq.{drop-cons}
 use lib.Bits.{bit_xor}
 use Rattle.coset.specs.Coset.{point}
-use Rattle.coset.proofs.Dependence.{point-moved}
+use Rattle.coset.proofs.Dependence.{point_moved}
 
 point-cons : (p b : ℕ) (basis : List ℕ) (j : ℕ) → bit_xor (j % 2 * b) (point p basis (j / 2)) ≡ point p (b ∷ basis) j
 unfolding point
 point-cons p b basis j = refl
 
-from-here : (p : ℕ) (basis : List ℕ) (t j : ℕ) → t < length basis
+from_here : (p : ℕ) (basis : List ℕ) (t j : ℕ) → t < length basis
     → point p (get_or basis t 0 ∷ drop (t + 1) basis) j ≡ point p (drop t basis) j
-from-here p basis t j h =
+from_here p basis t j h =
     ap (λ (l : List ℕ). point p l j)
     (ap (λ (n : ℕ). get_or basis t 0 ∷ drop n basis) (add-one t) ∙ sym (drop-cons basis t 0 h))
 
-pub bit-set : (p : ℕ) (basis : List ℕ) (t j : ℕ) → t < length basis → j % 2 ≡ 1
+pub bit_set : (p : ℕ) (basis : List ℕ) (t j : ℕ) → t < length basis → j % 2 ≡ 1
     → point (bit_xor p (get_or basis t 0)) (drop (t + 1) basis) (j / 2) ≡ point p (drop t basis) j
-bit-set p basis t j h odd =
-    point-moved p b rest (j / 2)
+bit_set p basis t j h odd =
+    point_moved p b rest (j / 2)
     ∙ ap (λ (s : ℕ). bit_xor s (point p rest (j / 2))) (sym (ap (λ (r : ℕ). r * b) odd ∙ one-mul b))
-    ∙ point-cons p b rest j ∙ from-here p basis t j h
+    ∙ point-cons p b rest j ∙ from_here p basis t j h
   where
     b : ℕ
     b = get_or basis t 0
@@ -36,11 +36,11 @@ bit-set p basis t j h odd =
     rest : List ℕ
     rest = drop (t + 1) basis
 
-pub bit-clear : (p : ℕ) (basis : List ℕ) (t j : ℕ) → t < length basis → j % 2 ≢ 1
+pub bit_clear : (p : ℕ) (basis : List ℕ) (t j : ℕ) → t < length basis → j % 2 ≢ 1
     → point p (drop (t + 1) basis) (j / 2) ≡ point p (drop t basis) j
-bit-clear p basis t j h even =
+bit_clear p basis t j h even =
     ap (λ (s : ℕ). bit_xor s (point p rest (j / 2))) (sym (ap (λ (r : ℕ). r * b) zero_bit ∙ zero-mul b))
-    ∙ point-cons p b rest j ∙ from-here p basis t j h
+    ∙ point-cons p b rest j ∙ from_here p basis t j h
   where
     b : ℕ
     b = get_or basis t 0
@@ -51,6 +51,6 @@ bit-clear p basis t j h even =
     zero_bit : j % 2 ≡ 0
     zero_bit = omega arith
 
-pub bits-end : (p : ℕ) (basis : List ℕ) (t j : ℕ) → length basis ≤ t → p ≡ point p (drop t basis) j
+pub bits_end : (p : ℕ) (basis : List ℕ) (t j : ℕ) → length basis ≤ t → p ≡ point p (drop t basis) j
 unfolding point
-bits-end p basis t j h = ap (λ (l : List ℕ). point p l j) (sym (drop_of_length-le basis h))
+bits_end p basis t j h = ap (λ (l : List ℕ). point p l j) (sym (drop_of_length-le basis h))

@@ -5,7 +5,7 @@ ghost use Rattle.gf64.specs.Field.{sum};
 ghost use Rattle.poly.specs.Carrier.{gf64};
 ghost use Rattle.poly.specs.Polynomial.{padded};
 ghost use Rattle.coset.specs.Coset.{point};
-ghost use Rattle.coset.specs.Sequence.{prefixSums};
+ghost use Rattle.coset.specs.Sequence.{prefix_sums};
 
 use field::Element;
 
@@ -29,7 +29,7 @@ pub fn point(offset: Element, basis: &[u64], j: usize) -> Element
 // The sums of the first one, two, .. elements of a basis of at most 20, and zeros: `stepped` goes from point to point
 // by them.
 pub fn prefix_sums(basis: &[u64]) -> [u64; 20]
-    ensures { result ≡ padded gf64 20 (prefixSums 0 (take 20 basis.now)) }
+    ensures { result ≡ padded gf64 20 (prefix_sums 0 (take 20 basis.now)) }
 {
     let count = poly::lesser(basis.len(), 20);
     let mut sums = [0u64; 20];

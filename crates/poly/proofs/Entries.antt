@@ -42,10 +42,10 @@ module _ {A : Type 0} (P : A → Type 0) where
   all_get_d (x ∷ xs) zero a h all = all.0
   all_get_d (x ∷ xs) (suc i) a h all = all_get_d xs i a h all.1
 
-  pub all-at : (xs : List A) (i : ℕ) (a : A) → All P xs → i < length xs → P (get_or xs i a)
-  all-at [] i a all h = absurd (omega arith)
-  all-at (x ∷ xs) zero a all h = all.0
-  all-at (x ∷ xs) (suc i) a all h = all-at xs i a all.1 (omega arith)
+  pub all_at : (xs : List A) (i : ℕ) (a : A) → All P xs → i < length xs → P (get_or xs i a)
+  all_at [] i a all h = absurd (omega arith)
+  all_at (x ∷ xs) zero a all h = all.0
+  all_at (x ∷ xs) (suc i) a all h = all_at xs i a all.1 (omega arith)
 
 -- from one predicate to another
 pub all_map : {A B : Type 0} (P : A → Type 0) (Q : B → Type 0) (f : A → B) → ((a : A) → P a → Q (f a)) → (xs : List A)
@@ -54,9 +54,9 @@ all_map P Q f h [] a = record {}
 all_map P Q f h (x ∷ xs) a = (h x a.0, all_map P Q f h xs a.1)
 
 -- two maps that agree on every entry
-pub map-agree : {A B : Type 0} (f g : A → B) (xs : List A) → All (λ x. f x ≡ g x) xs → map f xs ≡ map g xs
-map-agree f g [] h = refl
-map-agree {A = A} {B = B} f g (x ∷ xs) h = ap₂ (λ (b : B) (l : List B). b ∷ l) h.0 (map-agree f g xs h.1)
+pub map_agree : {A B : Type 0} (f g : A → B) (xs : List A) → All (λ x. f x ≡ g x) xs → map f xs ≡ map g xs
+map_agree f g [] h = refl
+map_agree {A = A} {B = B} f g (x ∷ xs) h = ap₂ (λ (b : B) (l : List B). b ∷ l) h.0 (map_agree f g xs h.1)
 
 pub map-take : {A B : Type 0} (f : A → B) (n : ℕ) (xs : List A) → map f (take n xs) ≡ take n (map f xs)
 map-take f zero xs = refl
@@ -68,15 +68,15 @@ map-drop f zero xs = refl
 map-drop f (suc n) [] = refl
 map-drop f (suc n) (x ∷ xs) = map-drop f n xs
 
-pub getD-replicated : {A : Type 0} (n i : ℕ) (a : A) → get_or (replicate n a) i a ≡ a
-getD-replicated zero i a = refl
-getD-replicated (suc n) zero a = refl
-getD-replicated (suc n) (suc i) a = getD-replicated n i a
+pub get_or_replicated : {A : Type 0} (n i : ℕ) (a : A) → get_or (replicate n a) i a ≡ a
+get_or_replicated zero i a = refl
+get_or_replicated (suc n) zero a = refl
+get_or_replicated (suc n) (suc i) a = get_or_replicated n i a
 
 -- what is made of the first n entries is what is made of all, where there are no more
-pub of-first : {A B : Type 0} (f : List A → B) (n : ℕ) (xs : List A) → (n < length xs → f (take n xs) ≡ f xs)
+pub of_first : {A B : Type 0} (f : List A → B) (n : ℕ) (xs : List A) → (n < length xs → f (take n xs) ≡ f xs)
     → f (take n xs) ≡ f xs
-of-first f n xs longer = by (leb (length xs) n) refl
+of_first f n xs longer = by (leb (length xs) n) refl
   where
     by : (test : Bool) → leb (length xs) n ≡ test → f (take n xs) ≡ f xs
     by true e = ap f (take_all n xs (leb-true (length xs) n e))

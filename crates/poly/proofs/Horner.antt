@@ -9,23 +9,23 @@ use Rattle.gf64.specs.Field.{sum, product}
 use Rattle.poly.specs.Carrier.{gf64}
 use Rattle.poly.specs.Polynomial.{evaluate}
 
-pub horner-end : (p : List ℕ) (x : ℕ) → 0 ≡ evaluate gf64 (drop (length p) p) x
+pub horner_end : (p : List ℕ) (x : ℕ) → 0 ≡ evaluate gf64 (drop (length p) p) x
 unfolding evaluate
-horner-end p x = ap (λ (q : List ℕ). evaluate gf64 q x) (sym (drop-length p))
+horner_end p x = ap (λ (q : List ℕ). evaluate gf64 q x) (sym (drop-length p))
 
-horner-at : (p : List ℕ) (i x v : ℕ) → i < length p → v ≡ evaluate gf64 (drop (suc i) p) x
+horner_at : (p : List ℕ) (i x v : ℕ) → i < length p → v ≡ evaluate gf64 (drop (suc i) p) x
     → sum (get_or p i 0) (product x v) ≡ evaluate gf64 (drop i p) x
 unfolding evaluate
-horner-at p i x v l e =
+horner_at p i x v l e =
     ap (λ (s : ℕ). sum (get_or p i 0) (product x s)) e ∙ ap (λ (q : List ℕ). evaluate gf64 q x) (sym (drop-cons p i 0 l))
 
-pub horner-step : (p : List ℕ) (i x v : ℕ) → 0 < i → i ≤ length p → v ≡ evaluate gf64 (drop i p) x
+pub horner_step : (p : List ℕ) (i x v : ℕ) → 0 < i → i ≤ length p → v ≡ evaluate gf64 (drop i p) x
     → sum (get_or p (i - 1) 0) (product x v) ≡ evaluate gf64 (drop (i - 1) p) x
-horner-step p i x v h l e = at (i - 1) (omega arith)
+horner_step p i x v h l e = at (i - 1) (omega arith)
   where
     at : (j : ℕ) → suc j ≡ i → sum (get_or p j 0) (product x v) ≡ evaluate gf64 (drop j p) x
-    at j s = horner-at p j x v (omega arith) (e ∙ ap (λ (k : ℕ). evaluate gf64 (drop k p) x) (sym s))
+    at j s = horner_at p j x v (omega arith) (e ∙ ap (λ (k : ℕ). evaluate gf64 (drop k p) x) (sym s))
 
-pub horner-start : (p : List ℕ) (i x v : ℕ) → i ≤ 0 → v ≡ evaluate gf64 (drop i p) x → v ≡ evaluate gf64 p x
-horner-start p zero x v h e = e
-horner-start p (suc i) x v h e = absurd (omega arith)
+pub horner_start : (p : List ℕ) (i x v : ℕ) → i ≤ 0 → v ≡ evaluate gf64 (drop i p) x → v ≡ evaluate gf64 p x
+horner_start p zero x v h e = e
+horner_start p (suc i) x v h e = absurd (omega arith)

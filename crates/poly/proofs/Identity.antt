@@ -7,12 +7,12 @@ use native.Mathlib.Nat.{zero-mul}
 use lib.ListN.{length, drop, get_or}
 use Rattle.poly.specs.Carrier.{Operations, Laws}
 use Rattle.poly.specs.Polynomial.{All, Zeros, DegreeBelow, plus, scale}
-use Rattle.poly.specs.Rows.{monic, butLast, last, remainderBy, quotientBy, rows, times, composed}
-use Rattle.poly.proofs.Sums.{sum-zero-r, sum-cancel, product-zero-l, product-zero-r}
+use Rattle.poly.specs.Rows.{monic, but_last, last, remainder_by, quotient_by, rows, times, composed}
+use Rattle.poly.proofs.Sums.{sum-zero_r, sum_cancel, product-zero_l, product-zero_r}
 use Rattle.poly.proofs.Division.{length-remainder, last-element, remainder-elements}
-use Rattle.poly.proofs.Division.{quotient-elements, quotient-degree}
+use Rattle.poly.proofs.Division.{quotient_elements, quotient_degree}
 use Rattle.poly.proofs.Rows.{one_more}
-use Rattle.poly.proofs.Entries.{getD-replicated}
+use Rattle.poly.proofs.Entries.{get_or_replicated}
 
 module _ {A : Type 0} (F : Operations A) (Element : A → Type 0) (L : Laws A F Element) where
   open F use {zero as 𝟘, one as 𝟙, sum as ◌⊕◌, product as ◌⊗◌}
@@ -25,28 +25,28 @@ module _ {A : Type 0} (F : Operations A) (Element : A → Type 0) (L : Laws A F 
 
   -- ---- coefficients of sums, multiples and products
 
-  at-plus : (p q : List A) (i : ℕ) → at (plus F p q) i ≡ at p i ⊕ at q i
+  at_plus : (p q : List A) (i : ℕ) → at (plus F p q) i ≡ at p i ⊕ at q i
   unfolding plus
-  at-plus [] q i = sym (L.sum-zero (at q i))
-  at-plus (c ∷ p) [] i = sym (sum-zero-r F Element L (at (c ∷ p) i))
-  at-plus (c ∷ p) (d ∷ q) zero = refl
-  at-plus (c ∷ p) (d ∷ q) (suc i) = at-plus p q i
+  at_plus [] q i = sym (L.sum_zero (at q i))
+  at_plus (c ∷ p) [] i = sym (sum-zero_r F Element L (at (c ∷ p) i))
+  at_plus (c ∷ p) (d ∷ q) zero = refl
+  at_plus (c ∷ p) (d ∷ q) (suc i) = at_plus p q i
 
-  at-scale : (a : A) (p : List A) (i : ℕ) → at (scale F a p) i ≡ a ⊗ at p i
+  at_scale : (a : A) (p : List A) (i : ℕ) → at (scale F a p) i ≡ a ⊗ at p i
   unfolding scale
-  at-scale a [] i = sym (product-zero-r F Element L a)
-  at-scale a (c ∷ p) zero = refl
-  at-scale a (c ∷ p) (suc i) = at-scale a p i
+  at_scale a [] i = sym (product-zero_r F Element L a)
+  at_scale a (c ∷ p) zero = refl
+  at_scale a (c ∷ p) (suc i) = at_scale a p i
 
-  at-times : (m : List A) (c : A) (p : List A) (i : ℕ) → at (times F m (c ∷ p)) i ≡ c ⊗ at m i ⊕ at (𝟘 ∷ times F m p) i
+  at_times : (m : List A) (c : A) (p : List A) (i : ℕ) → at (times F m (c ∷ p)) i ≡ c ⊗ at m i ⊕ at (𝟘 ∷ times F m p) i
   unfolding times
-  at-times m c p i =
-      at-plus (scale F c m) (𝟘 ∷ times F m p) i ∙ ap (λ (s : A). s ⊕ at (𝟘 ∷ times F m p) i) (at-scale c m i)
+  at_times m c p i =
+      at_plus (scale F c m) (𝟘 ∷ times F m p) i ∙ ap (λ (s : A). s ⊕ at (𝟘 ∷ times F m p) i) (at_scale c m i)
 
   -- m · p depends on the coefficients of p alone
-  shifted-same : (p q : List A) → ((i : ℕ) → at p i ≡ at q i) → (i : ℕ) → at (𝟘 ∷ p) i ≡ at (𝟘 ∷ q) i
-  shifted-same p q e zero = refl
-  shifted-same p q e (suc i) = e i
+  shifted_same : (p q : List A) → ((i : ℕ) → at p i ≡ at q i) → (i : ℕ) → at (𝟘 ∷ p) i ≡ at (𝟘 ∷ q) i
+  shifted_same p q e zero = refl
+  shifted_same p q e (suc i) = e i
 
   shifted_none : (p : List A) → ((i : ℕ) → 𝟘 ≡ at p i) → (i : ℕ) → 𝟘 ≡ at (𝟘 ∷ p) i
   shifted_none p e zero = refl
@@ -57,10 +57,10 @@ module _ {A : Type 0} (F : Operations A) (Element : A → Type 0) (L : Laws A F 
   times_none m [] e i = refl
   times_none m (c ∷ p) e i =
       sym
-      (at-times m c p i
-      ∙ ap₂ ◌⊕◌ (ap (λ (s : A). s ⊗ at m i) (sym (e zero)) ∙ product-zero-l F Element L (at m i))
+      (at_times m c p i
+      ∙ ap₂ ◌⊕◌ (ap (λ (s : A). s ⊗ at m i) (sym (e zero)) ∙ product-zero_l F Element L (at m i))
       (sym (shifted_none (times F m p) (times_none m p (λ j. e (suc j))) i))
-      ∙ L.sum-zero 𝟘)
+      ∙ L.sum_zero 𝟘)
 
   times-same : (m p q : List A) → ((i : ℕ) → at p i ≡ at q i) → (i : ℕ) → at (times F m p) i ≡ at (times F m q) i
   unfolding times
@@ -68,10 +68,10 @@ module _ {A : Type 0} (F : Operations A) (Element : A → Type 0) (L : Laws A F 
   times-same m [] (d ∷ q) e i = times_none m (d ∷ q) e i
   times-same m (c ∷ p) [] e i = sym (times_none m (c ∷ p) (λ j. sym (e j)) i)
   times-same m (c ∷ p) (d ∷ q) e i =
-      at-times m c p i
+      at_times m c p i
       ∙ ap₂ (λ (a s : A). a ⊗ at m i ⊕ s) (e zero)
-      (shifted-same (times F m p) (times F m q) (times-same m p q (λ j. e (suc j))) i)
-      ∙ sym (at-times m d q i)
+      (shifted_same (times F m p) (times F m q) (times-same m p q (λ j. e (suc j))) i)
+      ∙ sym (at_times m d q i)
 
   -- ---- the division
 
@@ -80,40 +80,40 @@ module _ {A : Type 0} (F : Operations A) (Element : A → Type 0) (L : Laws A F 
   single zero t = t ∷ []
   single (suc m) t = 𝟘 ∷ single m t
 
-  at_last : (c : A) (r : List A) (i : ℕ) → at (c ∷ r) i ≡ at (butLast c r) i ⊕ at (single (length r) (last c r)) i
-  unfolding butLast last single
-  at_last c [] zero = sym (L.sum-zero c)
-  at_last c [] (suc i) = sym (L.sum-zero 𝟘)
-  at_last c (d ∷ r) zero = sym (sum-zero-r F Element L c)
+  at_last : (c : A) (r : List A) (i : ℕ) → at (c ∷ r) i ≡ at (but_last c r) i ⊕ at (single (length r) (last c r)) i
+  unfolding but_last last single
+  at_last c [] zero = sym (L.sum_zero c)
+  at_last c [] (suc i) = sym (L.sum_zero 𝟘)
+  at_last c (d ∷ r) zero = sym (sum-zero_r F Element L c)
   at_last c (d ∷ r) (suc i) = at_last d r i
 
-  at-monic : (q : List A) (t : A) (i : ℕ) → Element t → t ⊗ at (monic F q) i ≡ t ⊗ at q i ⊕ at (single (length q) t) i
+  at_monic : (q : List A) (t : A) (i : ℕ) → Element t → t ⊗ at (monic F q) i ≡ t ⊗ at q i ⊕ at (single (length q) t) i
   unfolding monic single
-  at-monic [] t zero e =
-      L.product-commutative t 𝟙 ∙ L.one-neutral t e ∙ sym (L.sum-zero t)
-      ∙ ap (λ (s : A). s ⊕ t) (sym (product-zero-r F Element L t))
-  at-monic [] t (suc i) e = sym (sum-zero-r F Element L (t ⊗ 𝟘))
-  at-monic (c ∷ q) t zero e = sym (sum-zero-r F Element L (t ⊗ c))
-  at-monic (c ∷ q) t (suc i) e = at-monic q t i e
+  at_monic [] t zero e =
+      L.product_commutative t 𝟙 ∙ L.one_neutral t e ∙ sym (L.sum_zero t)
+      ∙ ap (λ (s : A). s ⊕ t) (sym (product-zero_r F Element L t))
+  at_monic [] t (suc i) e = sym (sum-zero_r F Element L (t ⊗ 𝟘))
+  at_monic (c ∷ q) t zero e = sym (sum-zero_r F Element L (t ⊗ c))
+  at_monic (c ∷ q) t (suc i) e = at_monic q t i e
 
   cancelled : (b s w z : A) → (b ⊕ s) ⊕ z ≡ (b ⊕ w) ⊕ ((w ⊕ s) ⊕ z)
   cancelled b s w z =
       sym
-      (sym (L.sum-associative (b ⊕ w) (w ⊕ s) z)
-      ∙ ap (λ (v : A). v ⊕ z) (L.sum-associative b w (w ⊕ s) ∙ ap (λ (v : A). b ⊕ v) (sum-cancel F Element L w s)))
+      (sym (L.sum_associative (b ⊕ w) (w ⊕ s) z)
+      ∙ ap (λ (v : A). v ⊕ z) (L.sum_associative b w (w ⊕ s) ∙ ap (λ (v : A). b ⊕ v) (sum_cancel F Element L w s)))
 
   -- one step: from p = r + m · k to c + X · p = (c + X · r less t · m) + m · (t + X · k)
-  division-cons : (q : List A) (c : A) (p r k : List A) → length r ≡ length q → Element (last c r)
+  division_cons : (q : List A) (c : A) (p r k : List A) → length r ≡ length q → Element (last c r)
       → ((i : ℕ) → at p i ≡ at r i ⊕ at (times F (monic F q) k) i)
       → (i : ℕ) → at (c ∷ p) i
-      ≡ at (plus F (butLast c r) (scale F (last c r) q)) i ⊕ at (times F (monic F q) (last c r ∷ k)) i
-  division-cons q c p r k h e ih i =
+      ≡ at (plus F (but_last c r) (scale F (last c r) q)) i ⊕ at (times F (monic F q) (last c r ∷ k)) i
+  division_cons q c p r k h e ih i =
       before i
-      ∙ ap (λ (s : A). s ⊕ z) (at_last c r i ∙ ap (λ (m : ℕ). at (butLast c r) i ⊕ at (single m t) i) h)
-      ∙ cancelled (at (butLast c r) i) (at (single (length q) t) i) (t ⊗ at q i) z
+      ∙ ap (λ (s : A). s ⊕ z) (at_last c r i ∙ ap (λ (m : ℕ). at (but_last c r) i ⊕ at (single m t) i) h)
+      ∙ cancelled (at (but_last c r) i) (at (single (length q) t) i) (t ⊗ at q i) z
       ∙ ap₂ ◌⊕◌
-      (sym (at-plus (butLast c r) (scale F t q) i ∙ ap (λ (s : A). at (butLast c r) i ⊕ s) (at-scale t q i)))
-      (ap (λ (s : A). s ⊕ z) (sym (at-monic q t i e)) ∙ sym (at-times (monic F q) t k i))
+      (sym (at_plus (but_last c r) (scale F t q) i ∙ ap (λ (s : A). at (but_last c r) i ⊕ s) (at_scale t q i)))
+      (ap (λ (s : A). s ⊕ z) (sym (at_monic q t i e)) ∙ sym (at_times (monic F q) t k i))
     where
       t : A
       t = last c r
@@ -122,36 +122,36 @@ module _ {A : Type 0} (F : Operations A) (Element : A → Type 0) (L : Laws A F 
       z = at (𝟘 ∷ times F (monic F q) k) i
 
       before : (i : ℕ) → at (c ∷ p) i ≡ at (c ∷ r) i ⊕ at (𝟘 ∷ times F (monic F q) k) i
-      before zero = sym (sum-zero-r F Element L c)
+      before zero = sym (sum-zero_r F Element L c)
       before (suc i) = ih i
 
   -- p = remainder + (X^m + q) · quotient
-  division-identity : (q p : List A) → All Element q → All Element p
-      → (i : ℕ) → at p i ≡ at (remainderBy F q p) i ⊕ at (times F (monic F q) (quotientBy F q p)) i
-  unfolding remainderBy quotientBy times
-  division-identity q [] eq ep i = sym (ap (λ (s : A). s ⊕ 𝟘) (getD-replicated (length q) i 𝟘) ∙ L.sum-zero 𝟘)
-  division-identity q (c ∷ p) eq ep i =
-      division-cons q c p (remainderBy F q p) (quotientBy F q p) (length-remainder F q p)
-      (last-element F Element L c (remainderBy F q p) ep.0 (remainder-elements F Element L q p eq ep.1))
-      (division-identity q p eq ep.1) i
+  division_identity : (q p : List A) → All Element q → All Element p
+      → (i : ℕ) → at p i ≡ at (remainder_by F q p) i ⊕ at (times F (monic F q) (quotient_by F q p)) i
+  unfolding remainder_by quotient_by times
+  division_identity q [] eq ep i = sym (ap (λ (s : A). s ⊕ 𝟘) (get_or_replicated (length q) i 𝟘) ∙ L.sum_zero 𝟘)
+  division_identity q (c ∷ p) eq ep i =
+      division_cons q c p (remainder_by F q p) (quotient_by F q p) (length-remainder F q p)
+      (last-element F Element L c (remainder_by F q p) ep.0 (remainder-elements F Element L q p eq ep.1))
+      (division_identity q p eq ep.1) i
 
   -- ---- the rows
 
-  zeros-at : (p : List A) (i : ℕ) → Zeros F p → at p i ≡ 𝟘
-  zeros-at [] i z = refl
-  zeros-at (c ∷ p) zero z = z.0
-  zeros-at (c ∷ p) (suc i) z = zeros-at p i z.1
+  zeros_at : (p : List A) (i : ℕ) → Zeros F p → at p i ≡ 𝟘
+  zeros_at [] i z = refl
+  zeros_at (c ∷ p) zero z = z.0
+  zeros_at (c ∷ p) (suc i) z = zeros_at p i z.1
 
   -- p = Σ row_i · q^i
-  pub rows-identity : (q : List A) (n : ℕ) (p : List A) → All Element q → All Element p → DegreeBelow F (n * length q) p
+  pub rows_identity : (q : List A) (n : ℕ) (p : List A) → All Element q → All Element p → DegreeBelow F (n * length q) p
       → (i : ℕ) → at p i ≡ at (composed F (monic F q) (rows F q n p)) i
   unfolding rows composed
-  rows-identity q zero p eq ep z i = zeros-at p i (subst (λ (k : ℕ). Zeros F (drop k p)) (zero-mul (length q)) z)
-  rows-identity q (suc n) p eq ep z i =
-      division-identity q p eq ep i
-      ∙ ap (λ (s : A). at (remainderBy F q p) i ⊕ s)
-      (times-same (monic F q) (quotientBy F q p) (composed F (monic F q) (rows F q n (quotientBy F q p)))
-      (rows-identity q n (quotientBy F q p) eq (quotient-elements F Element L q p eq ep)
-      (quotient-degree F Element L q p (n * length q) (one_more F Element L q p n z))) i)
+  rows_identity q zero p eq ep z i = zeros_at p i (subst (λ (k : ℕ). Zeros F (drop k p)) (zero-mul (length q)) z)
+  rows_identity q (suc n) p eq ep z i =
+      division_identity q p eq ep i
+      ∙ ap (λ (s : A). at (remainder_by F q p) i ⊕ s)
+      (times-same (monic F q) (quotient_by F q p) (composed F (monic F q) (rows F q n (quotient_by F q p)))
+      (rows_identity q n (quotient_by F q p) eq (quotient_elements F Element L q p eq ep)
+      (quotient_degree F Element L q p (n * length q) (one_more F Element L q p n z))) i)
       ∙ sym
-      (at-plus (remainderBy F q p) (times F (monic F q) (composed F (monic F q) (rows F q n (quotientBy F q p)))) i)
+      (at_plus (remainder_by F q p) (times F (monic F q) (composed F (monic F q) (rows F q n (quotient_by F q p)))) i)

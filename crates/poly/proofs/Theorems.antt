@@ -2,41 +2,41 @@
 use Rattle.poly.specs.Carrier.{Operations, Laws}
 use Rattle.poly.specs.Theorems.{Roots, Interpolation, RootProduct, RowDivision, OverEveryCarrier}
 use Rattle.poly.proofs.Evaluation.{evaluate-padded}
-use Rattle.poly.proofs.Roots.{root-bound-degree, unique}
+use Rattle.poly.proofs.Roots.{root_bound_degree, unique}
 use Rattle.poly.proofs.Interpolation.{length-interpolant, interpolant-elements}
-use Rattle.poly.proofs.Interpolation.{interpolant-agrees, interpolant-recovers}
-use Rattle.poly.proofs.Newton.{vanishing-not-zero}
-use Rattle.poly.proofs.Vanishing.{evaluate-vanishing, vanishing-leading}
-use Rattle.poly.proofs.Identity.{rows-identity}
-use Rattle.poly.proofs.Rows.{length-rows, rows-lengths, rows-evaluate, rows-degree, degree-of-rows}
+use Rattle.poly.proofs.Interpolation.{interpolant_agrees, interpolant_recovers}
+use Rattle.poly.proofs.Newton.{vanishing_not_zero}
+use Rattle.poly.proofs.Vanishing.{evaluate-vanishing, vanishing_leading}
+use Rattle.poly.proofs.Identity.{rows_identity}
+use Rattle.poly.proofs.Rows.{length-rows, rows_lengths, rows-evaluate, rows_degree, degree_of_rows}
 
 roots : (A : Type 0) (F : Operations A) (Element : A → Type 0) → Laws A F Element → Roots A F Element
-roots A F Element L = record { bound = root-bound-degree F Element L; unique = unique F Element L }
+roots A F Element L = record { bound = root_bound_degree F Element L; unique = unique F Element L }
 
 interpolation : (A : Type 0) (F : Operations A) (Element : A → Type 0) → Laws A F Element → Interpolation A F Element
 interpolation A F Element L =
     record {
       elements = interpolant-elements F Element L;
       count = length-interpolant F;
-      agrees = interpolant-agrees F Element L;
+      agrees = interpolant_agrees F Element L;
       padding = evaluate-padded F Element L;
-      recovers = interpolant-recovers F Element L;
-      divisor = vanishing-not-zero F Element L;
+      recovers = interpolant_recovers F Element L;
+      divisor = vanishing_not_zero F Element L;
     }
 
-root-product : (A : Type 0) (F : Operations A) (Element : A → Type 0) → Laws A F Element → RootProduct A F
-root-product A F Element L = record { value = evaluate-vanishing F Element L; leading = vanishing-leading F }
+root_product : (A : Type 0) (F : Operations A) (Element : A → Type 0) → Laws A F Element → RootProduct A F
+root_product A F Element L = record { value = evaluate-vanishing F Element L; leading = vanishing_leading F }
 
-row-division : (A : Type 0) (F : Operations A) (Element : A → Type 0) → Laws A F Element → RowDivision A F Element
-row-division A F Element L =
+row_division : (A : Type 0) (F : Operations A) (Element : A → Type 0) → Laws A F Element → RowDivision A F Element
+row_division A F Element L =
     record {
       count = length-rows F;
-      counts = rows-lengths F;
-      identity = rows-identity F Element L;
+      counts = rows_lengths F;
+      identity = rows_identity F Element L;
       values = rows-evaluate F Element L;
-      degrees = λ N q n p whole. (rows-degree F Element L N q n p, degree-of-rows F Element L N q n p whole);
+      degrees = λ N q n p whole. (rows_degree F Element L N q n p, degree_of_rows F Element L N q n p whole);
     }
 
-pub over-every-carrier : OverEveryCarrier
-over-every-carrier =
-    record { roots = roots; interpolation = interpolation; root-product = root-product; row-division = row-division }
+pub over_every_carrier : OverEveryCarrier
+over_every_carrier =
+    record { roots = roots; interpolation = interpolation; root_product = root_product; row_division = row_division }

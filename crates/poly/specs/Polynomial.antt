@@ -40,15 +40,15 @@ unfoldable pub padded : {A : Type 0} (F : Operations A) (n : ℕ) (p : List A) �
 padded F n p = p ++ replicate (n - length p) F.zero
 
 -- c + (X - x) · p: a difference is a sum
-unfoldable pub timesLinear : {A : Type 0} (F : Operations A) (c x : A) (p : List A) → List A
-timesLinear F c x p = plus F (c ∷ p) (scale F x p)
+unfoldable pub times_linear : {A : Type 0} (F : Operations A) (c x : A) (p : List A) → List A
+times_linear F c x p = plus F (c ∷ p) (scale F x p)
 
 -- the divided differences of the point x with value y and the others: (y' - y) / (x' - x) for each
-unfoldable pub dividedDifferences : {A : Type 0} (F : Operations A) (x y : A) (points values : List A) → List A
-dividedDifferences F x y [] values = []
-dividedDifferences F x y (x' ∷ points) [] = []
-dividedDifferences F x y (x' ∷ points) (y' ∷ values) =
-    F.product (F.inverse (F.sum x' x)) (F.sum y' y) ∷ dividedDifferences F x y points values
+unfoldable pub divided_differences : {A : Type 0} (F : Operations A) (x y : A) (points values : List A) → List A
+divided_differences F x y [] values = []
+divided_differences F x y (x' ∷ points) [] = []
+divided_differences F x y (x' ∷ points) (y' ∷ values) =
+    F.product (F.inverse (F.sum x' x)) (F.sum y' y) ∷ divided_differences F x y points values
 
 -- the interpolant of the values at the points, by Newton: y + (X - x) · Q, where Q has the divided differences for its
 -- values at the other points
@@ -56,9 +56,9 @@ unfoldable pub interpolant : {A : Type 0} (F : Operations A) (points values : Li
 interpolant F [] values = []
 interpolant F (x ∷ points) [] = []
 interpolant F (x ∷ points) (y ∷ values) =
-    timesLinear F y x (interpolant F points (dividedDifferences F x y points values))
+    times_linear F y x (interpolant F points (divided_differences F x y points values))
 
 -- the product of X - a over the list
-unfoldable pub vanishingPolynomial : {A : Type 0} (F : Operations A) (roots : List A) → List A
-vanishingPolynomial F [] = F.one ∷ []
-vanishingPolynomial F (a ∷ roots) = timesLinear F F.zero a (vanishingPolynomial F roots)
+unfoldable pub vanishing_polynomial : {A : Type 0} (F : Operations A) (roots : List A) → List A
+vanishing_polynomial F [] = F.one ∷ []
+vanishing_polynomial F (a ∷ roots) = times_linear F F.zero a (vanishing_polynomial F roots)

@@ -4,8 +4,8 @@ use Rattle.std.specs.Prelude.{◌≡◌, ◌↔◌, ◌≢◌, List, map, ℕ, �
 use Rattle.gf64.specs.Field.{IsElement}
 use Rattle.poly.specs.Carrier.{Operations, Laws, gf64}
 use Rattle.poly.specs.Polynomial.{All, Distinct, Zeros, DegreeBelow, evaluate}
-use Rattle.poly.specs.Polynomial.{padded, interpolant, vanishingPolynomial}
-use Rattle.poly.specs.Degree.{degreeBound}
+use Rattle.poly.specs.Polynomial.{padded, interpolant, vanishing_polynomial}
+use Rattle.poly.specs.Degree.{degree_bound}
 use Rattle.poly.specs.Rows.{monic, rows, composed}
 use Rattle.poly.specs.Newton.{vanishing}
 
@@ -39,10 +39,10 @@ pub record Interpolation (A : Type 0) (F : Operations A) (Element : A → Type 0
 -- the product of X - a over a list of roots
 pub record RootProduct (A : Type 0) (F : Operations A) : Type 0 where
   -- its value is the product of the differences, its leading coefficient one
-  pub value : (roots : List A) (z : A) → evaluate F (vanishingPolynomial F roots) z ≡ vanishing F roots z
+  pub value : (roots : List A) (z : A) → evaluate F (vanishing_polynomial F roots) z ≡ vanishing F roots z
   pub leading : (roots : List A)
-      → (length (vanishingPolynomial F roots) ≡ length roots + 1)
-      × (get_or (vanishingPolynomial F roots) (length roots) F.zero ≡ F.one)
+      → (length (vanishing_polynomial F roots) ≡ length roots + 1)
+      × (get_or (vanishing_polynomial F roots) (length roots) F.zero ≡ F.one)
 
 -- division into n rows by a monic polynomial, given by its coefficients below the leading one
 pub record RowDivision (A : Type 0) (F : Operations A) (Element : A → Type 0) : Type 0 where
@@ -61,20 +61,20 @@ pub record RowDivision (A : Type 0) (F : Operations A) (Element : A → Type 0) 
 
 -- the degree as a number: it is below n exactly where n is at least its least bound
 pub record Degrees : Type 0 where
-  pub least : (n : ℕ) (p : List ℕ) → DegreeBelow gf64 n p ↔ (degreeBound p ≤ n)
+  pub least : (n : ℕ) (p : List ℕ) → DegreeBelow gf64 n p ↔ (degree_bound p ≤ n)
 
 -- for every carrier with the laws of a field of characteristic 2
 pub record OverEveryCarrier : Type 1 where
   pub roots : (A : Type 0) (F : Operations A) (Element : A → Type 0) → Laws A F Element → Roots A F Element
   pub interpolation : (A : Type 0) (F : Operations A) (Element : A → Type 0) → Laws A F Element
       → Interpolation A F Element
-  pub root-product : (A : Type 0) (F : Operations A) (Element : A → Type 0) → Laws A F Element → RootProduct A F
-  pub row-division : (A : Type 0) (F : Operations A) (Element : A → Type 0) → Laws A F Element → RowDivision A F Element
+  pub root_product : (A : Type 0) (F : Operations A) (Element : A → Type 0) → Laws A F Element → RootProduct A F
+  pub row_division : (A : Type 0) (F : Operations A) (Element : A → Type 0) → Laws A F Element → RowDivision A F Element
 
 -- the field of 2^64 elements is one, so that they hold there
 pub record AtField : Type 0 where
   pub laws : Laws ℕ gf64 IsElement
   pub roots : Roots ℕ gf64 IsElement
   pub interpolation : Interpolation ℕ gf64 IsElement
-  pub root-product : RootProduct ℕ gf64
-  pub row-division : RowDivision ℕ gf64 IsElement
+  pub root_product : RootProduct ℕ gf64
+  pub row_division : RowDivision ℕ gf64 IsElement

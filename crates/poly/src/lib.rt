@@ -2,7 +2,7 @@
 ghost use Rattle.std.specs.Prelude.{◌≡◌, ◌++◌, min, ◌≤◌, length, drop};
 ghost use Rattle.poly.specs.Carrier.{gf64};
 ghost use Rattle.poly.specs.Polynomial.{evaluate};
-ghost use Rattle.poly.specs.Degree.{degreeBound};
+ghost use Rattle.poly.specs.Degree.{degree_bound};
 
 use field::Element;
 
@@ -21,7 +21,7 @@ pub fn evaluate(coefficients: &[u64], x: Element) -> Element
 
 // The degree plus 1, or 0 for the zero polynomial.
 pub fn degree_bound(coefficients: &[u64]) -> usize
-    ensures { result ≡ degreeBound coefficients.now }
+    ensures { result ≡ degree_bound coefficients.now }
 {
     let mut bound = coefficients.len();
     while bound > 0 {

@@ -13,67 +13,67 @@ use borrow.Author.Tests.{leb-false}
 use Rattle.refusal.specs.declared.Outcome.{Outcome}
 use Rattle.refusal.specs.declared.Outcome.TheVariants.{Done}
 use Rattle.refusal.specs.Checks.{afterwards}
-use Rattle.refusal.proofs.Checks.{le-of-test}
+use Rattle.refusal.proofs.Checks.{le_of_test}
 use Rattle.reed_solomon.specs.Codes.{interpolated}
-use Rattle.fri.specs.Layout.{dimension, lastCount, joinedLayers}
-use Rattle.fri.specs.Run.{Run, stepsIn, roundsIn}
-use Rattle.fri.specs.Layers.{basisIn, offsetIn, fold_of, honestLayer, honestStore, lastInterpolant, honestLast}
-use Rattle.fri.specs.Checks.{runOutcome}
-use Rattle.fri.specs.Prover.{degreeOutcome}
-use Rattle.fri.proofs.Checks.{run-valid}
-use Rattle.fri.proofs.Layouts.{length-steps}
+use Rattle.fri.specs.Layout.{dimension, last_count, joined_layers}
+use Rattle.fri.specs.Run.{Run, steps_in, rounds_in}
+use Rattle.fri.specs.Layers.{basis_in, offset_in, fold_of, honest_layer, honest_store, last_interpolant, honest_last}
+use Rattle.fri.specs.Checks.{run_outcome}
+use Rattle.fri.specs.Prover.{degree_outcome}
+use Rattle.fri.proofs.Checks.{run_valid}
+use Rattle.fri.proofs.Layouts.{length_steps}
 use Rattle.fri.proofs.Layers.{layouts}
 use Rattle.layout.specs.declared.Parameters.{Parameters}
-use Rattle.layout.specs.Parameters.{stepsBy, Valid}
-use Rattle.layout.proofs.Sizes.{lastCount-is}
-use Rattle.prover.specs.Last.{lastOutcome, lastCoefficients}
+use Rattle.layout.specs.Parameters.{steps_by, Valid}
+use Rattle.layout.proofs.Sizes.{last_count_is}
+use Rattle.prover.specs.Last.{last_outcome, last_coefficients}
 use Rattle.honest_layers.specs.Input.{input_of, Passed}
 
 -- ---- layer r is small
 
-pub last-size : (p : Parameters) → Valid p → 2 ^ dimension p.k (stepsBy p) (length (stepsBy p)) ≤ 256
-last-size p v =
-    subst (λ (r : ℕ). 2 ^ dimension p.k (stepsBy p) r ≤ 256) (sym (length-steps p.k p.rate p.step))
-    (layouts.few-points p.k p.rate p.step v)
+pub last_size : (p : Parameters) → Valid p → 2 ^ dimension p.k (steps_by p) (length (steps_by p)) ≤ 256
+last_size p v =
+    subst (λ (r : ℕ). 2 ^ dimension p.k (steps_by p) r ≤ 256) (sym (length_steps p.k p.rate p.step))
+    (layouts.few_points p.k p.rate p.step v)
 
-small-of-size : (n : ℕ) (test : Bool) → leb n 12 ≡ test → 2 ^ n ≤ 256 → n ≤ 12
-small-of-size n true e h = le-of-test n 12 e
-small-of-size n false e h = absurd (omega (arith, h, pow_mono {i = 13} {j = n} (leb-false n 12 e)))
+small_of_size : (n : ℕ) (test : Bool) → leb n 12 ≡ test → 2 ^ n ≤ 256 → n ≤ 12
+small_of_size n true e h = le_of_test n 12 e
+small_of_size n false e h = absurd (omega (arith, h, pow_mono {i = 13} {j = n} (leb-false n 12 e)))
 
-pub last-small : (p : Parameters) → Valid p → dimension p.k (stepsBy p) (length (stepsBy p)) ≤ 12
+pub last-small : (p : Parameters) → Valid p → dimension p.k (steps_by p) (length (steps_by p)) ≤ 12
 last-small p v =
-    let n = dimension p.k (stepsBy p) (length (stepsBy p)) in small-of-size n (leb n 12) refl (last-size p v)
+    let n = dimension p.k (steps_by p) (length (steps_by p)) in small_of_size n (leb n 12) refl (last_size p v)
 
 -- there are no more last coefficients than layer r has entries
-pub coefficients-fit : (p : Parameters)
-    → lastCount p.k p.rate (stepsBy p) ≤ 2 ^ dimension p.k (stepsBy p) (length (stepsBy p))
-coefficients-fit p =
-    let n = dimension p.k (stepsBy p) (length (stepsBy p)) in
-    le_trans (le_of_eq (sym (lastCount-is p.k p.rate (stepsBy p))))
+pub coefficients_fit : (p : Parameters)
+    → last_count p.k p.rate (steps_by p) ≤ 2 ^ dimension p.k (steps_by p) (length (steps_by p))
+coefficients_fit p =
+    let n = dimension p.k (steps_by p) (length (steps_by p)) in
+    le_trans (le_of_eq (sym (last_count_is p.k p.rate (steps_by p))))
     (pow_mono {i = n - p.rate} {j = n} (omega arith))
 
 -- ---- the two runs
 
 -- the prover's input
-abbrev pub inputIn : Run → Run
-inputIn run =
+abbrev pub input_in : Run → Run
+input_in run =
     input_of (record { k = run.k; rate = run.rate; step = run.step }) run.offset run.basis run.challenges
     run.word
 
 module _ (called : Run) where
   abbrev given : Run
-  given = inputIn called
+  given = input_in called
 
   abbrev d : ℕ
-  d = lastCount called.k called.rate (stepsIn called)
+  d = last_count called.k called.rate (steps_in called)
 
   abbrev r : ℕ
-  r = roundsIn called
+  r = rounds_in called
 
-  module _ (done : runOutcome called ≡ Done) where
-    pub input-passed : Passed given (length called.store)
-    input-passed =
-        let facts = run-valid called done in
+  module _ (done : run_outcome called ≡ Done) where
+    pub input_passed : Passed given (length called.store)
+    input_passed =
+        let facts = run_valid called done in
         record {
           parameters = facts.0;
           basis = facts.1.basis;
@@ -83,37 +83,37 @@ module _ (called : Run) where
           independent = facts.2;
         }
 
-    pub last-counted : length called.last ≡ d
-    last-counted = (run-valid called done).1.last
+    pub last_counted : length called.last ≡ d
+    last_counted = (run_valid called done).1.last
 
-  same-layer : (i : ℕ) → honestLayer given i ≡ honestLayer called i
-  unfolding honestLayer fold_of
-  same-layer zero = refl
-  same-layer (suc i) = ap (fold_of called i) (same-layer i)
+  same_layer : (i : ℕ) → honest_layer given i ≡ honest_layer called i
+  unfolding honest_layer fold_of
+  same_layer zero = refl
+  same_layer (suc i) = ap (fold_of called i) (same_layer i)
 
-  same-joined : (n : ℕ) → joinedLayers (honestLayer given) n ≡ joinedLayers (honestLayer called) n
-  unfolding joinedLayers
-  same-joined zero = refl
-  same-joined (suc n) = ap₂ {B = List ℕ} (λ (front layer : List ℕ). front ++ layer) (same-joined n) (same-layer (suc n))
+  same_joined : (n : ℕ) → joined_layers (honest_layer given) n ≡ joined_layers (honest_layer called) n
+  unfolding joined_layers
+  same_joined zero = refl
+  same_joined (suc n) = ap₂ {B = List ℕ} (λ (front layer : List ℕ). front ++ layer) (same_joined n) (same_layer (suc n))
 
-  pub same_store : honestStore given ≡ honestStore called
-  unfolding honestStore
-  same_store = same-joined (r - 1)
+  pub same_store : honest_store given ≡ honest_store called
+  unfolding honest_store
+  same_store = same_joined (r - 1)
 
-  pub same-interpolant : interpolated (offsetIn given r) (basisIn given r) (honestLayer given r)
-      ≡ lastInterpolant called
-  unfolding lastInterpolant
-  same-interpolant = ap (interpolated (offsetIn called r) (basisIn called r)) (same-layer r)
+  pub same-interpolant : interpolated (offset_in given r) (basis_in given r) (honest_layer given r)
+      ≡ last_interpolant called
+  unfolding last_interpolant
+  same-interpolant = ap (interpolated (offset_in called r) (basis_in called r)) (same_layer r)
 
   -- the degree check of a run is that of its interpolant
-  module _ (interpolant : List ℕ) (is : interpolant ≡ lastInterpolant called)
+  module _ (interpolant : List ℕ) (is : interpolant ≡ last_interpolant called)
       (counted : length called.last ≡ d) where
-    pub degree-answered : lastOutcome interpolant (length called.last) ≡ degreeOutcome called
-    degree-answered = ap₂ lastOutcome is counted
+    pub degree_answered : last_outcome interpolant (length called.last) ≡ degree_outcome called
+    degree_answered = ap₂ last_outcome is counted
 
-    pub degree-holds : lastCoefficients interpolant called.last
-        ≡ afterwards (degreeOutcome called) (honestLast called) called.last
-    unfolding honestLast
-    degree-holds =
-        ap₂ (λ (o : Outcome) (l : List ℕ). afterwards o l called.last) degree-answered
+    pub degree_holds : last_coefficients interpolant called.last
+        ≡ afterwards (degree_outcome called) (honest_last called) called.last
+    unfolding honest_last
+    degree_holds =
+        ap₂ (λ (o : Outcome) (l : List ℕ). afterwards o l called.last) degree_answered
         (ap₂ (λ (n : ℕ) (l : List ℕ). take n l) counted is)

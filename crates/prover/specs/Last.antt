@@ -3,17 +3,17 @@ use Rattle.std.specs.Prelude.{List, ℕ, ◌-◌, leb, length, take}
 use Rattle.refusal.specs.declared.Cause.TheVariants.{DegreeTooLarge}
 use Rattle.refusal.specs.declared.Outcome.{Outcome}
 use Rattle.refusal.specs.declared.Outcome.TheVariants.{Done}
-use Rattle.refusal.specs.Checks.{refusedUnless, afterwards}
-use Rattle.poly.specs.Degree.{degreeBound}
+use Rattle.refusal.specs.Checks.{refused_unless, afterwards}
+use Rattle.poly.specs.Degree.{degree_bound}
 
 -- a degree of `count` or more is told (12)
-abbrev pub lastOutcome : (interpolant : List ℕ) (count : ℕ) → Outcome
-lastOutcome interpolant count =
-    let bound = degreeBound interpolant in
-    refusedUnless (leb bound count) (DegreeTooLarge (bound - 1)) Done
+abbrev pub last_outcome : (interpolant : List ℕ) (count : ℕ) → Outcome
+last_outcome interpolant count =
+    let bound = degree_bound interpolant in
+    refused_unless (leb bound count) (DegreeTooLarge (bound - 1)) Done
 
 -- the first coefficients of the interpolant, as many as the list has, or what the list held
-abbrev pub lastCoefficients : (interpolant held : List ℕ) → List ℕ
-lastCoefficients interpolant held =
+abbrev pub last_coefficients : (interpolant held : List ℕ) → List ℕ
+last_coefficients interpolant held =
     let count = length held in
-    afterwards (lastOutcome interpolant count) (take count interpolant) held
+    afterwards (last_outcome interpolant count) (take count interpolant) held

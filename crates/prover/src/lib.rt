@@ -4,12 +4,12 @@ ghost use Rattle.std.specs.Prelude.{◌≡◌, ◌^◌, ◌≤◌, length};
 ghost use Rattle.fri.specs.Layout.{dimension};
 ghost use Rattle.refusal.specs.declared.Outcome.TheVariants as outcomes;
 ghost use Rattle.refusal.specs.Checks.{afterwards};
-ghost use Rattle.fri.specs.Layers.{honestStore, honestLast};
-ghost use Rattle.fri.specs.Checks.{runOutcome};
-ghost use Rattle.fri.specs.Run.{Run, stepsIn, roundsIn};
-ghost use Rattle.fri.specs.Prover.{degreeOutcome};
+ghost use Rattle.fri.specs.Layers.{honest_store, honest_last};
+ghost use Rattle.fri.specs.Checks.{run_outcome};
+ghost use Rattle.fri.specs.Run.{Run, steps_in, rounds_in};
+ghost use Rattle.fri.specs.Prover.{degree_outcome};
 ghost use Rattle.layout.specs.Parameters.{run_of};
-ghost use Rattle.prover.specs.Last.{lastOutcome, lastCoefficients};
+ghost use Rattle.prover.specs.Last.{last_outcome, last_coefficients};
 ghost use Rattle.prover.specs.Proved.{Proved};
 
 use field::Element;
@@ -61,10 +61,10 @@ fn prove_checked(
 ) -> Outcome
     ghost run: { Run }
     requires last_value { run_of parameters offset.0 basis.now challenges.now word.now store.old last.old ≡ run }
-    requires run_value { runOutcome run ≡ outcomes.Done }
-    ensures answer { result ≡ degreeOutcome run }
-    ensures store { store.new ≡ honestStore run }
-    ensures last { last.new ≡ afterwards (degreeOutcome run) (honestLast run) run.last }
+    requires run_value { run_outcome run ≡ outcomes.Done }
+    ensures answer { result ≡ degree_outcome run }
+    ensures store { store.new ≡ honest_store run }
+    ensures last { last.new ≡ afterwards (degree_outcome run) (honest_last run) run.last }
 {
     let mut room = [0u64; 256];
     let size: usize = 1 << parameters.dimension(parameters.rounds());
@@ -93,11 +93,11 @@ fn prove_in(
 ) -> Outcome
     ghost run: { Run }
     requires last_value { run_of parameters offset.0 basis.now challenges.now word.now store.old last.old ≡ run }
-    requires run_value { runOutcome run ≡ outcomes.Done }
-    requires room_len { length room.old ≡ 2 ^ dimension run.k (stepsIn run) (roundsIn run) }
-    ensures answer { result ≡ degreeOutcome run }
-    ensures store { store.new ≡ honestStore run }
-    ensures last { last.new ≡ afterwards (degreeOutcome run) (honestLast run) run.last }
+    requires run_value { run_outcome run ≡ outcomes.Done }
+    requires room_len { length room.old ≡ 2 ^ dimension run.k (steps_in run) (rounds_in run) }
+    ensures answer { result ≡ degree_outcome run }
+    ensures store { store.new ≡ honest_store run }
+    ensures last { last.new ≡ afterwards (degree_outcome run) (honest_last run) run.last }
 {
     let coset = honest_layers::fold_layers(
         parameters, offset, basis, challenges, word, store, room,
@@ -111,8 +111,8 @@ fn prove_in(
 // The first coefficients of the interpolant, unless its degree is their number or more (12).
 fn last_coefficients(interpolant: &[u64], last: &mut [u64]) -> Outcome
     requires { length last.old ≤ length interpolant.now }
-    ensures answer { result ≡ lastOutcome interpolant.now (length last.old) }
-    ensures last { last.new ≡ lastCoefficients interpolant.now last.old }
+    ensures answer { result ≡ last_outcome interpolant.now (length last.old) }
+    ensures last { last.new ≡ last_coefficients interpolant.now last.old }
 {
     let count = last.len();
     let bound = poly::degree_bound(interpolant);

@@ -10,30 +10,30 @@ use lib.Seq.{drop-cons}
 use borrow.Author.Tests.{lt-ltb, le-ltb}
 use Rattle.refusal.specs.declared.Position.{Position}
 use Rattle.refusal.specs.declared.Position.TheVariants.{At, Absent}
-use Rattle.fri.specs.Checks.{firstOutside}
+use Rattle.fri.specs.Checks.{first_outside}
 
 module _ (size : ℕ) (queries : List ℕ) (query : ℕ) where
   abbrev left : Position
-  left = firstOutside size (drop query queries) query
+  left = first_outside size (drop query queries) query
 
-  pub outside-none : length queries ≤ query → Absent ≡ left
-  unfolding firstOutside
-  outside-none h = sym (ap (λ (l : List ℕ). firstOutside size l query) (drop_of_length-le queries h))
+  pub outside_none : length queries ≤ query → Absent ≡ left
+  unfolding first_outside
+  outside_none h = sym (ap (λ (l : List ℕ). first_outside size l query) (drop_of_length-le queries h))
 
   -- those after it
   abbrev later : Position
-  later = firstOutside size (drop (suc query) queries) (suc query)
+  later = first_outside size (drop (suc query) queries) (suc query)
 
   one_by_one : query < length queries → left ≡ cond (ltb (get_or queries query 0) size) later (At query)
-  unfolding firstOutside
-  one_by_one h = ap (λ (l : List ℕ). firstOutside size l query) (drop-cons queries query 0 h)
+  unfolding first_outside
+  one_by_one h = ap (λ (l : List ℕ). first_outside size l query) (drop-cons queries query 0 h)
 
-  pub outside-here : query < length queries → size ≤ get_or queries query 0 → At query ≡ left
-  outside-here h out =
+  pub outside_here : query < length queries → size ≤ get_or queries query 0 → At query ≡ left
+  outside_here h out =
       sym (one_by_one h ∙ ap (λ (t : Bool). cond t later (At query)) (le-ltb (get_or queries query 0) size out))
 
-  pub outside-next : query < length queries → get_or queries query 0 < size
-      → firstOutside size (drop (query + 1) queries) (query + 1) ≡ left
-  outside-next h inside =
-      ap (λ (n : ℕ). firstOutside size (drop n queries) n) (add-one query)
+  pub outside_next : query < length queries → get_or queries query 0 < size
+      → first_outside size (drop (query + 1) queries) (query + 1) ≡ left
+  outside_next h inside =
+      ap (λ (n : ℕ). first_outside size (drop n queries) n) (add-one query)
       ∙ sym (one_by_one h ∙ ap (λ (t : Bool). cond t later (At query)) (lt-ltb (get_or queries query 0) size inside))

@@ -1,15 +1,15 @@
 // The checks of a query list: how many queries there are (9), that each index is below 2^k (10), and that no two
-// queries share a first-layer coset (17).
+// queries share a first_layer coset (17).
 ghost use Rattle.std.specs.Prelude.{◌≡◌, ◌&&◌, ◌≤◌, leb};
-ghost use Rattle.fri.specs.Checks.{firstOutside, among, visitedCosets, firstShared, outcomeOfShared};
-ghost use Rattle.fri.specs.Checks.{indicesOutcome, queriesOutcome};
+ghost use Rattle.fri.specs.Checks.{first_outside, among, visited_cosets, first_shared, outcome_of_shared};
+ghost use Rattle.fri.specs.Checks.{indices_outcome, queries_outcome};
 
 use refusal::{Cause, Outcome, Position};
 
 // A query list: 1 to 256 queries (9), then their indices; `step` is that of round 0.
 pub fn checked_queries(k: usize, step: usize, queries: &[u64]) -> Outcome
     requires { (k ≤ 20) × (step ≤ 3) }
-    ensures { result ≡ queriesOutcome k step queries.now }
+    ensures { result ≡ queries_outcome k step queries.now }
 {
     if !is_query_count(queries.len()) {
         return Outcome::Refused(Cause::QueryCountOutOfRange);
@@ -23,10 +23,10 @@ pub fn is_query_count(count: usize) -> bool
     1 <= count && count <= 256
 }
 
-// The indices of a query list: each below 2^k (10), then no two in one first-layer coset (17).
+// The indices of a query list: each below 2^k (10), then no two in one first_layer coset (17).
 pub fn checked_indices(k: usize, step: usize, queries: &[u64]) -> Outcome
     requires { (k ≤ 20) × (step ≤ 3) }
-    ensures { result ≡ indicesOutcome k step queries.now }
+    ensures { result ≡ indices_outcome k step queries.now }
 {
     let outside = first_outside(1 << k, queries);
     match outside {
@@ -37,7 +37,7 @@ pub fn checked_indices(k: usize, step: usize, queries: &[u64]) -> Outcome
 
 // The first query whose index is not below the size.
 fn first_outside(size: usize, queries: &[u64]) -> Position
-    ensures { result ≡ firstOutside size queries.now 0 }
+    ensures { result ≡ first_outside size queries.now 0 }
 {
     let mut query: usize = 0;
     while query < queries.len() {
@@ -49,10 +49,10 @@ fn first_outside(size: usize, queries: &[u64]) -> Position
     Position::Absent
 }
 
-// No two queries share a first-layer coset (17).
+// No two queries share a first_layer coset (17).
 fn checked_apart(step: usize, queries: &[u64]) -> Outcome
     requires { step ≤ 3 }
-    ensures { result ≡ outcomeOfShared (firstShared step queries.now) }
+    ensures { result ≡ outcome_of_shared (first_shared step queries.now) }
 {
     let shared = first_shared(step, queries);
     match shared {
@@ -61,11 +61,11 @@ fn checked_apart(step: usize, queries: &[u64]) -> Outcome
     }
 }
 
-// The first query that lies in the first-layer coset of an earlier one. Each is compared with those before it: 256
+// The first query that lies in the first_layer coset of an earlier one. Each is compared with those before it: 256
 // queries take 32,640 comparisons, and no list of cosets is kept.
 fn first_shared(step: usize, queries: &[u64]) -> Position
     requires { step ≤ 3 }
-    ensures { result ≡ firstShared step queries.now }
+    ensures { result ≡ first_shared step queries.now }
 {
     let mut query: usize = 0;
     while query < queries.len() {
@@ -78,10 +78,10 @@ fn first_shared(step: usize, queries: &[u64]) -> Position
     Position::Absent
 }
 
-// Whether one of the queries visits the first-layer coset of this number.
+// Whether one of the queries visits the first_layer coset of this number.
 fn visits(step: usize, queries: &[u64], coset: u64) -> bool
     requires { step ≤ 3 }
-    ensures { result ≡ among (visitedCosets step queries.now) coset }
+    ensures { result ≡ among (visited_cosets step queries.now) coset }
 {
     let mut query: usize = 0;
     while query < queries.len() {

@@ -2,8 +2,8 @@
 // where their sections begin, and thin functions over it. The borrow checker covers no function over such a struct, so
 // each is proved by hand; the work is in crates `sections`, `front_sections` and `byte_judge`, over a plain slice.
 ghost use Rattle.std.specs.Prelude.{◌≡◌};
-ghost use Rattle.transcript.specs.Judge.{transcriptVerdict, longVerdict, inputVerdict};
-ghost use Rattle.sections.specs.Views.{sectionsIn};
+ghost use Rattle.transcript.specs.Judge.{transcript_verdict, long_verdict, input_verdict};
+ghost use Rattle.sections.specs.Views.{sections_in};
 
 use fri::{Answer, Verdict};
 use refusal::{Cause, Outcome};
@@ -26,8 +26,8 @@ impl<'a> Reader<'a> {
 
     // The verdict on the transcript held.
     pub fn verdict(self) -> Verdict
-        requires { self.sections ≡ sectionsIn self.bytes.now }
-        ensures { result ≡ transcriptVerdict self.entry.bytes.now }
+        requires { self.sections ≡ sections_in self.bytes.now }
+        ensures { result ≡ transcript_verdict self.entry.bytes.now }
     {
         byte_judge::verdict(self.bytes, self.sections)
     }
@@ -37,7 +37,7 @@ impl<'a> Reader<'a> {
 // section 4), its entries' bytes (1), their values (4 to 7 in section 1, 8 in section 2, 10 and 17 in section 4); then
 // bytes after the last section (3); then the first round check that fails (11).
 pub fn judge(bytes: &[u8]) -> Verdict
-    ensures { result ≡ transcriptVerdict bytes.now }
+    ensures { result ≡ transcript_verdict bytes.now }
 {
     let sections = sections::find(bytes);
     Reader::new(bytes, sections).verdict()
@@ -46,7 +46,7 @@ pub fn judge(bytes: &[u8]) -> Verdict
 // The whole answer of the program `judge`: up to 65,536 bytes as `judge` says; to more, the first refusal of sections 1
 // to 4, else the length (14).
 pub fn judge_input(bytes: &[u8]) -> Verdict
-    ensures { result ≡ inputVerdict bytes.now }
+    ensures { result ≡ input_verdict bytes.now }
 {
     if bytes.len() > 65536 {
         return judge_long(bytes);
@@ -56,7 +56,7 @@ pub fn judge_input(bytes: &[u8]) -> Verdict
 
 // Its answer to more bytes than that.
 fn judge_long(bytes: &[u8]) -> Verdict
-    ensures { result ≡ longVerdict bytes.now }
+    ensures { result ≡ long_verdict bytes.now }
 {
     let front = front_sections::checked_front(bytes, sections::find(bytes));
     let cause = match front {

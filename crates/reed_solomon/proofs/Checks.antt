@@ -11,38 +11,38 @@ use Rattle.refusal.specs.declared.Cause.TheVariants.{DimensionOutOfRange, WrongL
 use Rattle.refusal.specs.declared.Outcome.{Outcome}
 use Rattle.refusal.specs.declared.Outcome.TheVariants.{Done, Refused}
 use Rattle.coset.specs.Span.{Independent}
-use Rattle.refusal.specs.Checks.{refusedUnless, afterwards}
-use Rattle.refusal.proofs.Checks.{le-of-test, passed-by, refused-by, unless-done, done-holds, refused-holds}
-use Rattle.coset.proofs.Independence.{independent-of}
+use Rattle.refusal.specs.Checks.{refused_unless, afterwards}
+use Rattle.refusal.proofs.Checks.{le_of_test, passed_by, refused_by, unless_done, done_holds, refused_holds}
+use Rattle.coset.proofs.Independence.{independent_of}
 use Rattle.coset.specs.Answers.{outcomeOfBasis, basisOutcome}
 use Rattle.reed_solomon.specs.Answers.{checked}
 
 module _ (basis : List ℕ) (fits3 fits6 : Bool) where
   abbrev after3 : Outcome
-  after3 = refusedUnless fits6 (WrongLength 6) (basisOutcome basis)
+  after3 = refused_unless fits6 (WrongLength 6) (basisOutcome basis)
 
   abbrev lists : Outcome
-  lists = refusedUnless fits3 (WrongLength 3) after3
+  lists = refused_unless fits3 (WrongLength 3) after3
 
-  pub dimension-refused : 20 < length basis → Refused DimensionOutOfRange ≡ checked basis fits3 fits6
-  dimension-refused h = refused-by (leb (length basis) 20) DimensionOutOfRange lists (lt-leb (length basis) 20 h)
+  pub dimension_refused : 20 < length basis → Refused DimensionOutOfRange ≡ checked basis fits3 fits6
+  dimension_refused h = refused_by (leb (length basis) 20) DimensionOutOfRange lists (lt-leb (length basis) 20 h)
 
-  dimension-passed : length basis ≤ 20 → lists ≡ checked basis fits3 fits6
-  dimension-passed h = passed-by (leb (length basis) 20) DimensionOutOfRange lists (le-leb (length basis) 20 h)
+  dimension_passed : length basis ≤ 20 → lists ≡ checked basis fits3 fits6
+  dimension_passed h = passed_by (leb (length basis) 20) DimensionOutOfRange lists (le-leb (length basis) 20 h)
 
-  pub list3-refused : length basis ≤ 20 → fits3 ≡ false → Refused (WrongLength 3) ≡ checked basis fits3 fits6
-  list3-refused h e = refused-by fits3 (WrongLength 3) after3 e ∙ dimension-passed h
+  pub list3_refused : length basis ≤ 20 → fits3 ≡ false → Refused (WrongLength 3) ≡ checked basis fits3 fits6
+  list3_refused h e = refused_by fits3 (WrongLength 3) after3 e ∙ dimension_passed h
 
-  list3-passed : length basis ≤ 20 → fits3 ≡ true → after3 ≡ checked basis fits3 fits6
-  list3-passed h e = passed-by fits3 (WrongLength 3) after3 e ∙ dimension-passed h
+  list3_passed : length basis ≤ 20 → fits3 ≡ true → after3 ≡ checked basis fits3 fits6
+  list3_passed h e = passed_by fits3 (WrongLength 3) after3 e ∙ dimension_passed h
 
-  pub list6-refused : length basis ≤ 20 → fits3 ≡ true → fits6 ≡ false
+  pub list6_refused : length basis ≤ 20 → fits3 ≡ true → fits6 ≡ false
       → Refused (WrongLength 6) ≡ checked basis fits3 fits6
-  list6-refused h e f = refused-by fits6 (WrongLength 6) (basisOutcome basis) f ∙ list3-passed h e
+  list6_refused h e f = refused_by fits6 (WrongLength 6) (basisOutcome basis) f ∙ list3_passed h e
 
-  pub basis-looked-at : length basis ≤ 20 → fits3 ≡ true → fits6 ≡ true
+  pub basis_looked_at : length basis ≤ 20 → fits3 ≡ true → fits6 ≡ true
       → basisOutcome basis ≡ checked basis fits3 fits6
-  basis-looked-at h e f = passed-by fits6 (WrongLength 6) (basisOutcome basis) f ∙ list3-passed h e
+  basis_looked_at h e f = passed_by fits6 (WrongLength 6) (basisOutcome basis) f ∙ list3_passed h e
 
 -- where all have passed
 pub record Passed (basis : List ℕ) (fits3 fits6 : Bool) : Type 0 where
@@ -53,41 +53,41 @@ pub record Passed (basis : List ℕ) (fits3 fits6 : Bool) : Type 0 where
 
 pub passed : (basis : List ℕ) (fits3 fits6 : Bool) → checked basis fits3 fits6 ≡ Done → Passed basis fits3 fits6
 passed basis fits3 fits6 e =
-    let first = unless-done (leb (length basis) 20) DimensionOutOfRange (lists basis fits3 fits6) e in
-    let second = unless-done fits3 (WrongLength 3) (after3 basis fits3 fits6) first.1 in
-    let third = unless-done fits6 (WrongLength 6) (basisOutcome basis) second.1 in
+    let first = unless_done (leb (length basis) 20) DimensionOutOfRange (lists basis fits3 fits6) e in
+    let second = unless_done fits3 (WrongLength 3) (after3 basis fits3 fits6) first.1 in
+    let third = unless_done fits6 (WrongLength 6) (basisOutcome basis) second.1 in
     record {
-      small = le-of-test (length basis) 20 first.0;
+      small = le_of_test (length basis) 20 first.0;
       list3 = second.0;
       list6 = third.0;
-      independent = independent-of basis third.1;
+      independent = independent_of basis third.1;
     }
 
 -- the code's size is 2^k, or 0 where k is refused anyway: so the tests of the lengths may take it
-pub answered-by-size : (basis : List ℕ) (fits3 fits6 : ℕ → Bool) (size : ℕ) (answer : Outcome)
+pub answered_by_size : (basis : List ℕ) (fits3 fits6 : ℕ → Bool) (size : ℕ) (answer : Outcome)
     → size ≡ cond (leb (length basis) 20) (2 ^ length basis) 0
     → answer ≡ checked basis (fits3 size) (fits6 size)
     → checked basis (fits3 (2 ^ length basis)) (fits6 (2 ^ length basis)) ≡ answer
-answered-by-size basis fits3 fits6 size answer e a =
+answered_by_size basis fits3 fits6 size answer e a =
     sym (a ∙ ap (λ (n : ℕ). checked basis (fits3 n) (fits6 n)) e ∙ by (leb (length basis) 20))
   where
     by : (k : Bool)
-        → refusedUnless k DimensionOutOfRange
+        → refused_unless k DimensionOutOfRange
         (lists basis (fits3 (cond k (2 ^ length basis) 0)) (fits6 (cond k (2 ^ length basis) 0)))
-        ≡ refusedUnless k DimensionOutOfRange (lists basis (fits3 (2 ^ length basis)) (fits6 (2 ^ length basis)))
+        ≡ refused_unless k DimensionOutOfRange (lists basis (fits3 (2 ^ length basis)) (fits6 (2 ^ length basis)))
     by true = refl
     by false = refl
 
 -- conversely
 pub passes : (basis : List ℕ) (fits3 fits6 : Bool) → length basis ≤ 20 → fits3 ≡ true → fits6 ≡ true → Independent basis
     → checked basis fits3 fits6 ≡ Done
-passes basis fits3 fits6 h e f d = sym (basis-looked-at basis fits3 fits6 h e f) ∙ ap outcomeOfBasis d
+passes basis fits3 fits6 h e f d = sym (basis_looked_at basis fits3 fits6 h e f) ∙ ap outcomeOfBasis d
 
 -- both clauses where it is done, and where it is refused
-pub done-both : (outcome : Outcome) (wanted held held' : List ℕ) → outcome ≡ Done → held' ≡ wanted
+pub done_both : (outcome : Outcome) (wanted held held' : List ℕ) → outcome ≡ Done → held' ≡ wanted
     → (Done ≡ outcome) × (held' ≡ afterwards outcome wanted held)
-done-both outcome wanted held held' e w = (sym e, done-holds outcome wanted held held' e w)
+done_both outcome wanted held held' e w = (sym e, done_holds outcome wanted held held' e w)
 
-pub refused-both : (outcome : Outcome) (cause : Cause) (wanted held : List ℕ) → outcome ≡ Refused cause
+pub refused_both : (outcome : Outcome) (cause : Cause) (wanted held : List ℕ) → outcome ≡ Refused cause
     → (Refused cause ≡ outcome) × (held ≡ afterwards outcome wanted held)
-refused-both outcome cause wanted held e = (sym e, refused-holds outcome cause wanted held e)
+refused_both outcome cause wanted held e = (sym e, refused_holds outcome cause wanted held e)

@@ -9,10 +9,10 @@ use native.Mathlib.Omega.{arith}
 use Rattle.gf64.specs.Field.{IsElement}
 use Rattle.poly.specs.Carrier.{gf64}
 use Rattle.poly.specs.Polynomial.{All, DegreeBelow, padded, Zeros}
-use Rattle.poly.proofs.AtField.{at_field, gf64-laws}
+use Rattle.poly.proofs.AtField.{at_field, gf64_laws}
 use Rattle.coset.specs.Coset.{points}
 use Rattle.coset.specs.Span.{Independent}
-use Rattle.coset.proofs.Points.{length-points, points-distinct, points-elements}
+use Rattle.coset.proofs.Points.{length-points, points_distinct, points-elements}
 use Rattle.reed_solomon.specs.Codes.{encoded, interpolated, WordDegreeBelow}
 use Rattle.reed_solomon.specs.Theorems.{RoundTrips, CodesAccepted, Told, CodeRefusals, Encoding}
 use Rattle.reed_solomon.specs.Answers.{checked}
@@ -20,24 +20,24 @@ use Rattle.coset.specs.Answers.{outcomeOfBasis}
 use Rattle.refusal.specs.declared.Cause.TheVariants.{DimensionOutOfRange, BasisDependent, WrongLength}
 use Rattle.refusal.specs.declared.Outcome.{Outcome}
 use Rattle.refusal.specs.declared.Outcome.TheVariants.{Done, Refused}
-use Rattle.refusal.specs.Numbers.{numberOfOutcome, placeOfOutcome}
-use Rattle.reed_solomon.proofs.Checks.{dimension-refused, list3-refused}
-use Rattle.reed_solomon.proofs.Checks.{list6-refused, basis-looked-at, passed, passes}
-use Rattle.refusal.proofs.Checks.{equal-of-test, le-of-test}
+use Rattle.refusal.specs.Numbers.{number_of_outcome, place_of_outcome}
+use Rattle.reed_solomon.proofs.Checks.{dimension_refused, list3_refused}
+use Rattle.reed_solomon.proofs.Checks.{list6_refused, basis_looked_at, passed, passes}
+use Rattle.refusal.proofs.Checks.{equal_of_test, le_of_test}
 use lib.Dec.{leb, eqb}
 use borrow.Author.Tests.{le-leb, eq-eqb}
-use Rattle.reed_solomon.proofs.Values.{length-encoded, encoded-getD}
-use Rattle.poly.proofs.Interpolation.{values-padded}
+use Rattle.reed_solomon.proofs.Values.{length-encoded, encoded-get_or}
+use Rattle.poly.proofs.Interpolation.{values_padded}
 use Rattle.poly.proofs.Entries.{all_replicate}
 use lib.Seq.{drop-append_seam}
 
-coefficients-back : (offset : ℕ) (basis coefficients : List ℕ) → IsElement offset → All IsElement basis
+coefficients_back : (offset : ℕ) (basis coefficients : List ℕ) → IsElement offset → All IsElement basis
     → All IsElement coefficients → Independent basis → length coefficients ≤ 2 ^ length basis
     → interpolated offset basis (encoded offset basis coefficients) ≡ padded gf64 (2 ^ length basis) coefficients
 unfolding encoded interpolated
-coefficients-back offset basis coefficients eo eb ec d h =
+coefficients_back offset basis coefficients eo eb ec d h =
     at_field.interpolation.recovers coefficients (points offset basis) ec (points-elements offset basis eo eb)
-    (points-distinct offset basis d) (omega (arith, length-points offset basis))
+    (points_distinct offset basis d) (omega (arith, length-points offset basis))
     ∙ ap (λ (n : ℕ). padded gf64 n coefficients) (length-points offset basis)
 
 word_back : (offset : ℕ) (basis word : List ℕ) → IsElement offset → All IsElement basis → All IsElement word
@@ -45,27 +45,27 @@ word_back : (offset : ℕ) (basis word : List ℕ) → IsElement offset → All 
 unfolding encoded interpolated
 word_back offset basis word eo eb ew d h =
     at_field.interpolation.agrees (points offset basis) word (points-elements offset basis eo eb) ew
-    (points-distinct offset basis d) (length-points offset basis ∙ sym h)
+    (points_distinct offset basis d) (length-points offset basis ∙ sym h)
 
-left-off : (offset : ℕ) (basis coefficients : List ℕ)
+left_off : (offset : ℕ) (basis coefficients : List ℕ)
     → encoded offset basis (padded gf64 (2 ^ length basis) coefficients) ≡ encoded offset basis coefficients
 unfolding encoded
-left-off offset basis coefficients =
-    values-padded gf64 IsElement gf64-laws (2 ^ length basis) coefficients (points offset basis)
+left_off offset basis coefficients =
+    values_padded gf64 IsElement gf64_laws (2 ^ length basis) coefficients (points offset basis)
 
 degree : (offset : ℕ) (basis coefficients : List ℕ) → IsElement offset → All IsElement basis
     → All IsElement coefficients → Independent basis → length coefficients ≤ 2 ^ length basis
     → WordDegreeBelow (length coefficients) offset basis (encoded offset basis coefficients)
 unfolding padded
 degree offset basis coefficients eo eb ec d h =
-    subst (DegreeBelow gf64 (length coefficients)) (sym (coefficients-back offset basis coefficients eo eb ec d h))
+    subst (DegreeBelow gf64 (length coefficients)) (sym (coefficients_back offset basis coefficients eo eb ec d h))
     (subst (Zeros gf64) (sym (drop-append_seam coefficients (replicate n 0))) (all_replicate (λ c. c ≡ 0) n 0 refl))
   where
     n : ℕ
     n = 2 ^ length basis - length coefficients
 
 pub encoding : Encoding
-encoding = record { count = length-encoded; values = encoded-getD; left-off = left-off; degree = degree }
+encoding = record { count = length-encoded; values = encoded-get_or; left_off = left_off; degree = degree }
 
 interpolated-count : (offset : ℕ) (basis word : List ℕ) → length word ≡ 2 ^ length basis
     → length (interpolated offset basis word) ≡ 2 ^ length basis
@@ -74,14 +74,14 @@ interpolated-count offset basis word h =
     at_field.interpolation.count (points offset basis) word (length-points offset basis ∙ sym h)
     ∙ length-points offset basis
 
-pub round-trips : RoundTrips
-round-trips = record { coefficients = coefficients-back; count = interpolated-count; word = word_back }
+pub round_trips : RoundTrips
+round_trips = record { coefficients = coefficients_back; count = interpolated-count; word = word_back }
 
 -- the checks pass exactly where k is at most 20, what the two tests stand for holds, and the basis is independent
-accepted-by : (basis : List ℕ) (fits3 fits6 : Bool) (P Q : Type 0) → (fits3 ≡ true → P) → (P → fits3 ≡ true)
+accepted_by : (basis : List ℕ) (fits3 fits6 : Bool) (P Q : Type 0) → (fits3 ≡ true → P) → (P → fits3 ≡ true)
     → (fits6 ≡ true → Q) → (Q → fits6 ≡ true)
     → (checked basis fits3 fits6 ≡ Done) ↔ ((length basis ≤ 20) × P × Q × Independent basis)
-accepted-by basis fits3 fits6 P Q p p' q q' = (
+accepted_by basis fits3 fits6 P Q p p' q q' = (
   λ e. let all = passed basis fits3 fits6 e in (all.small, p all.list3, q all.list6, all.independent),
   λ a. passes basis fits3 fits6 a.0 (p' a.1) (q' a.2) a.3,
 )
@@ -91,29 +91,29 @@ accepted =
     record {
       encode =
           λ basis coefficients values.
-          accepted-by basis (leb (length coefficients) (2 ^ length basis)) (eqb (length values) (2 ^ length basis))
+          accepted_by basis (leb (length coefficients) (2 ^ length basis)) (eqb (length values) (2 ^ length basis))
           (length coefficients ≤ 2 ^ length basis) (length values ≡ 2 ^ length basis)
-          (le-of-test (length coefficients) (2 ^ length basis)) (le-leb (length coefficients) (2 ^ length basis))
-          (equal-of-test (length values) (2 ^ length basis)) (eq-eqb (length values) (2 ^ length basis));
+          (le_of_test (length coefficients) (2 ^ length basis)) (le-leb (length coefficients) (2 ^ length basis))
+          (equal_of_test (length values) (2 ^ length basis)) (eq-eqb (length values) (2 ^ length basis));
       interpolate =
           λ basis word coefficients.
-          accepted-by basis (eqb (length word) (2 ^ length basis)) (eqb (length coefficients) (2 ^ length basis))
+          accepted_by basis (eqb (length word) (2 ^ length basis)) (eqb (length coefficients) (2 ^ length basis))
           (length word ≡ 2 ^ length basis) (length coefficients ≡ 2 ^ length basis)
-          (equal-of-test (length word) (2 ^ length basis)) (eq-eqb (length word) (2 ^ length basis))
-          (equal-of-test (length coefficients) (2 ^ length basis)) (eq-eqb (length coefficients) (2 ^ length basis));
+          (equal_of_test (length word) (2 ^ length basis)) (eq-eqb (length word) (2 ^ length basis))
+          (equal_of_test (length coefficients) (2 ^ length basis)) (eq-eqb (length coefficients) (2 ^ length basis));
     }
 
 -- an outcome that is known has its number and its place
-told : (outcome known : Outcome) → known ≡ outcome → Told outcome (numberOfOutcome known) (placeOfOutcome known)
-told outcome known e = (ap numberOfOutcome (sym e), ap placeOfOutcome (sym e))
+told : (outcome known : Outcome) → known ≡ outcome → Told outcome (number_of_outcome known) (place_of_outcome known)
+told outcome known e = (ap number_of_outcome (sym e), ap place_of_outcome (sym e))
 
 pub refusals : CodeRefusals
 refusals =
     record {
-      dimension = λ basis a b h. told (checked basis a b) (Refused DimensionOutOfRange) (dimension-refused basis a b h);
-      list3 = λ basis a b h e. told (checked basis a b) (Refused (WrongLength 3)) (list3-refused basis a b h e);
-      list6 = λ basis a b h e f. told (checked basis a b) (Refused (WrongLength 6)) (list6-refused basis a b h e f);
+      dimension = λ basis a b h. told (checked basis a b) (Refused DimensionOutOfRange) (dimension_refused basis a b h);
+      list3 = λ basis a b h e. told (checked basis a b) (Refused (WrongLength 3)) (list3_refused basis a b h e);
+      list6 = λ basis a b h e f. told (checked basis a b) (Refused (WrongLength 6)) (list6_refused basis a b h e f);
       dependent =
           λ basis a b place h e f d. told (checked basis a b) (Refused (BasisDependent place))
-          (ap outcomeOfBasis (sym d) ∙ basis-looked-at basis a b h e f);
+          (ap outcomeOfBasis (sym d) ∙ basis_looked_at basis a b h e f);
     }

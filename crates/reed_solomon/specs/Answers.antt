@@ -3,7 +3,7 @@
 use Rattle.std.specs.Prelude.{Bool, List, ℕ, ◌^◌, leb, eqb, length}
 use Rattle.refusal.specs.declared.Cause.TheVariants.{DimensionOutOfRange, WrongLength}
 use Rattle.refusal.specs.declared.Outcome.{Outcome}
-use Rattle.refusal.specs.Checks.{refusedUnless, afterwards}
+use Rattle.refusal.specs.Checks.{refused_unless, afterwards}
 use Rattle.coset.specs.Answers.{basisOutcome}
 use Rattle.reed_solomon.specs.Codes.{encoded, interpolated}
 
@@ -11,9 +11,9 @@ use Rattle.reed_solomon.specs.Codes.{encoded, interpolated}
 -- a dependent basis (8)
 abbrev pub checked : (basis : List ℕ) (fits3 fits6 : Bool) → Outcome
 checked basis fits3 fits6 =
-    refusedUnless (leb (length basis) 20) DimensionOutOfRange
-    (refusedUnless fits3 (WrongLength 3)
-    (refusedUnless fits6 (WrongLength 6)
+    refused_unless (leb (length basis) 20) DimensionOutOfRange
+    (refused_unless fits3 (WrongLength 3)
+    (refused_unless fits6 (WrongLength 6)
     (basisOutcome basis)))
 
 -- what encoding answers: at most 2^k coefficients, exactly 2^k values

@@ -5,12 +5,12 @@ use Rattle.gf64.specs.Field.{IsElement}
 use Rattle.poly.specs.Carrier.{gf64}
 use Rattle.poly.specs.Polynomial.{All, evaluate, padded}
 use Rattle.coset.specs.Coset.{point}
-use Rattle.coset.specs.Span.{firstDependent, Independent}
+use Rattle.coset.specs.Span.{first_dependent, Independent}
 use Rattle.refusal.specs.declared.Outcome.{Outcome}
 use Rattle.refusal.specs.declared.Outcome.TheVariants.{Done}
 use Rattle.refusal.specs.declared.Position.{Position}
 use Rattle.refusal.specs.declared.Position.TheVariants.{At, Absent}
-use Rattle.refusal.specs.Numbers.{numberOfOutcome, placeOfOutcome}
+use Rattle.refusal.specs.Numbers.{number_of_outcome, place_of_outcome}
 use Rattle.reed_solomon.specs.Answers.{checked, encodeOutcome, interpolateOutcome}
 use Rattle.reed_solomon.specs.Codes.{encoded, interpolated, WordDegreeBelow}
 
@@ -41,7 +41,7 @@ pub record CodesAccepted : Type 0 where
 
 -- an outcome's number and place
 abbrev pub Told : (outcome : Outcome) (number : ℕ) (place : Position) → Type 0
-Told outcome number place = (numberOfOutcome outcome ≡ number) × (placeOfOutcome outcome ≡ place)
+Told outcome number place = (number_of_outcome outcome ≡ number) × (place_of_outcome outcome ≡ place)
 
 -- the numbers and places of the refusals, by the first check that fails
 pub record CodeRefusals : Type 0 where
@@ -51,7 +51,7 @@ pub record CodeRefusals : Type 0 where
   pub list6 : (basis : List ℕ) (fits3 fits6 : Bool) → length basis ≤ 20 → fits3 ≡ true → fits6 ≡ false
       → Told (checked basis fits3 fits6) 13 (At 6)
   pub dependent : (basis : List ℕ) (fits3 fits6 : Bool) (place : ℕ) → length basis ≤ 20 → fits3 ≡ true → fits6 ≡ true
-      → firstDependent basis ≡ At place → Told (checked basis fits3 fits6) 8 (At place)
+      → first_dependent basis ≡ At place → Told (checked basis fits3 fits6) 8 (At place)
 
 -- encoding entry by entry
 pub record Encoding : Type 0 where
@@ -60,7 +60,7 @@ pub record Encoding : Type 0 where
   pub values : (offset : ℕ) (basis coefficients : List ℕ) (j : ℕ) → j < 2 ^ length basis
       → get_or (encoded offset basis coefficients) j 0 ≡ evaluate gf64 coefficients (point offset basis j)
   -- coefficients that are left off are zero
-  pub left-off : (offset : ℕ) (basis coefficients : List ℕ)
+  pub left_off : (offset : ℕ) (basis coefficients : List ℕ)
       → encoded offset basis (padded gf64 (2 ^ length basis) coefficients) ≡ encoded offset basis coefficients
   -- n coefficients give a word of degree below n
   pub degree : (offset : ℕ) (basis coefficients : List ℕ) → IsElement offset → All IsElement basis
@@ -69,7 +69,7 @@ pub record Encoding : Type 0 where
 
 -- case E of Table A
 pub record CodeCases : Type 0 where
-  pub e-done : encodeOutcome (1 ∷ 2 ∷ []) (7 ∷ 3 ∷ []) (0 ∷ 0 ∷ 0 ∷ 0 ∷ []) ≡ Done
+  pub e_done : encodeOutcome (1 ∷ 2 ∷ []) (7 ∷ 3 ∷ []) (0 ∷ 0 ∷ 0 ∷ 0 ∷ []) ≡ Done
   pub e : encoded 0 (1 ∷ 2 ∷ []) (7 ∷ 3 ∷ []) ≡ 7 ∷ 4 ∷ 1 ∷ 2 ∷ []
-  pub e-back-done : interpolateOutcome (1 ∷ 2 ∷ []) (7 ∷ 4 ∷ 1 ∷ 2 ∷ []) (0 ∷ 0 ∷ 0 ∷ 0 ∷ []) ≡ Done
-  pub e-back : interpolated 0 (1 ∷ 2 ∷ []) (7 ∷ 4 ∷ 1 ∷ 2 ∷ []) ≡ 7 ∷ 3 ∷ 0 ∷ 0 ∷ []
+  pub e_back_done : interpolateOutcome (1 ∷ 2 ∷ []) (7 ∷ 4 ∷ 1 ∷ 2 ∷ []) (0 ∷ 0 ∷ 0 ∷ 0 ∷ []) ≡ Done
+  pub e_back : interpolated 0 (1 ∷ 2 ∷ []) (7 ∷ 4 ∷ 1 ∷ 2 ∷ []) ≡ 7 ∷ 3 ∷ 0 ∷ 0 ∷ []

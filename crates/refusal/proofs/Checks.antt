@@ -10,63 +10,63 @@ use borrow.Author.Tests.{le-leb, lt-leb}
 use Rattle.refusal.specs.declared.Cause.{Cause}
 use Rattle.refusal.specs.declared.Outcome.{Outcome}
 use Rattle.refusal.specs.declared.Outcome.TheVariants.{Done, Refused}
-use Rattle.refusal.specs.Checks.{refusedUnless, and_then, afterwards}
-use Rattle.refusal.specs.Numbers.{number_of, numberOfOutcome}
+use Rattle.refusal.specs.Checks.{refused_unless, and_then, afterwards}
+use Rattle.refusal.specs.Numbers.{number_of, number_of_outcome}
 
-pub not-true : (a : Bool) → not a ≡ true → a ≡ false
-not-true true e = sym e
-not-true false e = refl
+pub not_true : (a : Bool) → not a ≡ true → a ≡ false
+not_true true e = sym e
+not_true false e = refl
 
-pub not-false : (a : Bool) → not a ≡ false → a ≡ true
-not-false true e = refl
-not-false false e = sym e
+pub not_false : (a : Bool) → not a ≡ false → a ≡ true
+not_false true e = refl
+not_false false e = sym e
 
-pub equal-of-test : (m n : ℕ) → eqb m n ≡ true → m ≡ n
-equal-of-test m n e = eqb→eq m n (subst T (sym e) tt)
+pub equal_of_test : (m n : ℕ) → eqb m n ≡ true → m ≡ n
+equal_of_test m n e = eqb→eq m n (subst T (sym e) tt)
 
-pub le-of-test : (m n : ℕ) → leb m n ≡ true → m ≤ n
-le-of-test m n e = leb→le m n (subst T (sym e) tt)
+pub le_of_test : (m n : ℕ) → leb m n ≡ true → m ≤ n
+le_of_test m n e = leb→le m n (subst T (sym e) tt)
 
-pub refused-not-done : (cause : Cause) → Refused cause ≡ Done → ⊥
-refused-not-done cause e = let impossible : ◌≡◌ {A = ℕ} 0 1 = cc in omega arith
+pub refused_not_done : (cause : Cause) → Refused cause ≡ Done → ⊥
+refused_not_done cause e = let impossible : ◌≡◌ {A = ℕ} 0 1 = cc in omega arith
 
 -- what a lent list holds where it is done, and where it is refused
-pub done-holds : (outcome : Outcome) (wanted held held' : List ℕ) → outcome ≡ Done → held' ≡ wanted
+pub done_holds : (outcome : Outcome) (wanted held held' : List ℕ) → outcome ≡ Done → held' ≡ wanted
     → held' ≡ afterwards outcome wanted held
-done-holds outcome wanted held held' e w = w ∙ sym (ap (λ (o : Outcome). afterwards o wanted held) e)
+done_holds outcome wanted held held' e w = w ∙ sym (ap (λ (o : Outcome). afterwards o wanted held) e)
 
-pub refused-holds : (outcome : Outcome) (cause : Cause) (wanted held : List ℕ) → outcome ≡ Refused cause
+pub refused_holds : (outcome : Outcome) (cause : Cause) (wanted held : List ℕ) → outcome ≡ Refused cause
     → held ≡ afterwards outcome wanted held
-refused-holds outcome cause wanted held e = sym (ap (λ (o : Outcome). afterwards o wanted held) e)
+refused_holds outcome cause wanted held e = sym (ap (λ (o : Outcome). afterwards o wanted held) e)
 
 -- ---- one check after the other
 
-pub passed-by : (test : Bool) (cause : Cause) (after : Outcome) → test ≡ true → after ≡ refusedUnless test cause after
-passed-by test cause after e = sym (ap (λ (t : Bool). refusedUnless t cause after) e)
+pub passed_by : (test : Bool) (cause : Cause) (after : Outcome) → test ≡ true → after ≡ refused_unless test cause after
+passed_by test cause after e = sym (ap (λ (t : Bool). refused_unless t cause after) e)
 
-pub refused-by : (test : Bool) (cause : Cause) (after : Outcome) → test ≡ false
-    → Refused cause ≡ refusedUnless test cause after
-refused-by test cause after e = sym (ap (λ (t : Bool). refusedUnless t cause after) e)
+pub refused_by : (test : Bool) (cause : Cause) (after : Outcome) → test ≡ false
+    → Refused cause ≡ refused_unless test cause after
+refused_by test cause after e = sym (ap (λ (t : Bool). refused_unless t cause after) e)
 
-pub unless-done : (test : Bool) (cause : Cause) (after : Outcome) → refusedUnless test cause after ≡ Done
+pub unless_done : (test : Bool) (cause : Cause) (after : Outcome) → refused_unless test cause after ≡ Done
     → (test ≡ true) × (after ≡ Done)
-unless-done true cause after e = (refl, e)
-unless-done false cause after e = absurd (refused-not-done cause e)
+unless_done true cause after e = (refl, e)
+unless_done false cause after e = absurd (refused_not_done cause e)
 
-pub then-passed : (first after : Outcome) → first ≡ Done → after ≡ and_then first after
-then-passed first after e = sym (ap (λ (o : Outcome). and_then o after) e)
+pub then_passed : (first after : Outcome) → first ≡ Done → after ≡ and_then first after
+then_passed first after e = sym (ap (λ (o : Outcome). and_then o after) e)
 
-pub then-refused : (first after : Outcome) (cause : Cause) → first ≡ Refused cause → Refused cause ≡ and_then first after
-then-refused first after cause e = sym (ap (λ (o : Outcome). and_then o after) e)
+pub then_refused : (first after : Outcome) (cause : Cause) → first ≡ Refused cause → Refused cause ≡ and_then first after
+then_refused first after cause e = sym (ap (λ (o : Outcome). and_then o after) e)
 
-pub then-done : (first after : Outcome) → and_then first after ≡ Done → (first ≡ Done) × (after ≡ Done)
-then-done Done after e = (refl, e)
-then-done (Refused cause) after e = absurd (refused-not-done cause e)
+pub then_done : (first after : Outcome) → and_then first after ≡ Done → (first ≡ Done) × (after ≡ Done)
+then_done Done after e = (refl, e)
+then_done (Refused cause) after e = absurd (refused_not_done cause e)
 
-pub then-then : (first second third : Outcome)
+pub then_then : (first second third : Outcome)
     → and_then first (and_then second third) ≡ and_then (and_then first second) third
-then-then Done second third = refl
-then-then (Refused cause) second third = refl
+then_then Done second third = refl
+then_then (Refused cause) second third = refl
 
 -- a refusal of two groups of checks is one of the first, or of the second after the first has passed
 abbrev pub Either : Outcome → Outcome → Cause → Type 0
@@ -78,10 +78,10 @@ which (Refused other) after cause e = inl e
 
 -- ---- what holds of every outcome that checks may have, and of every number
 
-pub holds-unless : (Q : Outcome → Type 0) (test : Bool) (cause : Cause) (after : Outcome) → Q (Refused cause) → Q after
-    → Q (refusedUnless test cause after)
-holds-unless Q true cause after c a = a
-holds-unless Q false cause after c a = c
+pub holds_unless : (Q : Outcome → Type 0) (test : Bool) (cause : Cause) (after : Outcome) → Q (Refused cause) → Q after
+    → Q (refused_unless test cause after)
+holds_unless Q true cause after c a = a
+holds_unless Q false cause after c a = c
 
 -- those after the first are asked for where it has passed
 pub holds_after : (Q : Outcome → Type 0) (first after : Outcome) → Q first → (first ≡ Done → Q after)
@@ -89,30 +89,30 @@ pub holds_after : (Q : Outcome → Type 0) (first after : Outcome) → Q first �
 holds_after Q Done after f a = a refl
 holds_after Q (Refused cause) after f a = f
 
-pub number-unless : (P : ℕ → Type 0) (test : Bool) (cause : Cause) (after : Outcome) → P (number_of cause)
-    → P (numberOfOutcome after)
-    → P (numberOfOutcome (refusedUnless test cause after))
-number-unless P test cause after c a = holds-unless (λ o. P (numberOfOutcome o)) test cause after c a
+pub number_unless : (P : ℕ → Type 0) (test : Bool) (cause : Cause) (after : Outcome) → P (number_of cause)
+    → P (number_of_outcome after)
+    → P (number_of_outcome (refused_unless test cause after))
+number_unless P test cause after c a = holds_unless (λ o. P (number_of_outcome o)) test cause after c a
 
-pub number-then : (P : ℕ → Type 0) (first after : Outcome) → P (numberOfOutcome first) → P (numberOfOutcome after)
-    → P (numberOfOutcome (and_then first after))
-number-then P first after f a = holds_after (λ o. P (numberOfOutcome o)) first after f (λ done. a)
+pub number_then : (P : ℕ → Type 0) (first after : Outcome) → P (number_of_outcome first) → P (number_of_outcome after)
+    → P (number_of_outcome (and_then first after))
+number_then P first after f a = holds_after (λ o. P (number_of_outcome o)) first after f (λ done. a)
 
 -- ---- two tests in one
 
 pub both_true : (a b : Bool) → a ≡ true → b ≡ true → (a && b) ≡ true
 both_true a b e f = ap₂ ◌&&◌ e f
 
-pub first-false : (a b : Bool) → a ≡ false → (a && b) ≡ false
-first-false a b e = ap (λ (t : Bool). t && b) e
+pub first_false : (a b : Bool) → a ≡ false → (a && b) ≡ false
+first_false a b e = ap (λ (t : Bool). t && b) e
 
-pub second-false : (a b : Bool) → b ≡ false → (a && b) ≡ false
-second-false true b e = e
-second-false false b e = refl
+pub second_false : (a b : Bool) → b ≡ false → (a && b) ≡ false
+second_false true b e = e
+second_false false b e = refl
 
-pub each-true : (a b : Bool) → (a && b) ≡ true → (a ≡ true) × (b ≡ true)
-each-true true b e = (refl, e)
-each-true false b e = absurd (let impossible : ◌≡◌ {A = ℕ} 0 1 = ap (λ (t : Bool). cond t 1 0) e in omega arith)
+pub each_true : (a b : Bool) → (a && b) ≡ true → (a ≡ true) × (b ≡ true)
+each_true true b e = (refl, e)
+each_true false b e = absurd (let impossible : ◌≡◌ {A = ℕ} 0 1 = ap (λ (t : Bool). cond t 1 0) e in omega arith)
 
 -- a number in a range
 pub within : (least most n : ℕ) → least ≤ n → n ≤ most → (leb least n && leb n most) ≡ true
@@ -120,10 +120,10 @@ within least most n l m = both_true (leb least n) (leb n most) (le-leb least n l
 
 pub within_of : (least most n : ℕ) → (leb least n && leb n most) ≡ true → (least ≤ n) × (n ≤ most)
 within_of least most n e =
-    let both = each-true (leb least n) (leb n most) e in
-    (le-of-test least n both.0, le-of-test n most both.1)
+    let both = each_true (leb least n) (leb n most) e in
+    (le_of_test least n both.0, le_of_test n most both.1)
 
 pub outside : (least most n : ℕ) → (n < least) ⊎ (most < n) → (leb least n && leb n most) ≡ false
 outside least most n o =
-    ⊎_elim (λ (l : n < least). first-false (leb least n) (leb n most) (lt-leb least n l))
-    (λ (u : most < n). second-false (leb least n) (leb n most) (lt-leb n most u)) o
+    ⊎_elim (λ (l : n < least). first_false (leb least n) (leb n most) (lt-leb least n l))
+    (λ (u : most < n). second_false (leb least n) (leb n most) (lt-leb n most u)) o

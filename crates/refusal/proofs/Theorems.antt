@@ -12,7 +12,7 @@ use Rattle.refusal.specs.declared.Cause.TheVariants.{BasisDependent, QueryCountO
 use Rattle.refusal.specs.declared.Cause.TheVariants.{RoundCheckFails, DegreeTooLarge, WrongLength, InputTooLong}
 use Rattle.refusal.specs.declared.Cause.TheVariants.{CosetShared}
 use Rattle.refusal.specs.declared.Position.TheVariants.{Absent}
-use Rattle.refusal.specs.Numbers.{number_of, roundOf}
+use Rattle.refusal.specs.Numbers.{number_of, round_of}
 use Rattle.refusal.specs.Theorems.{RetiredNumbers, RoundNumbers}
 
 -- a number that a cause has is 1 to 14, or 17
@@ -36,52 +36,52 @@ given (WrongLength list) = inl (omega arith, omega arith)
 given InputTooLong = inl (omega arith, omega arith)
 given (CosetShared query) = inr refl
 
-zero-not-given : (n : ℕ) → Given n → n ≢ 0
-zero-not-given n (inl range) e = omega arith
-zero-not-given n (inr is) e = omega arith
+zero_not_given : (n : ℕ) → Given n → n ≢ 0
+zero_not_given n (inl range) e = omega arith
+zero_not_given n (inr is) e = omega arith
 
 -- 0 is accepted, and no cause's number
-pub never-zero : (cause : Cause) → number_of cause ≢ 0
-never-zero cause = zero-not-given (number_of cause) (given cause)
+pub never_zero : (cause : Cause) → number_of cause ≢ 0
+never_zero cause = zero_not_given (number_of cause) (given cause)
 
-fifteen-not-given : (n : ℕ) → Given n → n ≢ 15
-fifteen-not-given n (inl range) e = omega arith
-fifteen-not-given n (inr is) e = omega arith
+fifteen_not_given : (n : ℕ) → Given n → n ≢ 15
+fifteen_not_given n (inl range) e = omega arith
+fifteen_not_given n (inr is) e = omega arith
 
-sixteen-not-given : (n : ℕ) → Given n → n ≢ 16
-sixteen-not-given n (inl range) e = omega arith
-sixteen-not-given n (inr is) e = omega arith
+sixteen_not_given : (n : ℕ) → Given n → n ≢ 16
+sixteen_not_given n (inl range) e = omega arith
+sixteen_not_given n (inr is) e = omega arith
 
-pub retired-numbers : RetiredNumbers
-retired-numbers =
+pub retired_numbers : RetiredNumbers
+retired_numbers =
     record {
-      fifteen = λ cause. fifteen-not-given (number_of cause) (given cause);
-      sixteen = λ cause. sixteen-not-given (number_of cause) (given cause);
+      fifteen = λ cause. fifteen_not_given (number_of cause) (given cause);
+      sixteen = λ cause. sixteen_not_given (number_of cause) (given cause);
     }
 
 -- a failed round check, by its number and by its position among the constructors, or a cause without a round
-pub round-or-none : (cause : Cause)
-    → ((number_of cause ≡ 11) × (tag_of the_type cause ≡ 10)) ⊎ (roundOf cause ≡ Absent)
-round-or-none (BytesEnd section) = inr refl
-round-or-none (CountDiffers section) = inr refl
-round-or-none TrailingBytes = inr refl
-round-or-none DimensionOutOfRange = inr refl
-round-or-none RateOutOfRange = inr refl
-round-or-none StepOutOfRange = inr refl
-round-or-none DimensionTooSmall = inr refl
-round-or-none (BasisDependent place) = inr refl
-round-or-none QueryCountOutOfRange = inr refl
-round-or-none (QueryOutOfRange query) = inr refl
-round-or-none (RoundCheckFails query round) = inl (refl, refl)
-round-or-none (DegreeTooLarge degree) = inr refl
-round-or-none (WrongLength list) = inr refl
-round-or-none InputTooLong = inr refl
-round-or-none (CosetShared query) = inr refl
+pub round_or_none : (cause : Cause)
+    → ((number_of cause ≡ 11) × (tag_of the_type cause ≡ 10)) ⊎ (round_of cause ≡ Absent)
+round_or_none (BytesEnd section) = inr refl
+round_or_none (CountDiffers section) = inr refl
+round_or_none TrailingBytes = inr refl
+round_or_none DimensionOutOfRange = inr refl
+round_or_none RateOutOfRange = inr refl
+round_or_none StepOutOfRange = inr refl
+round_or_none DimensionTooSmall = inr refl
+round_or_none (BasisDependent place) = inr refl
+round_or_none QueryCountOutOfRange = inr refl
+round_or_none (QueryOutOfRange query) = inr refl
+round_or_none (RoundCheckFails query round) = inl (refl, refl)
+round_or_none (DegreeTooLarge degree) = inr refl
+round_or_none (WrongLength list) = inr refl
+round_or_none InputTooLong = inr refl
+round_or_none (CosetShared query) = inr refl
 
-no-round : (cause : Cause) → number_of cause ≢ 11 → roundOf cause ≡ Absent
-no-round cause n =
+no_round : (cause : Cause) → number_of cause ≢ 11 → round_of cause ≡ Absent
+no_round cause n =
     ⊎_elim (λ (t : (number_of cause ≡ 11) × (tag_of the_type cause ≡ 10)). absurd (n t.0))
-    (λ (none : roundOf cause ≡ Absent). none) (round-or-none cause)
+    (λ (none : round_of cause ≡ Absent). none) (round_or_none cause)
 
-pub round-numbers : RoundNumbers
-round-numbers = record { eleven = λ query round. refl; eleven-alone = no-round }
+pub round_numbers : RoundNumbers
+round_numbers = record { eleven = λ query round. refl; eleven_alone = no_round }

@@ -5,8 +5,8 @@ use Rattle.refusal.specs.declared.Outcome.{Outcome}
 use Rattle.refusal.specs.declared.Outcome.TheVariants.{Done, Refused}
 
 -- refused with the cause unless the test holds, and then as the checks after it say
-abbrev pub refusedUnless : (holds : Bool) (cause : Cause) (after : Outcome) → Outcome
-refusedUnless holds cause after = cond holds after (Refused cause)
+abbrev pub refused_unless : (holds : Bool) (cause : Cause) (after : Outcome) → Outcome
+refused_unless holds cause after = cond holds after (Refused cause)
 
 -- the first refusal of two groups of checks
 abbrev pub and_then : (first after : Outcome) → Outcome

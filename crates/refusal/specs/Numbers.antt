@@ -49,34 +49,34 @@ place_of InputTooLong = Absent
 place_of (CosetShared query) = At query
 
 -- the round of a failed check
-abbrev pub roundOf : (cause : Cause) → Position
-roundOf (BytesEnd section) = Absent
-roundOf (CountDiffers section) = Absent
-roundOf TrailingBytes = Absent
-roundOf DimensionOutOfRange = Absent
-roundOf RateOutOfRange = Absent
-roundOf StepOutOfRange = Absent
-roundOf DimensionTooSmall = Absent
-roundOf (BasisDependent place) = Absent
-roundOf QueryCountOutOfRange = Absent
-roundOf (QueryOutOfRange query) = Absent
-roundOf (RoundCheckFails query round) = At round
-roundOf (DegreeTooLarge degree) = Absent
-roundOf (WrongLength list) = Absent
-roundOf InputTooLong = Absent
-roundOf (CosetShared query) = Absent
+abbrev pub round_of : (cause : Cause) → Position
+round_of (BytesEnd section) = Absent
+round_of (CountDiffers section) = Absent
+round_of TrailingBytes = Absent
+round_of DimensionOutOfRange = Absent
+round_of RateOutOfRange = Absent
+round_of StepOutOfRange = Absent
+round_of DimensionTooSmall = Absent
+round_of (BasisDependent place) = Absent
+round_of QueryCountOutOfRange = Absent
+round_of (QueryOutOfRange query) = Absent
+round_of (RoundCheckFails query round) = At round
+round_of (DegreeTooLarge degree) = Absent
+round_of (WrongLength list) = Absent
+round_of InputTooLong = Absent
+round_of (CosetShared query) = Absent
 
 -- the number of an outcome: 0 where it went well, else that of the cause
-abbrev pub numberOfOutcome : (outcome : Outcome) → ℕ
-numberOfOutcome Done = 0
-numberOfOutcome (Refused cause) = number_of cause
+abbrev pub number_of_outcome : (outcome : Outcome) → ℕ
+number_of_outcome Done = 0
+number_of_outcome (Refused cause) = number_of cause
 
 -- the place of an outcome: that of the cause
-abbrev pub placeOfOutcome : (outcome : Outcome) → Position
-placeOfOutcome Done = Absent
-placeOfOutcome (Refused cause) = place_of cause
+abbrev pub place_of_outcome : (outcome : Outcome) → Position
+place_of_outcome Done = Absent
+place_of_outcome (Refused cause) = place_of cause
 
 -- the round of an outcome: that of the cause
-abbrev pub roundOfOutcome : (outcome : Outcome) → Position
-roundOfOutcome Done = Absent
-roundOfOutcome (Refused cause) = roundOf cause
+abbrev pub round_of_outcome : (outcome : Outcome) → Position
+round_of_outcome Done = Absent
+round_of_outcome (Refused cause) = round_of cause

@@ -1,7 +1,7 @@
 // The causes of a refusal, each with its number and its place. A number, once given, keeps its cause for good: 15, the
 // inverse of zero, and 16, a later layer's basis is dependent, are retired and not used again.
 ghost use Rattle.std.specs.Prelude.{◌≡◌};
-ghost use Rattle.refusal.specs.Numbers.{number_of, place_of, roundOf};
+ghost use Rattle.refusal.specs.Numbers.{number_of, place_of, round_of};
 
 // Why something was refused: one case for each number, in the order of the numbers. Sections and lists are counted from
 // 1, basis places, queries and rounds from 0.
@@ -36,7 +36,7 @@ pub enum Cause {
     WrongLength { list: usize },
     // 14: the program's input has over 65,536 bytes
     InputTooLong,
-    // 17: two queries share a first-layer coset; the first query that lies in the coset of an earlier one
+    // 17: two queries share a first_layer coset; the first query that lies in the coset of an earlier one
     CosetShared { query: usize },
 }
 
@@ -100,7 +100,7 @@ impl Cause {
     }
 
     pub fn round(self) -> Position
-        ensures { result ≡ roundOf self }
+        ensures { result ≡ round_of self }
     {
         if let Cause::RoundCheckFails { query: _, round } = self {
             return Position::At(round);

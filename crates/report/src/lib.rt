@@ -2,7 +2,7 @@
 ghost use Rattle.std.specs.Prelude.{◌≡◌, ◌++◌, ◌+◌, ◌-◌, ◌≤◌, length, take, drop, replicate};
 ghost use Rattle.line_text.specs.Digits.{bytes};
 ghost use Rattle.placing.specs.Put.{Put};
-ghost use Rattle.line_text.specs.Lines.{orHyphen, numbersText, line_of, lines_of};
+ghost use Rattle.line_text.specs.Lines.{or_hyphen, numbers_text, line_of, lines_of};
 
 use fri::{Answer, Verdict};
 use placing::put;
@@ -70,7 +70,7 @@ fn put_numbers(
     out: &mut [u8],
 ) -> usize
     requires { at + 85 ≤ length out.old }
-    ensures { Put out.old at (numbersText number place round reads) result out.new }
+    ensures { Put out.old at (numbers_text number place round reads) result out.new }
 {
     let number_end = put_number(number, at, out);
     let place_end = put_position(place, number_end, out);
@@ -82,7 +82,7 @@ fn put_numbers(
 // A space, and a place or a round or a hyphen.
 fn put_position(position: Position, at: usize, out: &mut [u8]) -> usize
     requires { at + 21 ≤ length out.old }
-    ensures text { Put out.old at (bytes " " ++ orHyphen position) result out.new }
+    ensures text { Put out.old at (bytes " " ++ or_hyphen position) result out.new }
     ensures short { result ≤ at + 21 }
 {
     match position {

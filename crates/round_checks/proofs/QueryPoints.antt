@@ -12,20 +12,20 @@ use Rattle.gf64.specs.Field.{IsElement, sum, inverse}
 use Rattle.gf64.proofs.Xor.{xor_assoc}
 use Rattle.poly.specs.Carrier.{gf64}
 use Rattle.poly.specs.Polynomial.{padded}
-use Rattle.poly.proofs.Filling.{getD-padded, padded-taken}
+use Rattle.poly.proofs.Filling.{get_or-padded, padded_taken}
 use Rattle.coset.specs.Coset.{point, points}
-use Rattle.coset.specs.Subspace.{image, nextOffset, nextBasis}
-use Rattle.coset.specs.Steps.{composedMaps, stepElements}
-use Rattle.coset.proofs.Points.{point-parted, point-element, getD-points}
-use Rattle.coset.proofs.Dependence.{point-shifted}
-use Rattle.coset.proofs.Steps.{image-through, length-elements}
-use Rattle.coset.proofs.Subspace.{elements-taken, image-of-coset, cosets-of}
-use Rattle.fold.specs.Fold.{cosetEntries, foldEntry}
+use Rattle.coset.specs.Subspace.{image, next_offset, next_basis}
+use Rattle.coset.specs.Steps.{composed_maps, step_elements}
+use Rattle.coset.proofs.Points.{point_parted, point-element, get_or-points}
+use Rattle.coset.proofs.Dependence.{point_shifted}
+use Rattle.coset.proofs.Steps.{image_through, length-elements}
+use Rattle.coset.proofs.Subspace.{elements_taken, image_of_coset, cosets_of}
+use Rattle.fold.specs.Fold.{coset_entries, fold_entry}
 use Rattle.fold.specs.Halving.{value_at}
 use Rattle.fold.specs.Theorems.{IsWord}
-use Rattle.fold.proofs.AllCosets.{length-span, entry-of-moved}
+use Rattle.fold.proofs.AllCosets.{length_span, entry_of_moved}
 use Rattle.round_checks.specs.declared.QueryPoint.{QueryPoint}
-use Rattle.round_checks.specs.Rounds.{roundOver, queryPointAt, nextQueryPoint, valueFolded}
+use Rattle.round_checks.specs.Rounds.{round_over, query_point_at, next_query_point, value_folded}
 
 -- a + b + b is a
 sum_back : (a b : ℕ) → sum (sum a b) b ≡ a
@@ -42,55 +42,55 @@ module _ (step offset : ℕ) (basis word : List ℕ) (w : IsWord offset basis wo
   abbrev span : List ℕ
   span = points 0 (take step basis)
 
-  between-small : between < 2 ^ step
-  between-small = mod-lt index (pow_pos step)
+  between_small : between < 2 ^ step
+  between_small = mod-lt index (pow_pos step)
 
-  pub coset-inside : coset < 2 ^ (length basis - step)
-  coset-inside =
+  pub coset_inside : coset < 2 ^ (length basis - step)
+  coset_inside =
       (div-lt_iff_lt-mul {k = 2 ^ step} {x = index} {y = 2 ^ (length basis - step)} (pow_pos step)).1
-      (subst (λ (n : ℕ). index < n) (sym (cosets-of step (length basis) fits)) inside)
+      (subst (λ (n : ℕ). index < n) (sym (cosets_of step (length basis) fits)) inside)
 
-  span-at : get_or (padded gf64 8 span) between 0 ≡ point 0 (take step basis) between
-  span-at =
-      getD-padded 8 span between
-      ∙ getD-points 0 (take step basis) between
-      (subst (λ (n : ℕ). between < 2 ^ n) (sym (length-take-le step basis fits)) between-small)
+  span_at : get_or (padded gf64 8 span) between 0 ≡ point 0 (take step basis) between
+  span_at =
+      get_or-padded 8 span between
+      ∙ get_or-points 0 (take step basis) between
+      (subst (λ (n : ℕ). between < 2 ^ n) (sym (length-take-le step basis fits)) between_small)
 
   -- the coset's first point is the point at the index plus the span's element between the two
-  first-point : sum (point offset basis index) (get_or (padded gf64 8 span) between 0)
+  first_point : sum (point offset basis index) (get_or (padded gf64 8 span) between 0)
       ≡ point offset (drop step basis) coset
-  first-point =
+  first_point =
       ap₂ sum
       (ap (point offset basis) (sym (div-add-mod' index (2 ^ step)))
-      ∙ point-parted step offset basis coset between between-small fits
-      ∙ point-shifted (point offset (drop step basis) coset) (take step basis) between)
-      span-at
+      ∙ point_parted step offset basis coset between between_small fits
+      ∙ point_shifted (point offset (drop step basis) coset) (take step basis) between)
+      span_at
       ∙ sum_back (point offset (drop step basis) coset) (point 0 (take step basis) between)
 
   -- what is computed is the entry of the fold
   pub folded-entry : (x start next : ℕ) → IsElement x
-      → valueFolded step (roundOver step basis x start next) (queryPointAt offset basis index)
-      (cosetEntries step word coset) ≡ foldEntry step offset basis word x coset
+      → value_folded step (round_over step basis x start next) (query_point_at offset basis index)
+      (coset_entries step word coset) ≡ fold_entry step offset basis word x coset
   folded-entry x start next hx =
       ap₂ (λ (is ps : List ℕ).
       value_at is (map (sum (sum x (sum (point offset basis index) (get_or (padded gf64 8 span) between 0)))) ps)
-      (cosetEntries step word coset))
-      (padded-taken 3 step (map inverse (stepElements step basis))
-      (padded gf64 3 (map inverse (stepElements step basis))) refl
-      (length-map (stepElements step basis) inverse ∙ length-elements step basis fits))
-      (padded-taken 8 (2 ^ step) span (padded gf64 8 span) refl (length-span step basis fits))
-      ∙ ap (λ (p : ℕ). value_at (map inverse (stepElements step basis)) (map (sum (sum x p)) span)
-      (cosetEntries step word coset)) first-point
-      ∙ entry-of-moved step offset basis word x w hx fits coset coset-inside
+      (coset_entries step word coset))
+      (padded_taken 3 step (map inverse (step_elements step basis))
+      (padded gf64 3 (map inverse (step_elements step basis))) refl
+      (length-map (step_elements step basis) inverse ∙ length-elements step basis fits))
+      (padded_taken 8 (2 ^ step) span (padded gf64 8 span) refl (length_span step basis fits))
+      ∙ ap (λ (p : ℕ). value_at (map inverse (step_elements step basis)) (map (sum (sum x p)) span)
+      (coset_entries step word coset)) first_point
+      ∙ entry_of_moved step offset basis word x w hx fits coset coset_inside
 
-  pub query-point-next : nextQueryPoint step (padded gf64 3 (stepElements step basis)) (queryPointAt offset basis index)
-      ≡ queryPointAt (nextOffset step offset basis) (nextBasis step basis) coset
-  query-point-next =
+  pub query_point_next : next_query_point step (padded gf64 3 (step_elements step basis)) (query_point_at offset basis index)
+      ≡ query_point_at (next_offset step offset basis) (next_basis step basis) coset
+  query_point_next =
       ap {B = QueryPoint} (λ (p : ℕ). record { index = coset; point = record { 0 = p } })
-      (ap (λ (es : List ℕ). composedMaps es (point offset basis index))
-      (elements-taken step basis (padded gf64 3 (stepElements step basis)) fits refl)
+      (ap (λ (es : List ℕ). composed_maps es (point offset basis index))
+      (elements_taken step basis (padded gf64 3 (step_elements step basis)) fits refl)
       ∙ sym
-      (image-through step basis (point offset basis index)
-      (point-element offset basis index w.offset-element w.basis-elements))
+      (image_through step basis (point offset basis index)
+      (point-element offset basis index w.offset_element w.basis_elements))
       ∙ ap (λ (n : ℕ). image step basis (point offset basis n)) (sym (div-add-mod' index (2 ^ step)))
-      ∙ image-of-coset step offset basis coset between w.offset-element w.basis-elements between-small)
+      ∙ image_of_coset step offset basis coset between w.offset_element w.basis_elements between_small)

@@ -8,14 +8,14 @@ use Rattle.poly.specs.Carrier.{gf64}
 use Rattle.poly.specs.Polynomial.{padded}
 use Rattle.poly.proofs.Entries.{entries_next}
 use Rattle.coset.specs.Coset.{points}
-use Rattle.coset.specs.Steps.{stepElements}
-use Rattle.fri.specs.Layout.{layerStart}
+use Rattle.coset.specs.Steps.{step_elements}
+use Rattle.fri.specs.Layout.{layer_start}
 use Rattle.round_checks.specs.declared.Round.{Round}
-use Rattle.round_checks.specs.Rounds.{noRound, roundOver, Holds}
+use Rattle.round_checks.specs.Rounds.{no_round, round_over, Holds}
 
 -- a round with these three lists, as the code makes it
-abbrev roundWith : (elements inverses span : List ℕ) (challenge start next : ℕ) → Round
-roundWith elements inverses span challenge start next =
+abbrev round_with : (elements inverses span : List ℕ) (challenge start next : ℕ) → Round
+round_with elements inverses span challenge start next =
     record {
       elements = elements;
       inverses = inverses;
@@ -25,23 +25,23 @@ roundWith elements inverses span challenge start next =
       next = next;
     }
 
-pub round-equal : (step : ℕ) (basis : List ℕ) (challenge start next : ℕ) (elements inverses span : List ℕ)
-    → elements ≡ padded gf64 3 (stepElements step basis)
-    → inverses ≡ padded gf64 3 (map inverse (stepElements step basis))
+pub round_equal : (step : ℕ) (basis : List ℕ) (challenge start next : ℕ) (elements inverses span : List ℕ)
+    → elements ≡ padded gf64 3 (step_elements step basis)
+    → inverses ≡ padded gf64 3 (map inverse (step_elements step basis))
     → span ≡ padded gf64 8 (points 0 (take step basis))
-    → roundWith elements inverses span challenge start next ≡ roundOver step basis challenge start next
-round-equal step basis challenge start next elements inverses span e i s =
-    ap₂ (λ (es is : List ℕ). roundWith es is span challenge start next) e i
+    → round_with elements inverses span challenge start next ≡ round_over step basis challenge start next
+round_equal step basis challenge start next elements inverses span e i s =
+    ap₂ (λ (es is : List ℕ). round_with es is span challenge start next) e i
     ∙ ap
     (λ (l : List ℕ).
-    roundWith (padded gf64 3 (stepElements step basis)) (padded gf64 3 (map inverse (stepElements step basis))) l
+    round_with (padded gf64 3 (step_elements step basis)) (padded gf64 3 (map inverse (step_elements step basis))) l
     challenge start next)
     s
 
-pub holds-next : (table : List Round) (round : ℕ → Round) (n : ℕ) (value : Round) → n < length table
+pub holds_next : (table : List Round) (round : ℕ → Round) (n : ℕ) (value : Round) → n < length table
     → Holds table round n → value ≡ round n → Holds (set table n value) round (n + 1)
-holds-next = entries_next noRound
+holds_next = entries_next no_round
 
-pub start-of-word : (k : ℕ) (steps : List ℕ) → 0 ≡ layerStart k steps 0
-unfolding layerStart
-start-of-word k steps = refl
+pub start_of_word : (k : ℕ) (steps : List ℕ) → 0 ≡ layer_start k steps 0
+unfolding layer_start
+start_of_word k steps = refl

@@ -5,22 +5,22 @@ use Rattle.gf64.specs.Field.{sum, inverse}
 use Rattle.poly.specs.Carrier.{gf64}
 use Rattle.poly.specs.Polynomial.{padded, evaluate}
 use Rattle.coset.specs.Coset.{point, points}
-use Rattle.coset.specs.Steps.{composedMaps, stepElements}
+use Rattle.coset.specs.Steps.{composed_maps, step_elements}
 use Rattle.fold.specs.Halving.{value_at}
-use Rattle.fri.specs.Layout.{layerStart}
-use Rattle.fri.specs.Layers.{layerBasis}
+use Rattle.fri.specs.Layout.{layer_start}
+use Rattle.fri.specs.Layers.{layer_basis}
 use Rattle.layout.specs.declared.Parameters.{Parameters}
-use Rattle.layout.specs.Parameters.{stepsBy}
+use Rattle.layout.specs.Parameters.{steps_by}
 use Rattle.round_checks.specs.declared.Round.{Round}
 use Rattle.round_checks.specs.declared.QueryPoint.{QueryPoint}
 
 -- a round over a basis, with a challenge; its layer, if it is stored, begins at `start` in the store, and the next one
 -- at `next`
-abbrev pub roundOver : (step : ℕ) (basis : List ℕ) (challenge start next : ℕ) → Round
-roundOver step basis challenge start next =
+abbrev pub round_over : (step : ℕ) (basis : List ℕ) (challenge start next : ℕ) → Round
+round_over step basis challenge start next =
     record {
-      elements = padded gf64 3 (stepElements step basis);
-      inverses = padded gf64 3 (map inverse (stepElements step basis));
+      elements = padded gf64 3 (step_elements step basis);
+      inverses = padded gf64 3 (map inverse (step_elements step basis));
       span = padded gf64 8 (points 0 (take step basis));
       challenge = record { 0 = challenge };
       start = start;
@@ -28,8 +28,8 @@ roundOver step basis challenge start next =
     }
 
 -- what `get_or` gives beyond the table
-abbrev pub noRound : Round
-noRound =
+abbrev pub no_round : Round
+no_round =
     record {
       elements = [];
       inverses = [];
@@ -40,50 +40,50 @@ noRound =
     }
 
 -- round i
-abbrev pub roundAt : (p : Parameters) (basis challenges : List ℕ) (i : ℕ) → Round
-roundAt p basis challenges i =
-    roundOver p.step (layerBasis (stepsBy p) basis i) (get_or challenges i 0)
-    (layerStart p.k (stepsBy p) i) (layerStart p.k (stepsBy p) (suc i))
+abbrev pub round_at : (p : Parameters) (basis challenges : List ℕ) (i : ℕ) → Round
+round_at p basis challenges i =
+    round_over p.step (layer_basis (steps_by p) basis i) (get_or challenges i 0)
+    (layer_start p.k (steps_by p) i) (layer_start p.k (steps_by p) (suc i))
 
 -- the first n rounds stand in the table
 abbrev pub Holds : (table : List Round) (round : ℕ → Round) (n : ℕ) → Type 0
-Holds table round n = (i : ℕ) → i < n → get_or table i noRound ≡ round i
+Holds table round n = (i : ℕ) → i < n → get_or table i no_round ≡ round i
 
 -- a query at an index of a layer over a coset
-abbrev pub queryPointAt : (offset : ℕ) (basis : List ℕ) (index : ℕ) → QueryPoint
-queryPointAt offset basis index = record { index = index; point = record { 0 = point offset basis index } }
+abbrev pub query_point_at : (offset : ℕ) (basis : List ℕ) (index : ℕ) → QueryPoint
+query_point_at offset basis index = record { index = index; point = record { 0 = point offset basis index } }
 
 -- from one layer to the next
-abbrev pub nextQueryPoint : (step : ℕ) (elements : List ℕ) (here : QueryPoint) → QueryPoint
-nextQueryPoint step elements here =
+abbrev pub next_query_point : (step : ℕ) (elements : List ℕ) (here : QueryPoint) → QueryPoint
+next_query_point step elements here =
     record {
       index = here.index / 2 ^ step;
-      point = record { 0 = composedMaps (take step elements) here.point.0 };
+      point = record { 0 = composed_maps (take step elements) here.point.0 };
     }
 
 -- the fold of the coset that holds the query's index, with these entries
-abbrev pub valueFolded : (step : ℕ) (round : Round) (here : QueryPoint) (part : List ℕ) → ℕ
-valueFolded step round here part =
+abbrev pub value_folded : (step : ℕ) (round : Round) (here : QueryPoint) (part : List ℕ) → ℕ
+value_folded step round here part =
     value_at (take step round.inverses)
     (map (sum (sum round.challenge.0 (sum here.point.0 (get_or round.span (here.index % 2 ^ step) 0))))
     (take (2 ^ step) round.span)) part
 
 -- where that coset begins in its layer
-abbrev pub partBegin : (step : ℕ) (here : QueryPoint) → ℕ
-partBegin step here = here.index / 2 ^ step * 2 ^ step
+abbrev pub part_begin : (step : ℕ) (here : QueryPoint) → ℕ
+part_begin step here = here.index / 2 ^ step * 2 ^ step
 
 -- its entries: of the word in the first round, later of the store
-abbrev pub partRead : (step : ℕ) (round : Round) (here : QueryPoint) (first : Bool) (word store : List ℕ) → List ℕ
-partRead step round here first word store =
-    cond first (take (2 ^ step) (drop (partBegin step here) word))
-    (take (2 ^ step) (drop (round.start + partBegin step here) store))
+abbrev pub part_read : (step : ℕ) (round : Round) (here : QueryPoint) (first : Bool) (word store : List ℕ) → List ℕ
+part_read step round here first word store =
+    cond first (take (2 ^ step) (drop (part_begin step here) word))
+    (take (2 ^ step) (drop (round.start + part_begin step here) store))
 
 -- they lie within the list that they are read from
 pub record PartWithin (step : ℕ) (round : Round) (here : QueryPoint) (first : Bool) (word store : List ℕ) : Type 0 where
-  pub in-word : first ≡ true → partBegin step here + 2 ^ step ≤ length word
-  pub in-store : first ≡ false → round.start + partBegin step here + 2 ^ step ≤ length store
+  pub in_word : first ≡ true → part_begin step here + 2 ^ step ≤ length word
+  pub in_store : first ≡ false → round.start + part_begin step here + 2 ^ step ≤ length store
 
 -- the value found: an entry of the next layer or, in the last round, the last polynomial's
-abbrev pub valueRead : (round : Round) (next : QueryPoint) (stored : Bool) (store last : List ℕ) → ℕ
-valueRead round next stored store last =
+abbrev pub value_read : (round : Round) (next : QueryPoint) (stored : Bool) (store last : List ℕ) → ℕ
+value_read round next stored store last =
     cond stored (get_or store (round.next + next.index) 0) (evaluate gf64 last next.point.0)

@@ -3,11 +3,11 @@
 ghost use Rattle.std.specs.Prelude.{◌≡◌, ◌≢◌, true, ◌+◌, ◌^◌, ◌≤◌, ◌<◌, min, length};
 ghost use Rattle.poly.specs.Polynomial.{All};
 ghost use Rattle.coset.specs.Span.{Independent};
-ghost use Rattle.coset.specs.Steps.{stepElements};
-ghost use Rattle.layout.specs.Parameters.{stepsBy, Valid};
-ghost use Rattle.layer_cosets.specs.Cosets.{basisOf};
-ghost use Rattle.round_checks.specs.Rounds.{roundOver, roundAt, Holds, queryPointAt, nextQueryPoint};
-ghost use Rattle.round_checks.specs.Rounds.{valueFolded, partRead, PartWithin, valueRead};
+ghost use Rattle.coset.specs.Steps.{step_elements};
+ghost use Rattle.layout.specs.Parameters.{steps_by, Valid};
+ghost use Rattle.layer_cosets.specs.Cosets.{basis_of};
+ghost use Rattle.round_checks.specs.Rounds.{round_over, round_at, Holds, query_point_at, next_query_point};
+ghost use Rattle.round_checks.specs.Rounds.{value_folded, part_read, PartWithin, value_read};
 
 use coset_value::Coset;
 use field::Element;
@@ -38,9 +38,9 @@ pub struct QueryPoint {
 // zero, since the bases of all layers are independent.
 pub fn set_up(parameters: Parameters, basis: &[u64], challenges: &[u64]) -> [Round; 19]
     requires { Valid parameters × (length basis.now ≡ parameters.k) × Independent basis.now
-        × (length challenges.now ≡ length (stepsBy parameters)) }
-    ensures { let round = roundAt parameters basis.now challenges.now in
-        Holds result round (length (stepsBy parameters)) }
+        × (length challenges.now ≡ length (steps_by parameters)) }
+    ensures { let round = round_at parameters basis.now challenges.now in
+        Holds result round (length (steps_by parameters)) }
 {
     let count = parameters.rounds();
     let none = Round {
@@ -69,8 +69,8 @@ pub fn set_up(parameters: Parameters, basis: &[u64], challenges: &[u64]) -> [Rou
 impl Round {
     fn over(coset: LayerCoset, step: usize, challenge: Element, start: usize, next: usize) -> Round
         requires { (step ≤ 3) × (step ≤ coset.dimension) × (coset.dimension ≤ 20)
-            × All (λ e. e ≢ 0) (stepElements step (basisOf coset)) }
-        ensures { result ≡ roundOver step (basisOf coset) challenge.0 start next }
+            × All (λ e. e ≢ 0) (step_elements step (basis_of coset)) }
+        ensures { result ≡ round_over step (basis_of coset) challenge.0 start next }
     {
         let elements = coset.step_elements(step);
         let basis = coset.basis;
@@ -95,8 +95,8 @@ impl Round {
         store: &[u64],
     ) -> Element
         requires { (1 ≤ step) × (step ≤ 3) × PartWithin step self here first word.now store.now }
-        ensures { let part = partRead step self here first word.now store.now in
-            result.0 ≡ valueFolded step self here part }
+        ensures { let part = part_read step self here first word.now store.now in
+            result.0 ≡ value_folded step self here part }
     {
         let size = 1 << step;
         let begin = here.index / size * size;
@@ -114,7 +114,7 @@ impl Round {
     // the span, by which the query's point differs from it.
     pub fn folded(self, step: usize, here: QueryPoint, part: &[u64]) -> Element
         requires { (1 ≤ step) × (step ≤ 3) × (length part.now ≡ 2 ^ step) }
-        ensures { result.0 ≡ valueFolded step self here part.now }
+        ensures { result.0 ≡ value_folded step self here part.now }
     {
         let size = 1 << step;
         let span = self.span;
@@ -129,7 +129,7 @@ impl Round {
     // last polynomial's.
     pub fn found(self, next: QueryPoint, stored: bool, store: &[u64], last: &[u64]) -> Element
         requires { stored ≡ true → self.next + next.index < length store.now }
-        ensures { result.0 ≡ valueRead self next stored store.now last.now }
+        ensures { result.0 ≡ value_read self next stored store.now last.now }
     {
         if stored {
             let at = self.next + next.index;
@@ -143,7 +143,7 @@ impl Round {
 impl QueryPoint {
     // In layer 0.
     pub fn first(offset: Element, basis: &[u64], index: usize) -> QueryPoint
-        ensures { result ≡ queryPointAt offset.0 basis.now index }
+        ensures { result ≡ query_point_at offset.0 basis.now index }
     {
         QueryPoint {
             index,
@@ -154,7 +154,7 @@ impl QueryPoint {
     // In the next layer.
     pub fn next(self, round: Round, step: usize) -> QueryPoint
         requires { step ≤ 3 }
-        ensures { result ≡ nextQueryPoint step round.elements self }
+        ensures { result ≡ next_query_point step round.elements self }
     {
         let elements = round.elements;
         QueryPoint {

@@ -4,27 +4,27 @@ use mathlib.Core.Path.{◌≡◌, sym}
 use Rattle.refusal.specs.declared.Outcome.{Outcome}
 use Rattle.refusal.specs.declared.Outcome.TheVariants.{Done}
 use Rattle.refusal.specs.Checks.{and_then}
-use Rattle.refusal.proofs.Checks.{then-done, then-then}
+use Rattle.refusal.proofs.Checks.{then_done, then_then}
 use Rattle.fri.specs.Run.{Run}
-use Rattle.fri.specs.Checks.{parametersOutcome, lengthsOutcome}
+use Rattle.fri.specs.Checks.{parameters_outcome, lengths_outcome}
 use Rattle.fri.specs.Demand.{ValidParameters}
 use Rattle.fri.specs.Theorems.{Fit}
-use Rattle.fri.proofs.Checks.{parameters-valid, lengths-fit}
+use Rattle.fri.proofs.Checks.{parameters_valid, lengths_fit}
 
 module _ (run : Run) where
   abbrev ranges : Outcome
-  ranges = parametersOutcome run.k run.rate run.step
+  ranges = parameters_outcome run.k run.rate run.step
 
   -- what `checked_lists` answers
-  abbrev pub of-lists : Outcome
-  of-lists = and_then ranges (lengthsOutcome run)
+  abbrev pub of_lists : Outcome
+  of_lists = and_then ranges (lengths_outcome run)
 
-  pub lists-then : (after : Outcome) → and_then of-lists after ≡ and_then ranges (and_then (lengthsOutcome run) after)
-  lists-then after = sym (then-then ranges (lengthsOutcome run) after)
+  pub lists_then : (after : Outcome) → and_then of_lists after ≡ and_then ranges (and_then (lengths_outcome run) after)
+  lists_then after = sym (then_then ranges (lengths_outcome run) after)
 
-  module _ (done : of-lists ≡ Done) where
-    pub lists-valid : ValidParameters run.k run.rate run.step
-    lists-valid = parameters-valid run.k run.rate run.step (then-done ranges (lengthsOutcome run) done).0
+  module _ (done : of_lists ≡ Done) where
+    pub lists_valid : ValidParameters run.k run.rate run.step
+    lists_valid = parameters_valid run.k run.rate run.step (then_done ranges (lengths_outcome run) done).0
 
-    pub lists-fit : Fit run
-    lists-fit = lengths-fit run (then-done ranges (lengthsOutcome run) done).1
+    pub lists_fit : Fit run
+    lists_fit = lengths_fit run (then_done ranges (lengths_outcome run) done).1

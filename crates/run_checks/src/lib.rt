@@ -1,7 +1,7 @@
 // The checks that prover, judge and writer have in common, in the order of the papers.
 ghost use Rattle.std.specs.Prelude.{◌≡◌};
 ghost use Rattle.refusal.specs.Checks.{and_then};
-ghost use Rattle.fri.specs.Checks.{parametersOutcome, lengthsOutcome, runOutcome};
+ghost use Rattle.fri.specs.Checks.{parameters_outcome, lengths_outcome, run_outcome};
 ghost use Rattle.layout.specs.Parameters.{run_of};
 
 use field::Element;
@@ -21,7 +21,7 @@ pub fn checked(
 ) -> Outcome
     ensures { let run = run_of parameters offset.0 basis.now challenges.now word.now
         store.now last.now in
-        result ≡ runOutcome run }
+        result ≡ run_outcome run }
 {
     let lists = checked_lists(parameters, offset, basis, challenges, word, store, last);
     match lists {
@@ -43,7 +43,7 @@ pub fn checked_lists(
 ) -> Outcome
     ensures { let run = run_of parameters offset.0 basis.now challenges.now word.now
         store.now last.now in
-        result ≡ and_then (parametersOutcome run.k run.rate run.step) (lengthsOutcome run) }
+        result ≡ and_then (parameters_outcome run.k run.rate run.step) (lengths_outcome run) }
 {
     let ranges = parameters.checked();
     match ranges {

@@ -3,11 +3,11 @@
 ghost use Rattle.std.specs.Prelude.{◌≡◌, ◌∷◌, ◌+◌, ◌*◌, ◌-◌, ◌≤◌, length};
 ghost use Rattle.fri.specs.Run.{Run};
 ghost use Rattle.fri.specs.Theorems.{Fit};
-ghost use Rattle.layout.specs.Parameters.{stepsBy, Valid, run_of};
+ghost use Rattle.layout.specs.Parameters.{steps_by, Valid, run_of};
 ghost use Rattle.placing.specs.Put.{Put};
-ghost use Rattle.written.specs.Bytes.{sectionBytes, sectionsBytes};
-ghost use Rattle.written.specs.Transcript.{transcriptOf};
-ghost use Rattle.run_writer.specs.Layers.{storedLayers};
+ghost use Rattle.written.specs.Bytes.{section_bytes, sections_bytes};
+ghost use Rattle.written.specs.Transcript.{transcript_of};
+ghost use Rattle.run_writer.specs.Layers.{stored_layers};
 
 use field::Element;
 use layout::Parameters;
@@ -26,8 +26,8 @@ pub fn put_transcript(
 )
     ghost run: { Run }
     requires last_value { run_of parameters offset.0 basis.now challenges.now word.now store.now last.now ≡ run }
-    requires valid { Valid parameters × Fit run × (length bytes.old ≡ length (transcriptOf run queries.now)) }
-    ensures { bytes.new ≡ transcriptOf run queries.now }
+    requires valid { Valid parameters × Fit run × (length bytes.old ≡ length (transcript_of run queries.now)) }
+    ensures { bytes.new ≡ transcript_of run queries.now }
 {
     let numbers = [
         parameters.k as u64,
@@ -46,7 +46,7 @@ pub fn put_transcript(
 // The section of the coset: offset and basis.
 fn put_coset(offset: Element, basis: &[u64], at: usize, out: &mut [u8]) -> usize
     requires { at + 12 + 8 * length basis.now ≤ length out.old }
-    ensures { Put out.old at (sectionBytes (offset.0 ∷ basis.now)) result out.new }
+    ensures { Put out.old at (section_bytes (offset.0 ∷ basis.now)) result out.new }
 {
     let first = section_writer::put_count(basis.len() as u64 + 1, at, out);
     let second = section_writer::put_entry(offset.0, first, out);
@@ -56,10 +56,10 @@ fn put_coset(offset: Element, basis: &[u64], at: usize, out: &mut [u8]) -> usize
 // The sections of layers 1 to r - 1.
 fn put_stored_layers(parameters: Parameters, store: &[u64], at: usize, out: &mut [u8]) -> usize
     requires valid { Valid parameters }
-    requires layers_in_bounds { let layers = storedLayers parameters store.now 1 (length (stepsBy parameters) - 1) in
-        at + length (sectionsBytes layers) ≤ length out.old }
-    ensures { let layers = storedLayers parameters store.now 1 (length (stepsBy parameters) - 1) in
-        Put out.old at (sectionsBytes layers) result out.new }
+    requires layers_in_bounds { let layers = stored_layers parameters store.now 1 (length (steps_by parameters) - 1) in
+        at + length (sections_bytes layers) ≤ length out.old }
+    ensures { let layers = stored_layers parameters store.now 1 (length (steps_by parameters) - 1) in
+        Put out.old at (sections_bytes layers) result out.new }
 {
     let rounds = parameters.rounds();
     let mut place = at;

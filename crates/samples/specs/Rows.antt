@@ -11,8 +11,8 @@ layouts =
       rate = 1;
       step = 1;
       rounds = 1;
-      lastCount = 1;
-      storeLength = 0;
+      last_count = 1;
+      store_length = 0;
       dimensions = 2 ∷ 1 ∷ [];
       starts = [];
     } ∷
@@ -21,8 +21,8 @@ layouts =
       rate = 1;
       step = 1;
       rounds = 2;
-      lastCount = 1;
-      storeLength = 4;
+      last_count = 1;
+      store_length = 4;
       dimensions = 3 ∷ 2 ∷ 1 ∷ [];
       starts = 0 ∷ [];
     } ∷
@@ -31,8 +31,8 @@ layouts =
       rate = 1;
       step = 2;
       rounds = 1;
-      lastCount = 1;
-      storeLength = 0;
+      last_count = 1;
+      store_length = 0;
       dimensions = 3 ∷ 1 ∷ [];
       starts = [];
     } ∷
@@ -41,8 +41,8 @@ layouts =
       rate = 2;
       step = 1;
       rounds = 1;
-      lastCount = 1;
-      storeLength = 0;
+      last_count = 1;
+      store_length = 0;
       dimensions = 3 ∷ 2 ∷ [];
       starts = [];
     } ∷
@@ -51,8 +51,8 @@ layouts =
       rate = 1;
       step = 1;
       rounds = 3;
-      lastCount = 1;
-      storeLength = 12;
+      last_count = 1;
+      store_length = 12;
       dimensions = 4 ∷ 3 ∷ 2 ∷ 1 ∷ [];
       starts = 0 ∷ 8 ∷ [];
     } ∷
@@ -61,8 +61,8 @@ layouts =
       rate = 1;
       step = 2;
       rounds = 1;
-      lastCount = 2;
-      storeLength = 0;
+      last_count = 2;
+      store_length = 0;
       dimensions = 4 ∷ 2 ∷ [];
       starts = [];
     } ∷
@@ -71,8 +71,8 @@ layouts =
       rate = 1;
       step = 3;
       rounds = 1;
-      lastCount = 1;
-      storeLength = 0;
+      last_count = 1;
+      store_length = 0;
       dimensions = 4 ∷ 1 ∷ [];
       starts = [];
     } ∷
@@ -81,8 +81,8 @@ layouts =
       rate = 2;
       step = 1;
       rounds = 2;
-      lastCount = 1;
-      storeLength = 8;
+      last_count = 1;
+      store_length = 8;
       dimensions = 4 ∷ 3 ∷ 2 ∷ [];
       starts = 0 ∷ [];
     } ∷
@@ -91,8 +91,8 @@ layouts =
       rate = 2;
       step = 2;
       rounds = 1;
-      lastCount = 1;
-      storeLength = 0;
+      last_count = 1;
+      store_length = 0;
       dimensions = 4 ∷ 2 ∷ [];
       starts = [];
     } ∷
@@ -101,8 +101,8 @@ layouts =
       rate = 3;
       step = 1;
       rounds = 1;
-      lastCount = 1;
-      storeLength = 0;
+      last_count = 1;
+      store_length = 0;
       dimensions = 4 ∷ 3 ∷ [];
       starts = [];
     } ∷
@@ -111,8 +111,8 @@ layouts =
       rate = 1;
       step = 1;
       rounds = 4;
-      lastCount = 1;
-      storeLength = 28;
+      last_count = 1;
+      store_length = 28;
       dimensions = 5 ∷ 4 ∷ 3 ∷ 2 ∷ 1 ∷ [];
       starts = 0 ∷ 16 ∷ 24 ∷ [];
     } ∷
@@ -121,8 +121,8 @@ layouts =
       rate = 1;
       step = 2;
       rounds = 2;
-      lastCount = 1;
-      storeLength = 8;
+      last_count = 1;
+      store_length = 8;
       dimensions = 5 ∷ 3 ∷ 1 ∷ [];
       starts = 0 ∷ [];
     } ∷
@@ -131,8 +131,8 @@ layouts =
       rate = 1;
       step = 3;
       rounds = 1;
-      lastCount = 2;
-      storeLength = 0;
+      last_count = 2;
+      store_length = 0;
       dimensions = 5 ∷ 2 ∷ [];
       starts = [];
     } ∷
@@ -141,8 +141,8 @@ layouts =
       rate = 2;
       step = 1;
       rounds = 3;
-      lastCount = 1;
-      storeLength = 24;
+      last_count = 1;
+      store_length = 24;
       dimensions = 5 ∷ 4 ∷ 3 ∷ 2 ∷ [];
       starts = 0 ∷ 16 ∷ [];
     } ∷
@@ -151,8 +151,8 @@ layouts =
       rate = 2;
       step = 2;
       rounds = 1;
-      lastCount = 2;
-      storeLength = 0;
+      last_count = 2;
+      store_length = 0;
       dimensions = 5 ∷ 3 ∷ [];
       starts = [];
     } ∷
@@ -161,8 +161,8 @@ layouts =
       rate = 2;
       step = 3;
       rounds = 1;
-      lastCount = 1;
-      storeLength = 0;
+      last_count = 1;
+      store_length = 0;
       dimensions = 5 ∷ 2 ∷ [];
       starts = [];
     } ∷
@@ -171,8 +171,8 @@ layouts =
       rate = 3;
       step = 1;
       rounds = 2;
-      lastCount = 1;
-      storeLength = 16;
+      last_count = 1;
+      store_length = 16;
       dimensions = 5 ∷ 4 ∷ 3 ∷ [];
       starts = 0 ∷ [];
     } ∷
@@ -181,8 +181,8 @@ layouts =
       rate = 3;
       step = 2;
       rounds = 1;
-      lastCount = 1;
-      storeLength = 0;
+      last_count = 1;
+      store_length = 0;
       dimensions = 5 ∷ 3 ∷ [];
       starts = [];
     } ∷
@@ -191,8 +191,8 @@ layouts =
       rate = 4;
       step = 1;
       rounds = 1;
-      lastCount = 1;
-      storeLength = 0;
+      last_count = 1;
+      store_length = 0;
       dimensions = 5 ∷ 4 ∷ [];
       starts = [];
     } ∷
@@ -201,8 +201,8 @@ layouts =
       rate = 1;
       step = 1;
       rounds = 5;
-      lastCount = 1;
-      storeLength = 60;
+      last_count = 1;
+      store_length = 60;
       dimensions = 6 ∷ 5 ∷ 4 ∷ 3 ∷ 2 ∷ 1 ∷ [];
       starts = 0 ∷ 32 ∷ 48 ∷ 56 ∷ [];
     } ∷
@@ -211,8 +211,8 @@ layouts =
       rate = 1;
       step = 2;
       rounds = 2;
-      lastCount = 2;
-      storeLength = 16;
+      last_count = 2;
+      store_length = 16;
       dimensions = 6 ∷ 4 ∷ 2 ∷ [];
       starts = 0 ∷ [];
     } ∷
@@ -221,8 +221,8 @@ layouts =
       rate = 1;
       step = 3;
       rounds = 1;
-      lastCount = 4;
-      storeLength = 0;
+      last_count = 4;
+      store_length = 0;
       dimensions = 6 ∷ 3 ∷ [];
       starts = [];
     } ∷
@@ -231,8 +231,8 @@ layouts =
       rate = 2;
       step = 1;
       rounds = 4;
-      lastCount = 1;
-      storeLength = 56;
+      last_count = 1;
+      store_length = 56;
       dimensions = 6 ∷ 5 ∷ 4 ∷ 3 ∷ 2 ∷ [];
       starts = 0 ∷ 32 ∷ 48 ∷ [];
     } ∷
@@ -241,8 +241,8 @@ layouts =
       rate = 2;
       step = 2;
       rounds = 2;
-      lastCount = 1;
-      storeLength = 16;
+      last_count = 1;
+      store_length = 16;
       dimensions = 6 ∷ 4 ∷ 2 ∷ [];
       starts = 0 ∷ [];
     } ∷
@@ -251,8 +251,8 @@ layouts =
       rate = 2;
       step = 3;
       rounds = 1;
-      lastCount = 2;
-      storeLength = 0;
+      last_count = 2;
+      store_length = 0;
       dimensions = 6 ∷ 3 ∷ [];
       starts = [];
     } ∷
@@ -261,8 +261,8 @@ layouts =
       rate = 3;
       step = 1;
       rounds = 3;
-      lastCount = 1;
-      storeLength = 48;
+      last_count = 1;
+      store_length = 48;
       dimensions = 6 ∷ 5 ∷ 4 ∷ 3 ∷ [];
       starts = 0 ∷ 32 ∷ [];
     } ∷
@@ -271,8 +271,8 @@ layouts =
       rate = 3;
       step = 2;
       rounds = 1;
-      lastCount = 2;
-      storeLength = 0;
+      last_count = 2;
+      store_length = 0;
       dimensions = 6 ∷ 4 ∷ [];
       starts = [];
     } ∷
@@ -281,8 +281,8 @@ layouts =
       rate = 3;
       step = 3;
       rounds = 1;
-      lastCount = 1;
-      storeLength = 0;
+      last_count = 1;
+      store_length = 0;
       dimensions = 6 ∷ 3 ∷ [];
       starts = [];
     } ∷
@@ -291,8 +291,8 @@ layouts =
       rate = 4;
       step = 1;
       rounds = 2;
-      lastCount = 1;
-      storeLength = 32;
+      last_count = 1;
+      store_length = 32;
       dimensions = 6 ∷ 5 ∷ 4 ∷ [];
       starts = 0 ∷ [];
     } ∷
@@ -301,8 +301,8 @@ layouts =
       rate = 4;
       step = 2;
       rounds = 1;
-      lastCount = 1;
-      storeLength = 0;
+      last_count = 1;
+      store_length = 0;
       dimensions = 6 ∷ 4 ∷ [];
       starts = [];
     } ∷
@@ -311,8 +311,8 @@ layouts =
       rate = 5;
       step = 1;
       rounds = 1;
-      lastCount = 1;
-      storeLength = 0;
+      last_count = 1;
+      store_length = 0;
       dimensions = 6 ∷ 5 ∷ [];
       starts = [];
     } ∷
@@ -594,8 +594,8 @@ lookups =
     record { k = 3; rate = 1; step = 2; store = 11 ∷ 12 ∷ []; layer = 1; part = [] } ∷
     []
 
-abbrev pub judgedOfTableA : List JudgedSample
-judgedOfTableA =
+abbrev pub judged_of_table_a : List JudgedSample
+judged_of_table_a =
     record {
       run = record {
         k = 2;
@@ -670,8 +670,8 @@ judgedOfTableA =
     } ∷
     []
 
-abbrev pub judgedAccepted : List JudgedSample
-judgedAccepted =
+abbrev pub judged_accepted : List JudgedSample
+judged_accepted =
     record {
       run = record {
         k = 3;
@@ -719,8 +719,8 @@ judgedAccepted =
     } ∷
     []
 
-abbrev pub judgedFailingInTwoRounds : List JudgedSample
-judgedFailingInTwoRounds =
+abbrev pub judged_failing_in_two_rounds : List JudgedSample
+judged_failing_in_two_rounds =
     record {
       run = record {
         k = 3;
@@ -763,8 +763,8 @@ judgedFailingInTwoRounds =
     } ∷
     []
 
-abbrev pub judgedFailingInThreeRounds : List JudgedSample
-judgedFailingInThreeRounds =
+abbrev pub judged_failing_in_three_rounds : List JudgedSample
+judged_failing_in_three_rounds =
     record {
       run = record {
         k = 4;
@@ -817,8 +817,8 @@ judgedFailingInThreeRounds =
     } ∷
     []
 
-abbrev pub judgedAtHighDegree : List JudgedSample
-judgedAtHighDegree =
+abbrev pub judged_at_high_degree : List JudgedSample
+judged_at_high_degree =
     record {
       run = record {
         k = 3;
@@ -841,8 +841,8 @@ judgedAtHighDegree =
     } ∷
     []
 
-abbrev pub judgedRefused : List JudgedSample
-judgedRefused =
+abbrev pub judged_refused : List JudgedSample
+judged_refused =
     record {
       run = record {
         k = 1;
@@ -1295,8 +1295,8 @@ judgedRefused =
     } ∷
     []
 
-abbrev pub provedWell : List ProvedSample
-provedWell =
+abbrev pub proved_well : List ProvedSample
+proved_well =
     record {
       run = record {
         k = 4;
@@ -1323,8 +1323,8 @@ provedWell =
     } ∷
     []
 
-abbrev pub provedAtHighDegree : List ProvedSample
-provedAtHighDegree =
+abbrev pub proved_at_high_degree : List ProvedSample
+proved_at_high_degree =
     record {
       run = record {
         k = 3;
@@ -1346,8 +1346,8 @@ provedAtHighDegree =
     } ∷
     []
 
-abbrev pub provedRefused : List ProvedSample
-provedRefused =
+abbrev pub proved_refused : List ProvedSample
+proved_refused =
     record {
       run = record {
         k = 1;

@@ -3,14 +3,14 @@
 use Rattle.std.specs.Prelude.{Bool, true, false, ◌&&◌, List, [], ◌∷◌, ℕ, suc, eqb, length}
 use Rattle.refusal.specs.declared.Position.{Position}
 use Rattle.refusal.specs.declared.Position.TheVariants.{At, Absent}
-use Rattle.refusal.specs.Numbers.{numberOfOutcome, placeOfOutcome}
+use Rattle.refusal.specs.Numbers.{number_of_outcome, place_of_outcome}
 use Rattle.coset.specs.Coset.{tabulated}
-use Rattle.fri.specs.Layout.{steps_of, dimension, lastCount, layerStart, storeLength, indexIn}
+use Rattle.fri.specs.Layout.{steps_of, dimension, last_count, layer_start, store_length, index_in}
 use Rattle.fri.specs.Run.{Run}
-use Rattle.fri.specs.Layers.{layerBasis, layerOffset}
-use Rattle.fri.specs.Lookup.{layerPart}
-use Rattle.fri.specs.Judge.{verdictOf, numberOfAnswer, placeOfAnswer, roundOfAnswer}
-use Rattle.fri.specs.Prover.{proveOutcome, storeAfter, lastAfter}
+use Rattle.fri.specs.Layers.{layer_basis, layer_offset}
+use Rattle.fri.specs.Lookup.{layer_part}
+use Rattle.fri.specs.Judge.{verdict_of, number_of_answer, place_of_answer, round_of_answer}
+use Rattle.fri.specs.Prover.{prove_outcome, store_after, last_after}
 
 -- the test passes in every row
 unfoldable pub every : {A : Type 0} (test : A → Bool) (rows : List A) → Bool
@@ -25,11 +25,11 @@ same (x ∷ xs) [] = false
 same (x ∷ xs) (y ∷ ys) = eqb x y && same xs ys
 
 -- two positions are the same
-abbrev pub samePosition : (found due : Position) → Bool
-samePosition Absent Absent = true
-samePosition Absent (At n) = false
-samePosition (At m) Absent = false
-samePosition (At m) (At n) = eqb m n
+abbrev pub same_position : (found due : Position) → Bool
+same_position Absent Absent = true
+same_position Absent (At n) = false
+same_position (At m) Absent = false
+same_position (At m) (At n) = eqb m n
 
 -- parameters with r, d, the length of the store, the dimensions of layers 0 to r and where layers 1 to r - 1 begin
 pub record LayoutSample : Type 0 where
@@ -37,18 +37,18 @@ pub record LayoutSample : Type 0 where
   pub rate : ℕ
   pub step : ℕ
   pub rounds : ℕ
-  pub lastCount : ℕ
-  pub storeLength : ℕ
+  pub last_count : ℕ
+  pub store_length : ℕ
   pub dimensions : List ℕ
   pub starts : List ℕ
 
-abbrev pub layoutAgrees : (row : LayoutSample) → Bool
-layoutAgrees row =
+abbrev pub layout_agrees : (row : LayoutSample) → Bool
+layout_agrees row =
     let steps = steps_of row.k row.rate row.step in
-    eqb (length steps) row.rounds && eqb (lastCount row.k row.rate steps) row.lastCount
-    && eqb (storeLength row.k steps) row.storeLength
+    eqb (length steps) row.rounds && eqb (last_count row.k row.rate steps) row.last_count
+    && eqb (store_length row.k steps) row.store_length
     && same (tabulated (dimension row.k steps) 0 (suc row.rounds)) row.dimensions
-    && same (tabulated (layerStart row.k steps) 1 (length row.starts)) row.starts
+    && same (tabulated (layer_start row.k steps) 1 (length row.starts)) row.starts
     && eqb (suc (length row.starts)) row.rounds
 
 -- parameters and a query's index in layers 0 to r
@@ -59,10 +59,10 @@ pub record IndexSample : Type 0 where
   pub query : ℕ
   pub indices : List ℕ
 
-abbrev pub indexAgrees : (row : IndexSample) → Bool
-indexAgrees row =
+abbrev pub index_agrees : (row : IndexSample) → Bool
+index_agrees row =
     let steps = steps_of row.k row.rate row.step in
-    same (tabulated (indexIn steps row.query) 0 (suc (length steps))) row.indices
+    same (tabulated (index_in steps row.query) 0 (suc (length steps))) row.indices
 
 -- parameters and a coset with the offsets and bases of layers 0 to r
 pub record CosetSample : Type 0 where
@@ -75,15 +75,15 @@ pub record CosetSample : Type 0 where
   pub bases : List (List ℕ)
 
 -- the bases of layers i, i + 1, ..
-unfoldable pub basesAgree : (steps basis : List ℕ) (i : ℕ) (bases : List (List ℕ)) → Bool
-basesAgree steps basis i [] = true
-basesAgree steps basis i (due ∷ others) = same (layerBasis steps basis i) due && basesAgree steps basis (suc i) others
+unfoldable pub bases_agree : (steps basis : List ℕ) (i : ℕ) (bases : List (List ℕ)) → Bool
+bases_agree steps basis i [] = true
+bases_agree steps basis i (due ∷ others) = same (layer_basis steps basis i) due && bases_agree steps basis (suc i) others
 
-abbrev pub cosetAgrees : (row : CosetSample) → Bool
-cosetAgrees row =
+abbrev pub coset_agrees : (row : CosetSample) → Bool
+coset_agrees row =
     let steps = steps_of row.k row.rate row.step in
-    same (tabulated (layerOffset steps row.offset row.basis) 0 (suc (length steps))) row.offsets
-    && eqb (length row.bases) (suc (length steps)) && basesAgree steps row.basis 0 row.bases
+    same (tabulated (layer_offset steps row.offset row.basis) 0 (suc (length steps))) row.offsets
+    && eqb (length row.bases) (suc (length steps)) && bases_agree steps row.basis 0 row.bases
 
 -- a store and the part of it that the lookup of a layer hands back
 pub record LookupSample : Type 0 where
@@ -94,8 +94,8 @@ pub record LookupSample : Type 0 where
   pub layer : ℕ
   pub part : List ℕ
 
-abbrev pub lookupAgrees : (row : LookupSample) → Bool
-lookupAgrees row = same (layerPart row.k row.rate row.step row.store row.layer) row.part
+abbrev pub lookup_agrees : (row : LookupSample) → Bool
+lookup_agrees row = same (layer_part row.k row.rate row.step row.store row.layer) row.part
 
 -- a judging with the number, place, round and reads of its verdict
 pub record JudgedSample : Type 0 where
@@ -106,11 +106,11 @@ pub record JudgedSample : Type 0 where
   pub round : Position
   pub reads : ℕ
 
-abbrev pub judgedAgrees : (row : JudgedSample) → Bool
-judgedAgrees row =
-    let verdict = verdictOf row.run row.queries in
-    eqb (numberOfAnswer verdict.answer) row.number && samePosition (placeOfAnswer verdict.answer) row.place
-    && samePosition (roundOfAnswer verdict.answer) row.round && eqb verdict.reads row.reads
+abbrev pub judged_agrees : (row : JudgedSample) → Bool
+judged_agrees row =
+    let verdict = verdict_of row.run row.queries in
+    eqb (number_of_answer verdict.answer) row.number && same_position (place_of_answer verdict.answer) row.place
+    && same_position (round_of_answer verdict.answer) row.round && eqb verdict.reads row.reads
 
 -- a call of the prover with the number and place of its answer and what the two lent lists hold afterwards
 pub record ProvedSample : Type 0 where
@@ -120,8 +120,8 @@ pub record ProvedSample : Type 0 where
   pub store : List ℕ
   pub last : List ℕ
 
-abbrev pub provedAgrees : (row : ProvedSample) → Bool
-provedAgrees row =
-    eqb (numberOfOutcome (proveOutcome row.run)) row.number
-    && samePosition (placeOfOutcome (proveOutcome row.run)) row.place
-    && same (storeAfter row.run) row.store && same (lastAfter row.run) row.last
+abbrev pub proved_agrees : (row : ProvedSample) → Bool
+proved_agrees row =
+    eqb (number_of_outcome (prove_outcome row.run)) row.number
+    && same_position (place_of_outcome (prove_outcome row.run)) row.place
+    && same (store_after row.run) row.store && same (last_after row.run) row.last

@@ -5,22 +5,22 @@ use Prim.Native.Nat.{ℕ, suc, ◌≤◌, ◌<◌}
 use native.Mathlib.Omega.{arith}
 use lib.ListN.{length, get_or, drop, length-drop}
 use lib.Seq.{drop-cons, drop-length}
-use Rattle.written.specs.Bytes.{countBytes, entryBytes, entriesBytes, sectionBytes}
-use Rattle.written.proofs.Bytes.{length-entriesBytes}
+use Rattle.written.specs.Bytes.{count_bytes, entry_bytes, entries_bytes, section_bytes}
+use Rattle.written.proofs.Bytes.{length-entries_bytes}
 
 module _ (entries : List ℕ) (i : ℕ) where
   pub entries_from : i < length entries
-      → entriesBytes (drop i entries) ≡ entryBytes (get_or entries i 0) ++ entriesBytes (drop (suc i) entries)
-  unfolding entriesBytes
-  entries_from h = ap entriesBytes (drop-cons entries i 0 h)
+      → entries_bytes (drop i entries) ≡ entry_bytes (get_or entries i 0) ++ entries_bytes (drop (suc i) entries)
+  unfolding entries_bytes
+  entries_from h = ap entries_bytes (drop-cons entries i 0 h)
 
-  pub entries_none : i ≡ length entries → entriesBytes (drop i entries) ≡ []
-  unfolding entriesBytes
-  entries_none e = ap entriesBytes (ap (λ (n : ℕ). drop n entries) e ∙ drop-length entries)
+  pub entries_none : i ≡ length entries → entries_bytes (drop i entries) ≡ []
+  unfolding entries_bytes
+  entries_none e = ap entries_bytes (ap (λ (n : ℕ). drop n entries) e ∙ drop-length entries)
 
-  pub entry-left : i < length entries → 8 ≤ length (entriesBytes (drop i entries))
-  entry-left h = omega (arith, length-entriesBytes (drop i entries), length-drop i entries)
+  pub entry_left : i < length entries → 8 ≤ length (entries_bytes (drop i entries))
+  entry_left h = omega (arith, length-entries_bytes (drop i entries), length-drop i entries)
 
-pub section-is : (entries : List ℕ) → countBytes (length entries) ++ entriesBytes entries ≡ sectionBytes entries
-unfolding sectionBytes
-section-is entries = refl
+pub section_is : (entries : List ℕ) → count_bytes (length entries) ++ entries_bytes entries ≡ section_bytes entries
+unfolding section_bytes
+section_is entries = refl

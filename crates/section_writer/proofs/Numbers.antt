@@ -6,12 +6,12 @@ use native.Mathlib.Omega.{arith}
 use lib.ListN.{length, take, drop, set}
 use lib.Seq.{set_split}
 use Rattle.placing.specs.Put.{Put}
-use Rattle.placing.proofs.Placing.{put-append, length-put}
-use Rattle.written.specs.Bytes.{littleEndianBytes, countBytes, entryBytes}
+use Rattle.placing.proofs.Placing.{put_append, length_put}
+use Rattle.written.specs.Bytes.{little_endian_bytes, count_bytes, entry_bytes}
 
-byte-stored : (held : List ℕ) (at end byte : ℕ) → end ≡ suc at → at < length held
+byte_stored : (held : List ℕ) (at end byte : ℕ) → end ≡ suc at → at < length held
     → Put held at (byte ∷ []) end (set held at byte)
-byte-stored held at end byte e h =
+byte_stored held at end byte e h =
     record {
       list =
           set_split held at byte h ∙ sym (append_assoc (take at held) (byte ∷ []) (drop (suc at) held))
@@ -23,35 +23,35 @@ byte-stored held at end byte e h =
 -- four bytes
 module _ (held : List ℕ) (at : ℕ) (room : at + 4 ≤ length held) (a b c d : ℕ) where
   one : Put held at (a ∷ []) (at + 1) (set held at a)
-  one = byte-stored held at (at + 1) a (omega arith) (omega arith)
+  one = byte_stored held at (at + 1) a (omega arith) (omega arith)
 
   two : Put held at (a ∷ b ∷ []) (at + 2) (set (set held at a) (at + 1) b)
-  two = put-append one (byte-stored (set held at a) (at + 1) (at + 2) b (omega arith) (omega (arith, length-put one)))
+  two = put_append one (byte_stored (set held at a) (at + 1) (at + 2) b (omega arith) (omega (arith, length_put one)))
 
   three : Put held at (a ∷ b ∷ c ∷ []) (at + 3) (set (set (set held at a) (at + 1) b) (at + 2) c)
   three =
-      put-append two
-      (byte-stored (set (set held at a) (at + 1) b) (at + 2) (at + 3) c (omega arith) (omega (arith, length-put two)))
+      put_append two
+      (byte_stored (set (set held at a) (at + 1) b) (at + 2) (at + 3) c (omega arith) (omega (arith, length_put two)))
 
-  pub four-stored : Put held at (a ∷ b ∷ c ∷ d ∷ []) (at + 4)
+  pub four_stored : Put held at (a ∷ b ∷ c ∷ d ∷ []) (at + 4)
       (set (set (set (set held at a) (at + 1) b) (at + 2) c) (at + 3) d)
-  four-stored =
-      put-append three
-      (byte-stored (set (set (set held at a) (at + 1) b) (at + 2) c) (at + 3) (at + 4) d (omega arith)
-      (omega (arith, length-put three)))
+  four_stored =
+      put_append three
+      (byte_stored (set (set (set held at a) (at + 1) b) (at + 2) c) (at + 3) (at + 4) d (omega arith)
+      (omega (arith, length_put three)))
 
 -- a count's four bytes
-pub count-is : (count : ℕ)
-    → count % 256 ∷ count / 256 % 256 ∷ count / 65536 % 256 ∷ count / 16777216 % 256 ∷ [] ≡ countBytes count
-unfolding littleEndianBytes
-count-is count =
+pub count_is : (count : ℕ)
+    → count % 256 ∷ count / 256 % 256 ∷ count / 65536 % 256 ∷ count / 16777216 % 256 ∷ [] ≡ count_bytes count
+unfolding little_endian_bytes
+count_is count =
     let third : count / 65536 % 256 ≡ count / 256 / 256 % 256 = omega arith in
     let fourth : count / 16777216 % 256 ≡ count / 256 / 256 / 256 % 256 = omega arith in
     ap₂ (λ (c d : ℕ). count % 256 ∷ count / 256 % 256 ∷ c ∷ d ∷ []) third fourth
 
 -- an entry's halves
-pub halves : (entry : ℕ) → countBytes entry ++ countBytes (entry / 4294967296) ≡ entryBytes entry
-unfolding littleEndianBytes
+pub halves : (entry : ℕ) → count_bytes entry ++ count_bytes (entry / 4294967296) ≡ entry_bytes entry
+unfolding little_endian_bytes
 halves entry =
     let high : entry / 4294967296 ≡ entry / 256 / 256 / 256 / 256 = omega arith in
-    ap (λ (n : ℕ). countBytes entry ++ littleEndianBytes 4 n) high
+    ap (λ (n : ℕ). count_bytes entry ++ little_endian_bytes 4 n) high

@@ -2,24 +2,24 @@
 use Rattle.std.specs.Prelude.{◌≡◌, List, ℕ}
 use Rattle.layout.specs.Parameters.{Valid}
 use Rattle.layout.specs.declared.Parameters.{Parameters}
-use Rattle.transcript.specs.Sections.{sectionStart, transcriptK, transcriptRate, transcriptStep}
+use Rattle.transcript.specs.Sections.{section_start, transcript_k, transcript_rate, transcript_step}
 use Rattle.sections.specs.declared.Sections.{Sections}
 
 -- where sections 2 to 5 begin
-abbrev pub sectionsIn : (bytes : List ℕ) → Sections
-sectionsIn bytes =
+abbrev pub sections_in : (bytes : List ℕ) → Sections
+sections_in bytes =
     record {
-      coset = sectionStart bytes 2;
-      challenges = sectionStart bytes 3;
-      queries = sectionStart bytes 4;
-      layers = sectionStart bytes 5;
+      coset = section_start bytes 2;
+      challenges = section_start bytes 3;
+      queries = section_start bytes 4;
+      layers = section_start bytes 5;
     }
 
 -- k, R and η
-abbrev pub parametersIn : (bytes : List ℕ) → Parameters
-parametersIn bytes = record { k = transcriptK bytes; rate = transcriptRate bytes; step = transcriptStep bytes }
+abbrev pub parameters_in : (bytes : List ℕ) → Parameters
+parameters_in bytes = record { k = transcript_k bytes; rate = transcript_rate bytes; step = transcript_step bytes }
 
 -- parameters that were read from section 1 and are in range
 pub record ParametersOf (bytes : List ℕ) (parameters : Parameters) : Type 0 where
-  pub read : parameters ≡ parametersIn bytes
+  pub read : parameters ≡ parameters_in bytes
   pub valid : Valid parameters

@@ -1,8 +1,8 @@
 // The sections of a transcript: where they begin, and whether their counts and bytes are right.
 ghost use Rattle.std.specs.Prelude.{◌≡◌, ◌^◌, ◌≤◌};
-ghost use Rattle.transcript.specs.Sections.{sectionStart, sectionEnd, sectionCount};
-ghost use Rattle.transcript.specs.Checks.{sectionOutcome, dueOutcome};
-ghost use Rattle.sections.specs.Views.{sectionsIn, parametersIn};
+ghost use Rattle.transcript.specs.Sections.{section_start, section_end, section_count};
+ghost use Rattle.transcript.specs.Checks.{section_outcome, due_outcome};
+ghost use Rattle.sections.specs.Views.{sections_in, parameters_in};
 
 use layout::Parameters;
 use refusal::{Cause, Outcome};
@@ -18,7 +18,7 @@ pub struct Sections {
 
 // Where they begin by the counts as they stand, whatever these are.
 pub fn find(bytes: &[u8]) -> Sections
-    ensures { result ≡ sectionsIn bytes.now }
+    ensures { result ≡ sections_in bytes.now }
 {
     let coset = end_of(bytes, 0);
     let challenges = end_of(bytes, coset);
@@ -36,15 +36,15 @@ pub fn find(bytes: &[u8]) -> Sections
 // them, at most 5 + 19, end before 2^40.
 pub fn end_of(bytes: &[u8], at: usize) -> usize
     requires { at ≤ 2 ^ 40 }
-    ensures { result ≡ sectionEnd bytes.now at }
+    ensures { result ≡ section_end bytes.now at }
 {
     at + 4 + 8 * entries::count_at(bytes, at)
 }
 
 // k, R and η, where section 1 has the three.
 pub fn parameters(bytes: &[u8]) -> Parameters
-    requires { sectionCount bytes.now 1 ≡ 3 }
-    ensures { result ≡ parametersIn bytes.now }
+    requires { section_count bytes.now 1 ≡ 3 }
+    ensures { result ≡ parameters_in bytes.now }
 {
     Parameters {
         k: entries::entry_at(bytes, 4) as usize,
@@ -55,8 +55,8 @@ pub fn parameters(bytes: &[u8]) -> Parameters
 
 // A section whose count must be the one due (2).
 pub fn checked_due(bytes: &[u8], section: usize, at: usize, due: usize) -> Outcome
-    requires { (at ≡ sectionStart bytes.now section) × (1 ≤ section) × (section ≤ 24) }
-    ensures { result ≡ dueOutcome bytes.now section due }
+    requires { (at ≡ section_start bytes.now section) × (1 ≤ section) × (section ≤ 24) }
+    ensures { result ≡ due_outcome bytes.now section due }
 {
     let count = entries::count_at(bytes, at);
     checked_section(
@@ -70,8 +70,8 @@ pub fn checked_due(bytes: &[u8], section: usize, at: usize, due: usize) -> Outco
 
 // A section whose count passes a test, else the cause.
 pub fn checked_section(bytes: &[u8], section: usize, at: usize, test: bool, cause: Cause) -> Outcome
-    requires { (at ≡ sectionStart bytes.now section) × (1 ≤ section) × (section ≤ 24) }
-    ensures { result ≡ sectionOutcome bytes.now section test cause }
+    requires { (at ≡ section_start bytes.now section) × (1 ≤ section) × (section ≤ 24) }
+    ensures { result ≡ section_outcome bytes.now section test cause }
 {
     if at + 4 > bytes.len() {
         return Outcome::Refused(Cause::BytesEnd { section });

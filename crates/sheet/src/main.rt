@@ -2,8 +2,8 @@
 // 65,536 is read, so that a longer input is known; what follows it decides nothing. Where a read fails nothing is
 // printed.
 ghost use Rattle.std.specs.Prelude.{◌≡◌, ◌+◌, ◌≤◌, length, take};
-ghost use Rattle.transcript.specs.Judge.{inputLimit};
-ghost use Rattle.sheet_text.specs.Sheet.{sheetOf, largestSheet};
+ghost use Rattle.transcript.specs.Judge.{input_limit};
+ghost use Rattle.sheet_text.specs.Sheet.{sheet_of, largest_sheet};
 ghost use Rattle.input.specs.Reading.{Over, Prints};
 
 use input::Reading;
@@ -12,10 +12,10 @@ use libc::STDOUT_FILENO;
 // What is printed, at the front of the second list, and its length. The first list has room for the limit and one byte
 // more, the second for the largest sheet of any transcript.
 fn answer(input: &[u8], reading: Reading, out: &mut [u8]) -> usize
-    requires size { length input.now ≡ inputLimit + 1 }
+    requires size { length input.now ≡ input_limit + 1 }
     requires over { Over (length input.now) reading }
-    requires room { length out.old ≡ largestSheet }
-    ensures text { Prints sheetOf reading input.now (take result out.new) }
+    requires room { length out.old ≡ largest_sheet }
+    ensures text { Prints sheet_of reading input.now (take result out.new) }
     ensures fits { (result ≤ length out.new) × (result ≡ length (take result out.new)) }
 {
     let Reading::Done(count) = reading else {
@@ -26,7 +26,7 @@ fn answer(input: &[u8], reading: Reading, out: &mut [u8]) -> usize
 
 // The lines again, which the contract holds to those of the whole input.
 fn printed<'a>(lines: &'a [u8], input: &[u8], reading: Reading) -> &'a [u8]
-    requires { Prints sheetOf reading input.now lines.now }
+    requires { Prints sheet_of reading input.now lines.now }
     ensures { result.now ≡ lines.now }
 {
     lines

@@ -2,10 +2,10 @@
 ghost use Rattle.std.specs.Prelude.{◌≡◌, ◌≤◌, length};
 ghost use Rattle.refusal.specs.declared.Outcome.TheVariants as outcomes;
 ghost use Rattle.fri.specs.Run.{Run};
-ghost use Rattle.fri.specs.Judge.{checksOutcome};
+ghost use Rattle.fri.specs.Judge.{checks_outcome};
 ghost use Rattle.placing.specs.Put.{Put};
-ghost use Rattle.sheet_text.specs.Sheet.{sheetLines};
-ghost use Rattle.byte_rounds.specs.Layers.{sentIn, LaidOut};
+ghost use Rattle.sheet_text.specs.Sheet.{sheet_lines};
+ghost use Rattle.byte_rounds.specs.Layers.{sent_in, LaidOut};
 
 use field::Element;
 use layout::Parameters;
@@ -25,11 +25,11 @@ pub fn put_lines(
     out: &mut [u8],
 ) -> usize
     ghost run: { Run }
-    requires last_value { sentIn parameters offset.0 basis.now challenges.now bytes.now last.now ≡ run }
-    requires queries_value { checksOutcome run queries.now ≡ outcomes.Done }
+    requires last_value { sent_in parameters offset.0 basis.now challenges.now bytes.now last.now ≡ run }
+    requires queries_value { checks_outcome run queries.now ≡ outcomes.Done }
     requires laid_out { LaidOut bytes.now begin run }
-    requires queries_in_bounds { length (sheetLines run queries.now 0) ≤ length out.old }
-    ensures { Put out.old 0 (sheetLines run queries.now 0) result out.new }
+    requires queries_in_bounds { length (sheet_lines run queries.now 0) ≤ length out.old }
+    ensures { Put out.old 0 (sheet_lines run queries.now 0) result out.new }
 {
     let count = parameters.rounds();
     let table = round_checks::set_up(parameters, basis, challenges);

@@ -19,96 +19,96 @@ use Rattle.refusal.specs.declared.Cause.TheVariants.{CosetShared}
 use Rattle.refusal.specs.declared.Outcome.{Outcome}
 use Rattle.refusal.specs.declared.Outcome.TheVariants as outcomes
 use Rattle.refusal.specs.declared.Outcome.TheVariants.{Done}
-use Rattle.refusal.proofs.Checks.{refused-not-done, then-passed}
+use Rattle.refusal.proofs.Checks.{refused_not_done, then_passed}
 use Rattle.fri.specs.declared.Answer.TheVariants.{Refused}
 use Rattle.fri.specs.declared.Verdict.{Verdict}
-use Rattle.fri.specs.Run.{Run, roundsIn}
-use Rattle.fri.specs.Rounds.{valueComputed, valueFound, roundsOutcome}
-use Rattle.fri.specs.Judge.{checksOutcome, answer_of}
+use Rattle.fri.specs.Run.{Run, rounds_in}
+use Rattle.fri.specs.Rounds.{value_computed, value_found, rounds_outcome}
+use Rattle.fri.specs.Judge.{checks_outcome, answer_of}
 use Rattle.fri.specs.Theorems.{FailsFirst}
 use Rattle.fri.proofs.Layouts as layouts
-use Rattle.fri.proofs.Checks.{run-valid}
+use Rattle.fri.proofs.Checks.{run_valid}
 use Rattle.fri.proofs.Rounds.{Ended, ended}
-use Rattle.fri.proofs.Verdicts.{checks-valid}
-use Rattle.fri.proofs.RoundChecks.{round-checks}
-use Rattle.transcript.specs.Sections.{transcriptRounds, runIn, queriesIn}
-use Rattle.transcript.specs.Checks.{transcriptOutcome}
-use Rattle.transcript.specs.Judge.{transcriptVerdict}
+use Rattle.fri.proofs.Verdicts.{checks_valid}
+use Rattle.fri.proofs.RoundChecks.{round_checks}
+use Rattle.transcript.specs.Sections.{transcript_rounds, run_in, queries_in}
+use Rattle.transcript.specs.Checks.{transcript_outcome}
+use Rattle.transcript.specs.Judge.{transcript_verdict}
 use Rattle.transcript.specs.Theorems.{Carries}
-use Rattle.transcript.proofs.Carried.{checks-are, passed-carries}
-use Rattle.transcript.proofs.Theorems.{judging-bytes}
-use Rattle.sheet_text.specs.Sheet.{lineLength, sheetLine, queryLines, sheetLines, hasLines, sheetBy}
-use Rattle.sheet_text.specs.Sheet.{transcriptSheet}
-use Rattle.sheet_text.proofs.Lines.{length-line}
+use Rattle.transcript.proofs.Carried.{checks_are, passed_carries}
+use Rattle.transcript.proofs.Theorems.{judging_bytes}
+use Rattle.sheet_text.specs.Sheet.{line_length, sheet_line, query_lines, sheet_lines, has_lines, sheet_by}
+use Rattle.sheet_text.specs.Sheet.{transcript_sheet}
+use Rattle.sheet_text.proofs.Lines.{length_line}
 
 -- ---- the lines of a query
 
 module _ (run : Run) (query j : ℕ) where
   -- those of the first m rounds, then those of the next n
-  pub query-lines-append : (i m n : ℕ)
-      → queryLines run query j i (m + n) ≡ queryLines run query j i m ++ queryLines run query j (i + m) n
-  unfolding queryLines
-  query-lines-append i zero n =
-      ap₂ (λ (a b : ℕ). queryLines run query j a b) (sym (add-zero i)) (zero-add n)
-  query-lines-append i (suc m) n =
-      ap (λ (c : ℕ). queryLines run query j i c) (suc-add m n)
-      ∙ ap (λ (text : List ℕ). sheetLine run query j i ++ text) (query-lines-append (suc i) m n)
-      ∙ sym (append_assoc (sheetLine run query j i) (queryLines run query j (suc i) m)
-      (queryLines run query j (suc i + m) n))
-      ∙ ap (λ (a : ℕ). queryLines run query j i (suc m) ++ queryLines run query j a n) (suc-add i m ∙ sym (add-suc i m))
+  pub query_lines_append : (i m n : ℕ)
+      → query_lines run query j i (m + n) ≡ query_lines run query j i m ++ query_lines run query j (i + m) n
+  unfolding query_lines
+  query_lines_append i zero n =
+      ap₂ (λ (a b : ℕ). query_lines run query j a b) (sym (add-zero i)) (zero-add n)
+  query_lines_append i (suc m) n =
+      ap (λ (c : ℕ). query_lines run query j i c) (suc-add m n)
+      ∙ ap (λ (text : List ℕ). sheet_line run query j i ++ text) (query_lines_append (suc i) m n)
+      ∙ sym (append_assoc (sheet_line run query j i) (query_lines run query j (suc i) m)
+      (query_lines run query j (suc i + m) n))
+      ∙ ap (λ (a : ℕ). query_lines run query j i (suc m) ++ query_lines run query j a n) (suc-add i m ∙ sym (add-suc i m))
 
   -- the lines of rounds 0 to i are those before round i and that of round i
-  pub query-lines-next : (i : ℕ)
-      → queryLines run query j 0 (suc i) ≡ queryLines run query j 0 i ++ sheetLine run query j i
-  unfolding queryLines
-  query-lines-next i =
-      ap (queryLines run query j 0) more
-      ∙ query-lines-append 0 i 1
-      ∙ ap (λ (text : List ℕ). queryLines run query j 0 i ++ text) (append-nil (sheetLine run query j (0 + i)))
-      ∙ ap (λ (a : ℕ). queryLines run query j 0 i ++ sheetLine run query j a) (zero-add i)
+  pub query_lines_next : (i : ℕ)
+      → query_lines run query j 0 (suc i) ≡ query_lines run query j 0 i ++ sheet_line run query j i
+  unfolding query_lines
+  query_lines_next i =
+      ap (query_lines run query j 0) more
+      ∙ query_lines_append 0 i 1
+      ∙ ap (λ (text : List ℕ). query_lines run query j 0 i ++ text) (append-nil (sheet_line run query j (0 + i)))
+      ∙ ap (λ (a : ℕ). query_lines run query j 0 i ++ sheet_line run query j a) (zero-add i)
     where
       more : suc i ≡ i + 1
       more = omega arith
 
-  pub length-query-lines : (i n : ℕ) → query < 100000 → j < 100000000 → i + n ≤ 1000
-      → length (queryLines run query j i n) ≡ lineLength * n
-  unfolding queryLines
-  length-query-lines i zero q l h = refl
-  length-query-lines i (suc n) q l h =
-      length-append (sheetLine run query j i) (queryLines run query j (suc i) n)
+  pub length_query_lines : (i n : ℕ) → query < 100000 → j < 100000000 → i + n ≤ 1000
+      → length (query_lines run query j i n) ≡ line_length * n
+  unfolding query_lines
+  length_query_lines i zero q l h = refl
+  length_query_lines i (suc n) q l h =
+      length-append (sheet_line run query j i) (query_lines run query j (suc i) n)
       ∙ omega (
         arith,
-        length-line query j i (valueComputed run j i) (valueFound run j i) q l (omega arith),
-        length-query-lines (suc i) n q l (omega arith),
+        length_line query j i (value_computed run j i) (value_found run j i) q l (omega arith),
+        length_query_lines (suc i) n q l (omega arith),
       )
 
 -- ---- the lines of several queries
 
 -- those of some queries, then those of the queries after them
-pub sheet-lines-append : (run : Run) (queries more : List ℕ) (query : ℕ)
-    → sheetLines run (queries ++ more) query
-    ≡ sheetLines run queries query ++ sheetLines run more (query + length queries)
-unfolding sheetLines
-sheet-lines-append run [] more query = ap (sheetLines run more) (sym (add-zero query))
-sheet-lines-append run (j ∷ queries) more query =
-    ap (λ (text : List ℕ). queryLines run query j 0 (roundsIn run) ++ text)
-    (sheet-lines-append run queries more (suc query))
-    ∙ sym (append_assoc (queryLines run query j 0 (roundsIn run)) (sheetLines run queries (suc query))
-    (sheetLines run more (suc query + length queries)))
-    ∙ ap (λ (n : ℕ). sheetLines run (j ∷ queries) query ++ sheetLines run more n)
+pub sheet_lines_append : (run : Run) (queries more : List ℕ) (query : ℕ)
+    → sheet_lines run (queries ++ more) query
+    ≡ sheet_lines run queries query ++ sheet_lines run more (query + length queries)
+unfolding sheet_lines
+sheet_lines_append run [] more query = ap (sheet_lines run more) (sym (add-zero query))
+sheet_lines_append run (j ∷ queries) more query =
+    ap (λ (text : List ℕ). query_lines run query j 0 (rounds_in run) ++ text)
+    (sheet_lines_append run queries more (suc query))
+    ∙ sym (append_assoc (query_lines run query j 0 (rounds_in run)) (sheet_lines run queries (suc query))
+    (sheet_lines run more (suc query + length queries)))
+    ∙ ap (λ (n : ℕ). sheet_lines run (j ∷ queries) query ++ sheet_lines run more n)
     (suc-add query (length queries) ∙ sym (add-suc query (length queries)))
 
 -- the lines of queries 0 to t are those before query t and those of query t
-pub sheet-lines-next : (run : Run) (queries : List ℕ) (t : ℕ) → t < length queries
-    → sheetLines run (take (suc t) queries) 0
-    ≡ sheetLines run (take t queries) 0 ++ queryLines run t (get_or queries t 0) 0 (roundsIn run)
-unfolding sheetLines
-sheet-lines-next run queries t h =
-    ap (λ (l : List ℕ). sheetLines run l 0) (take-suc queries t 0 h)
-    ∙ sheet-lines-append run (take t queries) (get_or queries t 0 ∷ []) 0
-    ∙ ap (λ (text : List ℕ). sheetLines run (take t queries) 0 ++ text)
-    (append-nil (queryLines run (0 + length (take t queries)) (get_or queries t 0) 0 (roundsIn run)))
-    ∙ ap (λ (n : ℕ). sheetLines run (take t queries) 0 ++ queryLines run n (get_or queries t 0) 0 (roundsIn run)) place
+pub sheet_lines_next : (run : Run) (queries : List ℕ) (t : ℕ) → t < length queries
+    → sheet_lines run (take (suc t) queries) 0
+    ≡ sheet_lines run (take t queries) 0 ++ query_lines run t (get_or queries t 0) 0 (rounds_in run)
+unfolding sheet_lines
+sheet_lines_next run queries t h =
+    ap (λ (l : List ℕ). sheet_lines run l 0) (take-suc queries t 0 h)
+    ∙ sheet_lines_append run (take t queries) (get_or queries t 0 ∷ []) 0
+    ∙ ap (λ (text : List ℕ). sheet_lines run (take t queries) 0 ++ text)
+    (append-nil (query_lines run (0 + length (take t queries)) (get_or queries t 0) 0 (rounds_in run)))
+    ∙ ap (λ (n : ℕ). sheet_lines run (take t queries) 0 ++ query_lines run n (get_or queries t 0) 0 (rounds_in run)) place
   where
     place : 0 + length (take t queries) ≡ t
     place = omega (arith, length-take-le t queries (omega arith))
@@ -117,137 +117,137 @@ sheet-lines-next run queries t h =
 
 -- what the checks before the round checks leave of a run and its queries
 pub record Fits (run : Run) (queries : List ℕ) : Type 0 where
-  pub rounds-some : 1 ≤ roundsIn run
-  pub rounds-few : roundsIn run ≤ 19
-  pub queries-some : 1 ≤ length queries
-  pub queries-few : length queries ≤ 256
+  pub rounds_some : 1 ≤ rounds_in run
+  pub rounds_few : rounds_in run ≤ 19
+  pub queries_some : 1 ≤ length queries
+  pub queries_few : length queries ≤ 256
   pub indices : (t : ℕ) → get_or queries t 0 < 2 ^ 20
 
-pub checked-fits : (run : Run) (queries : List ℕ) → checksOutcome run queries ≡ Done → Fits run queries
-checked-fits run queries done =
-    let passed = checks-valid run queries done in
-    let valid = (run-valid run passed.0).0 in
+pub checked_fits : (run : Run) (queries : List ℕ) → checks_outcome run queries ≡ Done → Fits run queries
+checked_fits run queries done =
+    let passed = checks_valid run queries done in
+    let valid = (run_valid run passed.0).0 in
     record {
-      rounds-some = layouts.some-round run.k run.rate run.step valid.step-least valid.k-enough;
-      rounds-few =
-          layouts.rounds-few run.k run.rate run.step valid.rate-least valid.step-least valid.k-most;
-      queries-some = passed.1.least;
-      queries-few = passed.1.most;
+      rounds_some = layouts.some_round run.k run.rate run.step valid.step_least valid.k_enough;
+      rounds_few =
+          layouts.rounds_few run.k run.rate run.step valid.rate_least valid.step_least valid.k_most;
+      queries_some = passed.1.least;
+      queries_few = passed.1.most;
       indices = λ t.
           lt_of_lt_of_le (all_get_d (λ j. j < 2 ^ run.k) queries t 0 (pow_pos run.k) passed.1.within)
-          (pow_mono {i = run.k} {j = 20} valid.k-most);
+          (pow_mono {i = run.k} {j = 20} valid.k_most);
     }
 
 module _ {run : Run} {queries : List ℕ} (fits : Fits run queries) where
-  pub length-sheet-lines : (t : ℕ) → t ≤ length queries
-      → length (sheetLines run (take t queries) 0) ≡ lineLength * (t * roundsIn run)
-  unfolding sheetLines
-  length-sheet-lines zero h = omega (arith, zero-mul (roundsIn run))
-  length-sheet-lines (suc t) h =
-      ap length (sheet-lines-next run queries t h)
-      ∙ length-append (sheetLines run (take t queries) 0) (queryLines run t (get_or queries t 0) 0 (roundsIn run))
+  pub length_sheet_lines : (t : ℕ) → t ≤ length queries
+      → length (sheet_lines run (take t queries) 0) ≡ line_length * (t * rounds_in run)
+  unfolding sheet_lines
+  length_sheet_lines zero h = omega (arith, zero-mul (rounds_in run))
+  length_sheet_lines (suc t) h =
+      ap length (sheet_lines_next run queries t h)
+      ∙ length-append (sheet_lines run (take t queries) 0) (query_lines run t (get_or queries t 0) 0 (rounds_in run))
       ∙ omega (
         arith,
-        suc-mul t (roundsIn run),
-        length-sheet-lines t (omega arith),
-        length-query-lines run t (get_or queries t 0) 0 (roundsIn run) (omega arith)
+        suc-mul t (rounds_in run),
+        length_sheet_lines t (omega arith),
+        length_query_lines run t (get_or queries t 0) 0 (rounds_in run) (omega arith)
             (omega (arith, fits.indices t)) (omega arith),
       )
 
-  pub length-all-lines : length (sheetLines run queries 0) ≡ lineLength * (length queries * roundsIn run)
-  length-all-lines =
-      ap (λ (l : List ℕ). length (sheetLines run l 0)) (sym (take-length queries))
-      ∙ length-sheet-lines (length queries) (omega arith)
+  pub length_all_lines : length (sheet_lines run queries 0) ≡ line_length * (length queries * rounds_in run)
+  length_all_lines =
+      ap (λ (l : List ℕ). length (sheet_lines run l 0)) (sym (take-length queries))
+      ∙ length_sheet_lines (length queries) (omega arith)
 
 -- ---- which bytes have lines
 
 -- of all causes a failed round check alone has lines
-lines-of-cause : (cause : Cause)
-    → (hasLines (Refused cause) ≡ false) ⊎ ((query : ℕ) × (round : ℕ) × (cause ≡ RoundCheckFails query round))
-lines-of-cause (BytesEnd section) = inl refl
-lines-of-cause (CountDiffers section) = inl refl
-lines-of-cause TrailingBytes = inl refl
-lines-of-cause DimensionOutOfRange = inl refl
-lines-of-cause RateOutOfRange = inl refl
-lines-of-cause StepOutOfRange = inl refl
-lines-of-cause DimensionTooSmall = inl refl
-lines-of-cause (BasisDependent place) = inl refl
-lines-of-cause QueryCountOutOfRange = inl refl
-lines-of-cause (QueryOutOfRange query) = inl refl
-lines-of-cause (RoundCheckFails query round) = inr (query, round, refl)
-lines-of-cause (DegreeTooLarge degree) = inl refl
-lines-of-cause (WrongLength list) = inl refl
-lines-of-cause InputTooLong = inl refl
-lines-of-cause (CosetShared query) = inl refl
+lines_of_cause : (cause : Cause)
+    → (has_lines (Refused cause) ≡ false) ⊎ ((query : ℕ) × (round : ℕ) × (cause ≡ RoundCheckFails query round))
+lines_of_cause (BytesEnd section) = inl refl
+lines_of_cause (CountDiffers section) = inl refl
+lines_of_cause TrailingBytes = inl refl
+lines_of_cause DimensionOutOfRange = inl refl
+lines_of_cause RateOutOfRange = inl refl
+lines_of_cause StepOutOfRange = inl refl
+lines_of_cause DimensionTooSmall = inl refl
+lines_of_cause (BasisDependent place) = inl refl
+lines_of_cause QueryCountOutOfRange = inl refl
+lines_of_cause (QueryOutOfRange query) = inl refl
+lines_of_cause (RoundCheckFails query round) = inr (query, round, refl)
+lines_of_cause (DegreeTooLarge degree) = inl refl
+lines_of_cause (WrongLength list) = inl refl
+lines_of_cause InputTooLong = inl refl
+lines_of_cause (CosetShared query) = inl refl
 
 -- the sheet by whether the judge's answer has lines
 module _ (judge : List ℕ → Verdict) (bytes : List ℕ) where
-  pub sheet-shown : hasLines (judge bytes).answer ≡ true
-      → sheetBy judge bytes ≡ sheetLines (runIn bytes) (queriesIn bytes) 0
-  unfolding sheetBy
-  sheet-shown e = ap (λ (t : Bool). cond t (sheetLines (runIn bytes) (queriesIn bytes) 0) []) e
+  pub sheet_shown : has_lines (judge bytes).answer ≡ true
+      → sheet_by judge bytes ≡ sheet_lines (run_in bytes) (queries_in bytes) 0
+  unfolding sheet_by
+  sheet_shown e = ap (λ (t : Bool). cond t (sheet_lines (run_in bytes) (queries_in bytes) 0) []) e
 
-  pub sheet-empty : hasLines (judge bytes).answer ≡ false → sheetBy judge bytes ≡ []
-  unfolding sheetBy
-  sheet-empty e = ap (λ (t : Bool). cond t (sheetLines (runIn bytes) (queriesIn bytes) 0) []) e
+  pub sheet_empty : has_lines (judge bytes).answer ≡ false → sheet_by judge bytes ≡ []
+  unfolding sheet_by
+  sheet_empty e = ap (λ (t : Bool). cond t (sheet_lines (run_in bytes) (queries_in bytes) 0) []) e
 
 module _ (bytes : List ℕ) where
   abbrev run : Run
-  run = runIn bytes
+  run = run_in bytes
 
   abbrev queries : List ℕ
-  queries = queriesIn bytes
+  queries = queries_in bytes
 
   -- ---- bytes whose sections pass
 
-  pub passed-fits : transcriptOutcome bytes ≡ Done → Fits run queries
-  passed-fits done = checked-fits run queries (sym (checks-are bytes (passed-carries bytes done)) ∙ done)
+  pub passed_fits : transcript_outcome bytes ≡ Done → Fits run queries
+  passed_fits done = checked_fits run queries (sym (checks_are bytes (passed_carries bytes done)) ∙ done)
 
-  passed_lines : transcriptOutcome bytes ≡ Done → (outcome : Outcome) → roundsOutcome run queries 0 ≡ outcome
-      → hasLines (answer_of outcome) ≡ true → hasLines (transcriptVerdict bytes).answer ≡ true
-  unfolding transcriptVerdict
+  passed_lines : transcript_outcome bytes ≡ Done → (outcome : Outcome) → rounds_outcome run queries 0 ≡ outcome
+      → has_lines (answer_of outcome) ≡ true → has_lines (transcript_verdict bytes).answer ≡ true
+  unfolding transcript_verdict
   passed_lines done outcome e h =
-      ap (λ (o : Outcome). hasLines (answer_of o))
-      (sym (then-passed (transcriptOutcome bytes) (roundsOutcome run queries 0) done) ∙ e)
+      ap (λ (o : Outcome). has_lines (answer_of o))
+      (sym (then_passed (transcript_outcome bytes) (rounds_outcome run queries 0) done) ∙ e)
       ∙ h
 
-  pub has-lines : transcriptOutcome bytes ≡ Done → hasLines (transcriptVerdict bytes).answer ≡ true
+  pub has-lines : transcript_outcome bytes ≡ Done → has_lines (transcript_verdict bytes).answer ≡ true
   has-lines done = by (ended run queries 0)
     where
-      by : Ended run queries 0 → hasLines (transcriptVerdict bytes).answer ≡ true
+      by : Ended run queries 0 → has_lines (transcript_verdict bytes).answer ≡ true
       by (inl (o, all)) = passed_lines done outcomes.Done o refl
       by (inr (t, i, o, f)) = passed_lines done (outcomes.Refused (RoundCheckFails (0 + t) i)) o refl
 
-  pub sheet-passed : transcriptOutcome bytes ≡ Done → transcriptSheet bytes ≡ sheetLines run queries 0
-  sheet-passed done = sheet-shown transcriptVerdict bytes (has-lines done)
+  pub sheet_passed : transcript_outcome bytes ≡ Done → transcript_sheet bytes ≡ sheet_lines run queries 0
+  sheet_passed done = sheet_shown transcript_verdict bytes (has-lines done)
 
-  pub length-sheet : transcriptOutcome bytes ≡ Done
-      → length (transcriptSheet bytes) ≡ lineLength * (length queries * transcriptRounds bytes)
-  length-sheet done = ap length (sheet-passed done) ∙ length-all-lines (passed-fits done)
+  pub length_sheet : transcript_outcome bytes ≡ Done
+      → length (transcript_sheet bytes) ≡ line_length * (length queries * transcript_rounds bytes)
+  length_sheet done = ap length (sheet_passed done) ∙ length_all_lines (passed_fits done)
 
   -- ---- bytes whose sections are refused
 
   -- a failed round check is told only where they pass
-  pub round-failed : (query round : ℕ) → (transcriptVerdict bytes).answer ≡ Refused (RoundCheckFails query round)
-      → (transcriptOutcome bytes ≡ Done) × FailsFirst run queries query round
-  round-failed query round e =
-      let c : Carries bytes = judging-bytes.refused bytes query round e in
-      let both = (round-checks.refused run queries query round).0
-      (sym (ap (λ (v : Verdict). v.answer) (judging-bytes.carried bytes c)) ∙ e) in
-      (checks-are bytes c ∙ both.0, both.1)
+  pub round_failed : (query round : ℕ) → (transcript_verdict bytes).answer ≡ Refused (RoundCheckFails query round)
+      → (transcript_outcome bytes ≡ Done) × FailsFirst run queries query round
+  round_failed query round e =
+      let c : Carries bytes = judging_bytes.refused bytes query round e in
+      let both = (round_checks.refused run queries query round).0
+      (sym (ap (λ (v : Verdict). v.answer) (judging_bytes.carried bytes c)) ∙ e) in
+      (checks_are bytes c ∙ both.0, both.1)
 
-  pub no_lines : (cause : Cause) → transcriptOutcome bytes ≡ outcomes.Refused cause
-      → hasLines (transcriptVerdict bytes).answer ≡ false
-  no_lines cause e = ap hasLines told ∙ by (lines-of-cause cause)
+  pub no_lines : (cause : Cause) → transcript_outcome bytes ≡ outcomes.Refused cause
+      → has_lines (transcript_verdict bytes).answer ≡ false
+  no_lines cause e = ap has_lines told ∙ by (lines_of_cause cause)
     where
-      told : (transcriptVerdict bytes).answer ≡ Refused cause
-      told = ap (λ (v : Verdict). v.answer) (judging-bytes.early bytes cause e)
+      told : (transcript_verdict bytes).answer ≡ Refused cause
+      told = ap (λ (v : Verdict). v.answer) (judging_bytes.early bytes cause e)
 
-      by : (hasLines (Refused cause) ≡ false) ⊎ ((query : ℕ) × (round : ℕ) × (cause ≡ RoundCheckFails query round))
-          → hasLines (Refused cause) ≡ false
+      by : (has_lines (Refused cause) ≡ false) ⊎ ((query : ℕ) × (round : ℕ) × (cause ≡ RoundCheckFails query round))
+          → has_lines (Refused cause) ≡ false
       by (inl none) = none
       by (inr (query, round, is)) =
-          absurd (refused-not-done cause (sym e ∙ (round-failed query round (told ∙ ap Refused is)).0))
+          absurd (refused_not_done cause (sym e ∙ (round_failed query round (told ∙ ap Refused is)).0))
 
-  pub sheet-refused : (cause : Cause) → transcriptOutcome bytes ≡ outcomes.Refused cause → transcriptSheet bytes ≡ []
-  sheet-refused cause e = sheet-empty transcriptVerdict bytes (no_lines cause e)
+  pub sheet_refused : (cause : Cause) → transcript_outcome bytes ≡ outcomes.Refused cause → transcript_sheet bytes ≡ []
+  sheet_refused cause e = sheet_empty transcript_verdict bytes (no_lines cause e)

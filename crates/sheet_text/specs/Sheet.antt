@@ -2,81 +2,81 @@
 use Rattle.std.specs.Prelude.{Bool, cond, ◌||◌, List, [], ◌∷◌, ◌++◌, ℕ, zero, suc, ◌*◌, ◌-◌, leb, eqb, length, drop, replicate}
 use Rattle.fri.specs.declared.Answer.{Answer}
 use Rattle.fri.specs.declared.Verdict.{Verdict}
-use Rattle.fri.specs.Run.{Run, roundsIn}
-use Rattle.fri.specs.Rounds.{valueComputed, valueFound}
-use Rattle.fri.specs.Judge.{numberOfAnswer}
-use Rattle.transcript.specs.Sections.{runIn, queriesIn}
-use Rattle.transcript.specs.Judge.{transcriptVerdict, inputVerdict}
+use Rattle.fri.specs.Run.{Run, rounds_in}
+use Rattle.fri.specs.Rounds.{value_computed, value_found}
+use Rattle.fri.specs.Judge.{number_of_answer}
+use Rattle.transcript.specs.Sections.{run_in, queries_in}
+use Rattle.transcript.specs.Judge.{transcript_verdict, input_verdict}
 use Rattle.line_text.specs.Digits.{bytes, digits, decimal}
 
 -- ---- a line
 
 -- a text with spaces on its left, so that it has `width` bytes, if it has not more
-abbrev pub leftPadded : (width : ℕ) (text : List ℕ) → List ℕ
-leftPadded width text = replicate (width - length text) 32 ++ text
+abbrev pub left_padded : (width : ℕ) (text : List ℕ) → List ℕ
+left_padded width text = replicate (width - length text) 32 ++ text
 
 -- a decimal number in `width` bytes, and the space after it
-unfoldable pub decimalField : (width n : ℕ) → List ℕ
-decimalField width n = leftPadded width (decimal n) ++ bytes " "
+unfoldable pub decimal_field : (width n : ℕ) → List ℕ
+decimal_field width n = left_padded width (decimal n) ++ bytes " "
 
 -- a value in 16 hexadecimal digits, and the space after it
-unfoldable pub valueField : (value : ℕ) → List ℕ
-valueField value = digits 16 16 value ++ bytes " "
+unfoldable pub value_field : (value : ℕ) → List ℕ
+value_field value = digits 16 16 value ++ bytes " "
 
 -- `ok` where the two values are equal, else `no`, and the line feed
-unfoldable pub markField : (computed found : ℕ) → List ℕ
-markField computed found = cond (eqb computed found) (bytes "ok\n") (bytes "no\n")
+unfoldable pub mark_field : (computed found : ℕ) → List ℕ
+mark_field computed found = cond (eqb computed found) (bytes "ok\n") (bytes "no\n")
 
 -- a line: the query's place in the list and its index as given, the round, the two values and the mark
-unfoldable pub lineText : (query index round computed found : ℕ) → List ℕ
-lineText query index round computed found =
-    decimalField 5 query ++ decimalField 8 index ++ decimalField 3 round
-    ++ valueField computed ++ valueField found ++ markField computed found
+unfoldable pub line_text : (query index round computed found : ℕ) → List ℕ
+line_text query index round computed found =
+    decimal_field 5 query ++ decimal_field 8 index ++ decimal_field 3 round
+    ++ value_field computed ++ value_field found ++ mark_field computed found
 
 -- how many bytes a line has, its line feed counted
-abbrev pub lineLength : ℕ
-lineLength = 56
+abbrev pub line_length : ℕ
+line_length = 56
 
 -- ---- the lines of a run
 
 -- the line of a query at index j in round i
-abbrev pub sheetLine : (run : Run) (query j i : ℕ) → List ℕ
-sheetLine run query j i = lineText query j i (valueComputed run j i) (valueFound run j i)
+abbrev pub sheet_line : (run : Run) (query j i : ℕ) → List ℕ
+sheet_line run query j i = line_text query j i (value_computed run j i) (value_found run j i)
 
 -- the lines of a query at index j, of the next `left` rounds from round i on
-unfoldable pub queryLines : (run : Run) (query j i left : ℕ) → List ℕ
-queryLines run query j i zero = []
-queryLines run query j i (suc left) = sheetLine run query j i ++ queryLines run query j (suc i) left
+unfoldable pub query_lines : (run : Run) (query j i left : ℕ) → List ℕ
+query_lines run query j i zero = []
+query_lines run query j i (suc left) = sheet_line run query j i ++ query_lines run query j (suc i) left
 
 -- all lines, by query, then round; the queries are counted from `query`
-unfoldable pub sheetLines : (run : Run) (queries : List ℕ) (query : ℕ) → List ℕ
-sheetLines run [] query = []
-sheetLines run (j ∷ queries) query =
-    queryLines run query j 0 (roundsIn run) ++ sheetLines run queries (suc query)
+unfoldable pub sheet_lines : (run : Run) (queries : List ℕ) (query : ℕ) → List ℕ
+sheet_lines run [] query = []
+sheet_lines run (j ∷ queries) query =
+    query_lines run query j 0 (rounds_in run) ++ sheet_lines run queries (suc query)
 
 -- ---- the sheet
 
 -- there are lines where the judge accepts (0) or a round check fails (11)
-abbrev pub hasLines : (answer : Answer) → Bool
-hasLines answer = eqb (numberOfAnswer answer) 0 || eqb (numberOfAnswer answer) 11
+abbrev pub has_lines : (answer : Answer) → Bool
+has_lines answer = eqb (number_of_answer answer) 0 || eqb (number_of_answer answer) 11
 
 -- the lines of the run that an input of bytes carries, or nothing, as a judge of it answers
-unfoldable pub sheetBy : (judge : List ℕ → Verdict) (input : List ℕ) → List ℕ
-sheetBy judge input = cond (hasLines (judge input).answer) (sheetLines (runIn input) (queriesIn input) 0) []
+unfoldable pub sheet_by : (judge : List ℕ → Verdict) (input : List ℕ) → List ℕ
+sheet_by judge input = cond (has_lines (judge input).answer) (sheet_lines (run_in input) (queries_in input) 0) []
 
 -- the sheet of a transcript of any length
-abbrev pub transcriptSheet : (input : List ℕ) → List ℕ
-transcriptSheet = sheetBy transcriptVerdict
+abbrev pub transcript_sheet : (input : List ℕ) → List ℕ
+transcript_sheet = sheet_by transcript_verdict
 
 -- what the program `sheet` prints of its input: nothing over the limit (`Sheets.long`)
-abbrev pub sheetOf : (input : List ℕ) → List ℕ
-sheetOf = sheetBy inputVerdict
+abbrev pub sheet_of : (input : List ℕ) → List ℕ
+sheet_of = sheet_by input_verdict
 
 -- the bytes of the largest sheet: 256 queries of 19 rounds
-abbrev pub largestSheet : ℕ
-largestSheet = 256 * 19 * lineLength
+abbrev pub largest_sheet : ℕ
+largest_sheet = 256 * 19 * line_length
 
 -- what a lent list holds after a text was put at its front: what stood behind it stays, and all of it where there is
 -- no room for the text
-abbrev pub inFront : (text held : List ℕ) → List ℕ
-inFront text held = cond (leb (length text) (length held)) (text ++ drop (length text) held) held
+abbrev pub in_front : (text held : List ℕ) → List ℕ
+in_front text held = cond (leb (length text) (length held)) (text ++ drop (length text) held) held

@@ -3,7 +3,7 @@
 ghost use Rattle.std.specs.Prelude.{◌≡◌, ◌+◌, ◌^◌, ◌≤◌, ◌<◌, length};
 ghost use Rattle.line_text.specs.Digits.{decimal};
 ghost use Rattle.placing.specs.Put.{Put};
-ghost use Rattle.sheet_text.specs.Sheet.{decimalField, valueField, markField, lineText, lineLength};
+ghost use Rattle.sheet_text.specs.Sheet.{decimal_field, value_field, mark_field, line_text, line_length};
 
 use placing::put;
 use writing::{places, put_digits};
@@ -19,9 +19,9 @@ pub fn put_line(
     out: &mut [u8],
 ) -> usize
     requires narrow { (query < 10 ^ 5) × (index < 10 ^ 8) × (round < 10 ^ 3) }
-    requires room { at + lineLength ≤ length out.old }
-    ensures text { Put out.old at (lineText query index round computed found) result out.new }
-    ensures ends { result ≡ at + lineLength }
+    requires room { at + line_length ≤ length out.old }
+    ensures text { Put out.old at (line_text query index round computed found) result out.new }
+    ensures ends { result ≡ at + line_length }
 {
     let query_end = put_decimal(query as u64, 5, at, out);
     let index_end = put_decimal(index, 8, query_end, out);
@@ -35,7 +35,7 @@ pub fn put_line(
 fn put_decimal(n: u64, width: usize, at: usize, out: &mut [u8]) -> usize
     requires narrow { (length (decimal n) ≤ width) × (width ≤ 8) }
     requires room { at + width + 1 ≤ length out.old }
-    ensures text { Put out.old at (decimalField width n) result out.new }
+    ensures text { Put out.old at (decimal_field width n) result out.new }
     ensures ends { result ≡ at + width + 1 }
 {
     let count = places(n);
@@ -48,7 +48,7 @@ fn put_decimal(n: u64, width: usize, at: usize, out: &mut [u8]) -> usize
 // A value in 16 hexadecimal digits, and a space.
 fn put_value(value: u64, at: usize, out: &mut [u8]) -> usize
     requires { at + 17 ≤ length out.old }
-    ensures text { Put out.old at (valueField value) result out.new }
+    ensures text { Put out.old at (value_field value) result out.new }
     ensures ends { result ≡ at + 17 }
 {
     let end = put_digits(value, 16, 16, at, out);
@@ -58,7 +58,7 @@ fn put_value(value: u64, at: usize, out: &mut [u8]) -> usize
 // `ok` or `no`, and a line feed.
 fn put_mark(computed: u64, found: u64, at: usize, out: &mut [u8]) -> usize
     requires { at + 3 ≤ length out.old }
-    ensures text { Put out.old at (markField computed found) result out.new }
+    ensures text { Put out.old at (mark_field computed found) result out.new }
     ensures ends { result ≡ at + 3 }
 {
     if computed == found {

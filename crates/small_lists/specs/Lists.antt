@@ -2,27 +2,27 @@
 use Rattle.std.specs.Prelude.{List, ℕ}
 use Rattle.poly.specs.Carrier.{gf64}
 use Rattle.poly.specs.Polynomial.{padded}
-use Rattle.fri.specs.Layout.{lastCount}
-use Rattle.transcript.specs.Sections.{sectionCount, transcriptK, transcriptRate, transcriptSteps, transcriptRounds}
-use Rattle.transcript.specs.Sections.{runIn, queriesIn}
-use Rattle.sections.specs.Views.{parametersIn}
+use Rattle.fri.specs.Layout.{last_count}
+use Rattle.transcript.specs.Sections.{section_count, transcript_k, transcript_rate, transcript_steps, transcript_rounds}
+use Rattle.transcript.specs.Sections.{run_in, queries_in}
+use Rattle.sections.specs.Views.{parameters_in}
 use Rattle.small_lists.specs.declared.Lists.{Lists}
 
 -- the d coefficients of the last section
-abbrev pub lastCountIn : (bytes : List ℕ) → ℕ
-lastCountIn bytes = lastCount (transcriptK bytes) (transcriptRate bytes) (transcriptSteps bytes)
+abbrev pub last_count_in : (bytes : List ℕ) → ℕ
+last_count_in bytes = last_count (transcript_k bytes) (transcript_rate bytes) (transcript_steps bytes)
 
 -- the lists that are read from the bytes, with zeros up to the length of an array
-abbrev pub listsIn : (bytes : List ℕ) → Lists
-listsIn bytes =
+abbrev pub lists_in : (bytes : List ℕ) → Lists
+lists_in bytes =
     record {
-      parameters = parametersIn bytes;
-      rounds = transcriptRounds bytes;
-      query_count = sectionCount bytes 4;
-      last_count = lastCountIn bytes;
-      offset = record { 0 = (runIn bytes).offset };
-      basis = padded gf64 20 (runIn bytes).basis;
-      challenges = padded gf64 20 (runIn bytes).challenges;
-      queries = padded gf64 256 (queriesIn bytes);
-      last = padded gf64 20 (runIn bytes).last;
+      parameters = parameters_in bytes;
+      rounds = transcript_rounds bytes;
+      query_count = section_count bytes 4;
+      last_count = last_count_in bytes;
+      offset = record { 0 = (run_in bytes).offset };
+      basis = padded gf64 20 (run_in bytes).basis;
+      challenges = padded gf64 20 (run_in bytes).challenges;
+      queries = padded gf64 256 (queries_in bytes);
+      last = padded gf64 20 (run_in bytes).last;
     }

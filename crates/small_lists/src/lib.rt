@@ -4,9 +4,9 @@ ghost use Rattle.refusal.specs.declared.Outcome.TheVariants as outcomes;
 ghost use Rattle.poly.specs.Carrier.{gf64};
 ghost use Rattle.poly.specs.Polynomial.{padded};
 ghost use Rattle.transcript.specs.Numerals.{entries_at};
-ghost use Rattle.transcript.specs.Checks.{transcriptOutcome};
-ghost use Rattle.sections.specs.Views.{sectionsIn};
-ghost use Rattle.small_lists.specs.Lists.{listsIn};
+ghost use Rattle.transcript.specs.Checks.{transcript_outcome};
+ghost use Rattle.sections.specs.Views.{sections_in};
+ghost use Rattle.small_lists.specs.Lists.{lists_in};
 
 use field::Element;
 use layout::Parameters;
@@ -29,8 +29,8 @@ pub struct Lists {
 
 // The lists of a transcript whose sections pass and begin there.
 pub fn read(bytes: &[u8], sections: Sections) -> Lists
-    requires { (sections ≡ sectionsIn bytes.now) × (transcriptOutcome bytes.now ≡ outcomes.Done) }
-    ensures { result ≡ listsIn bytes.now }
+    requires { (sections ≡ sections_in bytes.now) × (transcript_outcome bytes.now ≡ outcomes.Done) }
+    ensures { result ≡ lists_in bytes.now }
 {
     let parameters = sections::parameters(bytes);
     let rounds = parameters.rounds();

@@ -8,164 +8,164 @@ use native.Mathlib.Omega.{arith}
 use lib.Dec.{leb}
 use lib.ListN.{take}
 use Rattle.gf64.specs.Field.{product}
-use Rattle.gf64.specs.Polynomial.{carryless, carrylessIn, remainder, remainderIn, timesT}
-use Rattle.gf64.proofs.Cases.{field-cases}
-use Rattle.poly.specs.Polynomial.{evaluate, plus, scale, timesLinear, vanishingPolynomial}
-use Rattle.poly.specs.Degree.{degreeBound}
+use Rattle.gf64.specs.Polynomial.{carryless, carryless_in, remainder, remainder_in, times_t}
+use Rattle.gf64.proofs.Cases.{field_cases}
+use Rattle.poly.specs.Polynomial.{evaluate, plus, scale, times_linear, vanishing_polynomial}
+use Rattle.poly.specs.Degree.{degree_bound}
 use Rattle.refusal.specs.declared.Cause.TheVariants.{DegreeTooLarge}
 use Rattle.refusal.specs.declared.Outcome.{Outcome}
 use Rattle.refusal.specs.declared.Outcome.TheVariants.{Done}
-use Rattle.refusal.specs.Checks.{refusedUnless, and_then, afterwards}
-use Rattle.refusal.specs.Numbers.{numberOfOutcome, placeOfOutcome}
+use Rattle.refusal.specs.Checks.{refused_unless, and_then, afterwards}
+use Rattle.refusal.specs.Numbers.{number_of_outcome, place_of_outcome}
 use Rattle.coset.specs.Coset.{point, points, tabulated}
-use Rattle.coset.specs.Span.{in_span, firstDependentAfter, firstDependent}
-use Rattle.coset.specs.Subspace.{nextOffset, nextBasis, image, subspacePolynomial}
+use Rattle.coset.specs.Span.{in_span, first_dependent_after, first_dependent}
+use Rattle.coset.specs.Subspace.{next_offset, next_basis, image, subspace_polynomial}
 use Rattle.reed_solomon.specs.Codes.{interpolated}
-use Rattle.reed_solomon.proofs.Cases.{code-cases}
+use Rattle.reed_solomon.proofs.Cases.{code_cases}
 use Rattle.fold.specs.Fold.{folded}
-use Rattle.fold.proofs.Cases.{fold-cases, d-offset, d-basis}
-use Rattle.fri.specs.Layout.{dimension, lastCount, layerStart, storeLength, storedLayer, joinedLayers, indexIn}
-use Rattle.fri.specs.Run.{Run, stepsIn, layerIn}
-use Rattle.fri.specs.Layers.{layerBasis, layerOffset, fold_of, honestLayer, honestStore, lastInterpolant, honestLast}
-use Rattle.fri.specs.Checks.{runOutcome, firstOutside, among, firstRepeatedAfter, firstShared}
-use Rattle.fri.specs.Rounds.{valueFound, firstFailingRound, roundsOutcome}
-use Rattle.fri.specs.Reads.{entryCount, entriesRead}
-use Rattle.fri.specs.Prover.{proveOutcome, storeAfter, lastAfter}
-use Rattle.table_a.specs.TableA.{small, twoRounds, TableA}
-use Rattle.table_a.proofs.Values.{f-value, h-value, first-value, k-first, k-second, l-second}
+use Rattle.fold.proofs.Cases.{fold_cases, d_offset, d_basis}
+use Rattle.fri.specs.Layout.{dimension, last_count, layer_start, store_length, stored_layer, joined_layers, index_in}
+use Rattle.fri.specs.Run.{Run, steps_in, layer_in}
+use Rattle.fri.specs.Layers.{layer_basis, layer_offset, fold_of, honest_layer, honest_store, last_interpolant, honest_last}
+use Rattle.fri.specs.Checks.{run_outcome, first_outside, among, first_repeated_after, first_shared}
+use Rattle.fri.specs.Rounds.{value_found, first_failing_round, rounds_outcome}
+use Rattle.fri.specs.Reads.{entry_count, entries_read}
+use Rattle.fri.specs.Prover.{prove_outcome, store_after, last_after}
+use Rattle.table_a.specs.TableA.{small, two_rounds, TableA}
+use Rattle.table_a.proofs.Values.{f_value, h_value, first_value, k_first, k_second, l_second}
 
 -- ---- the prover's answer, by layer r's interpolant
 
-module _ (run : Run) (p : List ℕ) (checked : runOutcome run ≡ Done) (last : lastInterpolant run ≡ p) where
+module _ (run : Run) (p : List ℕ) (checked : run_outcome run ≡ Done) (last : last_interpolant run ≡ p) where
   abbrev d : ℕ
-  d = lastCount run.k run.rate (stepsIn run)
+  d = last_count run.k run.rate (steps_in run)
 
-  abbrev byDegree : Outcome
-  byDegree = refusedUnless (leb (degreeBound p) d) (DegreeTooLarge (degreeBound p - 1)) Done
+  abbrev by_degree : Outcome
+  by_degree = refused_unless (leb (degree_bound p) d) (DegreeTooLarge (degree_bound p - 1)) Done
 
-  answer-by : proveOutcome run ≡ byDegree
-  answer-by =
-      ap (λ (o : Outcome). and_then o (refusedUnless (leb (degreeBound (lastInterpolant run)) d)
-      (DegreeTooLarge (degreeBound (lastInterpolant run) - 1)) Done)) checked
-      ∙ ap (λ (q : List ℕ). refusedUnless (leb (degreeBound q) d) (DegreeTooLarge (degreeBound q - 1)) Done) last
+  answer_by : prove_outcome run ≡ by_degree
+  answer_by =
+      ap (λ (o : Outcome). and_then o (refused_unless (leb (degree_bound (last_interpolant run)) d)
+      (DegreeTooLarge (degree_bound (last_interpolant run) - 1)) Done)) checked
+      ∙ ap (λ (q : List ℕ). refused_unless (leb (degree_bound q) d) (DegreeTooLarge (degree_bound q - 1)) Done) last
 
-  last-by : lastAfter run ≡ afterwards byDegree (take d p) run.last
-  unfolding honestLast
-  last-by =
-      ap (λ (o : Outcome). afterwards o (honestLast run) run.last) answer-by
-      ∙ ap (λ (q : List ℕ). afterwards byDegree (take d q) run.last) last
+  last_by : last_after run ≡ afterwards by_degree (take d p) run.last
+  unfolding honest_last
+  last_by =
+      ap (λ (o : Outcome). afterwards o (honest_last run) run.last) answer_by
+      ∙ ap (λ (q : List ℕ). afterwards by_degree (take d q) run.last) last
 
-store_by : (run : Run) (store : List ℕ) → runOutcome run ≡ Done → honestStore run ≡ store → storeAfter run ≡ store
-store_by run store checked e = ap (λ (o : Outcome). afterwards o (honestStore run) run.store) checked ∙ e
+store_by : (run : Run) (store : List ℕ) → run_outcome run ≡ Done → honest_store run ≡ store → store_after run ≡ store
+store_by run store checked e = ap (λ (o : Outcome). afterwards o (honest_store run) run.store) checked ∙ e
 
 -- ---- cases F, J and K: the checks and layer r's interpolant
 
-small-checked : (challenge a b c d last : ℕ) → runOutcome (small challenge (a ∷ b ∷ c ∷ d ∷ []) (last ∷ [])) ≡ Done
-unfolding in_span firstDependentAfter firstDependent dimension lastCount layerStart storeLength
-small-checked challenge a b c d last = refl
+small_checked : (challenge a b c d last : ℕ) → run_outcome (small challenge (a ∷ b ∷ c ∷ d ∷ []) (last ∷ [])) ≡ Done
+unfolding in_span first_dependent_after first_dependent dimension last_count layer_start store_length
+small_checked challenge a b c d last = refl
 
-k-checked : runOutcome (twoRounds (0 ∷ 0 ∷ 0 ∷ 0 ∷ []) (0 ∷ [])) ≡ Done
-unfolding in_span firstDependentAfter firstDependent dimension lastCount layerStart storeLength
-k-checked = refl
+k_checked : run_outcome (two_rounds (0 ∷ 0 ∷ 0 ∷ 0 ∷ []) (0 ∷ [])) ≡ Done
+unfolding in_span first_dependent_after first_dependent dimension last_count layer_start store_length
+k_checked = refl
 
 small-interpolant : (challenge : ℕ) (word last values coefficients : List ℕ)
     → folded 1 0 (1 ∷ 2 ∷ []) word challenge ≡ values
-    → interpolated (nextOffset 1 0 (1 ∷ 2 ∷ [])) (nextBasis 1 (1 ∷ 2 ∷ [])) values ≡ coefficients
-    → lastInterpolant (small challenge word last) ≡ coefficients
-unfolding layerBasis layerOffset fold_of honestLayer lastInterpolant
+    → interpolated (next_offset 1 0 (1 ∷ 2 ∷ [])) (next_basis 1 (1 ∷ 2 ∷ [])) values ≡ coefficients
+    → last_interpolant (small challenge word last) ≡ coefficients
+unfolding layer_basis layer_offset fold_of honest_layer last_interpolant
 small-interpolant challenge word last values coefficients fold back =
-    ap (interpolated (nextOffset 1 0 (1 ∷ 2 ∷ [])) (nextBasis 1 (1 ∷ 2 ∷ []))) fold ∙ back
+    ap (interpolated (next_offset 1 0 (1 ∷ 2 ∷ [])) (next_basis 1 (1 ∷ 2 ∷ []))) fold ∙ back
 
-f-interpolant : lastInterpolant (small 4 (7 ∷ 4 ∷ 1 ∷ 2 ∷ []) (0 ∷ [])) ≡ 0xb ∷ 0 ∷ []
-f-interpolant =
-    small-interpolant 4 (7 ∷ 4 ∷ 1 ∷ 2 ∷ []) (0 ∷ []) (0xb ∷ 0xb ∷ []) (0xb ∷ 0 ∷ []) fold-cases.f
-    fold-cases.f-coefficient
+f_interpolant : last_interpolant (small 4 (7 ∷ 4 ∷ 1 ∷ 2 ∷ []) (0 ∷ [])) ≡ 0xb ∷ 0 ∷ []
+f_interpolant =
+    small-interpolant 4 (7 ∷ 4 ∷ 1 ∷ 2 ∷ []) (0 ∷ []) (0xb ∷ 0xb ∷ []) (0xb ∷ 0 ∷ []) fold_cases.f
+    fold_cases.f_coefficient
 
-j-at-4-interpolant : lastInterpolant (small 4 (0 ∷ 0 ∷ 0 ∷ 1 ∷ []) (7 ∷ [])) ≡ 0 ∷ 1 ∷ []
-j-at-4-interpolant =
-    small-interpolant 4 (0 ∷ 0 ∷ 0 ∷ 1 ∷ []) (7 ∷ []) (0 ∷ 6 ∷ []) (0 ∷ 1 ∷ []) fold-cases.j-at-4
-    fold-cases.j-degree-1
+j_at_4_interpolant : last_interpolant (small 4 (0 ∷ 0 ∷ 0 ∷ 1 ∷ []) (7 ∷ [])) ≡ 0 ∷ 1 ∷ []
+j_at_4_interpolant =
+    small-interpolant 4 (0 ∷ 0 ∷ 0 ∷ 1 ∷ []) (7 ∷ []) (0 ∷ 6 ∷ []) (0 ∷ 1 ∷ []) fold_cases.j_at_4
+    fold_cases.j_degree_1
 
-j-at-2-interpolant : lastInterpolant (small 2 (0 ∷ 0 ∷ 0 ∷ 1 ∷ []) (7 ∷ [])) ≡ 0 ∷ 0 ∷ []
-j-at-2-interpolant =
-    small-interpolant 2 (0 ∷ 0 ∷ 0 ∷ 1 ∷ []) (7 ∷ []) (0 ∷ 0 ∷ []) (0 ∷ 0 ∷ []) fold-cases.j-at-2
-    fold-cases.j-coefficient
+j_at_2_interpolant : last_interpolant (small 2 (0 ∷ 0 ∷ 0 ∷ 1 ∷ []) (7 ∷ [])) ≡ 0 ∷ 0 ∷ []
+j_at_2_interpolant =
+    small-interpolant 2 (0 ∷ 0 ∷ 0 ∷ 1 ∷ []) (7 ∷ []) (0 ∷ 0 ∷ []) (0 ∷ 0 ∷ []) fold_cases.j_at_2
+    fold_cases.j_coefficient
 
 -- layer 2's interpolant, by layer 1 and its coset
-abbrev layerTwo : (offset : ℕ) (basis layer : List ℕ) → List ℕ
-layerTwo offset basis layer =
-    interpolated (nextOffset 1 offset basis) (nextBasis 1 basis) (folded 1 offset basis layer 3)
+abbrev layer_two : (offset : ℕ) (basis layer : List ℕ) → List ℕ
+layer_two offset basis layer =
+    interpolated (next_offset 1 offset basis) (next_basis 1 basis) (folded 1 offset basis layer 3)
 
-k-interpolant : lastInterpolant (twoRounds (0 ∷ 0 ∷ 0 ∷ 0 ∷ []) (0 ∷ [])) ≡ 1 ∷ 0 ∷ []
-unfolding layerBasis layerOffset fold_of honestLayer lastInterpolant
-k-interpolant =
-    ap (λ (word : List ℕ). layerTwo (nextOffset 1 0 (1 ∷ 2 ∷ 4 ∷ [])) (nextBasis 1 (1 ∷ 2 ∷ 4 ∷ [])) word)
-    fold-cases.k-layer
-    ∙ ap₂ (λ (o : ℕ) (b : List ℕ). layerTwo o b (2 ∷ 4 ∷ 0x16 ∷ 0x10 ∷ [])) fold-cases.k-offset fold-cases.k-basis
-    ∙ ap (interpolated (nextOffset 1 0 (6 ∷ 0x14 ∷ [])) (nextBasis 1 (6 ∷ 0x14 ∷ []))) fold-cases.k-last
-    ∙ fold-cases.k-coefficient
+k_interpolant : last_interpolant (two_rounds (0 ∷ 0 ∷ 0 ∷ 0 ∷ []) (0 ∷ [])) ≡ 1 ∷ 0 ∷ []
+unfolding layer_basis layer_offset fold_of honest_layer last_interpolant
+k_interpolant =
+    ap (λ (word : List ℕ). layer_two (next_offset 1 0 (1 ∷ 2 ∷ 4 ∷ [])) (next_basis 1 (1 ∷ 2 ∷ 4 ∷ [])) word)
+    fold_cases.k_layer
+    ∙ ap₂ (λ (o : ℕ) (b : List ℕ). layer_two o b (2 ∷ 4 ∷ 0x16 ∷ 0x10 ∷ [])) fold_cases.k_offset fold_cases.k_basis
+    ∙ ap (interpolated (next_offset 1 0 (6 ∷ 0x14 ∷ [])) (next_basis 1 (6 ∷ 0x14 ∷ []))) fold_cases.k_last
+    ∙ fold_cases.k_coefficient
 
-j-store : honestStore (small 4 (0 ∷ 0 ∷ 0 ∷ 1 ∷ []) (7 ∷ [])) ≡ []
-unfolding joinedLayers honestStore
-j-store = refl
+j_store : honest_store (small 4 (0 ∷ 0 ∷ 0 ∷ 1 ∷ []) (7 ∷ [])) ≡ []
+unfolding joined_layers honest_store
+j_store = refl
 
-k-store : honestStore (twoRounds (0 ∷ 0 ∷ 0 ∷ 0 ∷ []) (0 ∷ [])) ≡ 2 ∷ 4 ∷ 0x16 ∷ 0x10 ∷ []
-unfolding layerBasis layerOffset fold_of honestLayer joinedLayers honestStore
-k-store = fold-cases.k-layer
+k_store : honest_store (two_rounds (0 ∷ 0 ∷ 0 ∷ 0 ∷ []) (0 ∷ [])) ≡ 2 ∷ 4 ∷ 0x16 ∷ 0x10 ∷ []
+unfolding layer_basis layer_offset fold_of honest_layer joined_layers honest_store
+k_store = fold_cases.k_layer
 
 -- ---- the table; the judge's rows from the values of their round checks
 
 pub table-a : TableA
-unfolding product carryless carrylessIn remainder remainderIn timesT evaluate plus scale timesLinear vanishingPolynomial
-    point points tabulated in_span firstDependentAfter firstDependent nextOffset nextBasis image subspacePolynomial
-    dimension lastCount layerStart storeLength storedLayer indexIn layerIn layerBasis layerOffset
-    firstOutside among firstRepeatedAfter firstShared valueFound firstFailingRound roundsOutcome entryCount entriesRead
-    degreeBound
+unfolding product carryless carryless_in remainder remainder_in times_t evaluate plus scale times_linear vanishing_polynomial
+    point points tabulated in_span first_dependent_after first_dependent next_offset next_basis image subspace_polynomial
+    dimension last_count layer_start store_length stored_layer index_in layer_in layer_basis layer_offset
+    first_outside among first_repeated_after first_shared value_found first_failing_round rounds_outcome entry_count entries_read
+    degree_bound
 table-a =
     record {
-      a = field-cases.a;
-      b = field-cases.b;
-      c = field-cases.c;
-      d-offset = d-offset;
-      d-basis = d-basis;
-      e = code-cases.e;
-      e-back = code-cases.e-back;
-      f = answer-by (small 4 (7 ∷ 4 ∷ 1 ∷ 2 ∷ []) (0 ∷ [])) (0xb ∷ 0 ∷ []) (small-checked 4 7 4 1 2 0) f-interpolant;
-      f-last = last-by (small 4 (7 ∷ 4 ∷ 1 ∷ 2 ∷ []) (0 ∷ [])) (0xb ∷ 0 ∷ []) (small-checked 4 7 4 1 2 0) f-interpolant;
+      a = field_cases.a;
+      b = field_cases.b;
+      c = field_cases.c;
+      d_offset = d_offset;
+      d_basis = d_basis;
+      e = code_cases.e;
+      e_back = code_cases.e_back;
+      f = answer_by (small 4 (7 ∷ 4 ∷ 1 ∷ 2 ∷ []) (0 ∷ [])) (0xb ∷ 0 ∷ []) (small_checked 4 7 4 1 2 0) f_interpolant;
+      f_last = last_by (small 4 (7 ∷ 4 ∷ 1 ∷ 2 ∷ []) (0 ∷ [])) (0xb ∷ 0 ∷ []) (small_checked 4 7 4 1 2 0) f_interpolant;
       g =
-          let first = f-value (0xb ∷ []) 0 0 (omega arith) refl in
-          let second = f-value (0xb ∷ []) 3 1 (omega arith) refl in
+          let first = f_value (0xb ∷ []) 0 0 (omega arith) refl in
+          let second = f_value (0xb ∷ []) 3 1 (omega arith) refl in
           (simp (first, second), simp (first, second), simp (first, second), simp (first, second));
       h =
-          let first = h-value (0xb ∷ []) 0 0 (omega arith) refl in
-          let second = h-value (0xb ∷ []) 3 1 (omega arith) refl in
+          let first = h_value (0xb ∷ []) 0 0 (omega arith) refl in
+          let second = h_value (0xb ∷ []) 3 1 (omega arith) refl in
           (simp (first, second), simp (first, second), simp (first, second), simp (first, second));
       i =
-          let first = h-value (0xb ∷ []) 0 0 (omega arith) refl in
+          let first = h_value (0xb ∷ []) 0 0 (omega arith) refl in
           (simp first, simp first, simp first, simp first);
-      j-number =
-          ap numberOfOutcome (answer-by (small 4 (0 ∷ 0 ∷ 0 ∷ 1 ∷ []) (7 ∷ [])) (0 ∷ 1 ∷ [])
-          (small-checked 4 0 0 0 1 7) j-at-4-interpolant);
-      j-degree =
-          ap placeOfOutcome (answer-by (small 4 (0 ∷ 0 ∷ 0 ∷ 1 ∷ []) (7 ∷ [])) (0 ∷ 1 ∷ [])
-          (small-checked 4 0 0 0 1 7) j-at-4-interpolant);
-      j-store = store_by (small 4 (0 ∷ 0 ∷ 0 ∷ 1 ∷ []) (7 ∷ [])) [] (small-checked 4 0 0 0 1 7) j-store;
-      j-left =
-          last-by (small 4 (0 ∷ 0 ∷ 0 ∷ 1 ∷ []) (7 ∷ [])) (0 ∷ 1 ∷ []) (small-checked 4 0 0 0 1 7) j-at-4-interpolant;
-      j-at-2 =
-          answer-by (small 2 (0 ∷ 0 ∷ 0 ∷ 1 ∷ []) (7 ∷ [])) (0 ∷ 0 ∷ []) (small-checked 2 0 0 0 1 7) j-at-2-interpolant;
-      j-last =
-          last-by (small 2 (0 ∷ 0 ∷ 0 ∷ 1 ∷ []) (7 ∷ [])) (0 ∷ 0 ∷ []) (small-checked 2 0 0 0 1 7) j-at-2-interpolant;
-      j-set = fold-cases.j;
-      k = answer-by (twoRounds (0 ∷ 0 ∷ 0 ∷ 0 ∷ []) (0 ∷ [])) (1 ∷ 0 ∷ []) k-checked k-interpolant;
-      k-layer = store_by (twoRounds (0 ∷ 0 ∷ 0 ∷ 0 ∷ []) (0 ∷ [])) (2 ∷ 4 ∷ 0x16 ∷ 0x10 ∷ []) k-checked k-store;
-      k-last = last-by (twoRounds (0 ∷ 0 ∷ 0 ∷ 0 ∷ []) (0 ∷ [])) (1 ∷ 0 ∷ []) k-checked k-interpolant;
-      k-query =
-          (simp (k-first, k-second), simp (k-first, k-second), simp (k-first, k-second), simp (k-first, k-second));
+      j_number =
+          ap number_of_outcome (answer_by (small 4 (0 ∷ 0 ∷ 0 ∷ 1 ∷ []) (7 ∷ [])) (0 ∷ 1 ∷ [])
+          (small_checked 4 0 0 0 1 7) j_at_4_interpolant);
+      j_degree =
+          ap place_of_outcome (answer_by (small 4 (0 ∷ 0 ∷ 0 ∷ 1 ∷ []) (7 ∷ [])) (0 ∷ 1 ∷ [])
+          (small_checked 4 0 0 0 1 7) j_at_4_interpolant);
+      j_store = store_by (small 4 (0 ∷ 0 ∷ 0 ∷ 1 ∷ []) (7 ∷ [])) [] (small_checked 4 0 0 0 1 7) j_store;
+      j_left =
+          last_by (small 4 (0 ∷ 0 ∷ 0 ∷ 1 ∷ []) (7 ∷ [])) (0 ∷ 1 ∷ []) (small_checked 4 0 0 0 1 7) j_at_4_interpolant;
+      j_at_2 =
+          answer_by (small 2 (0 ∷ 0 ∷ 0 ∷ 1 ∷ []) (7 ∷ [])) (0 ∷ 0 ∷ []) (small_checked 2 0 0 0 1 7) j_at_2_interpolant;
+      j_last =
+          last_by (small 2 (0 ∷ 0 ∷ 0 ∷ 1 ∷ []) (7 ∷ [])) (0 ∷ 0 ∷ []) (small_checked 2 0 0 0 1 7) j_at_2_interpolant;
+      j_set = fold_cases.j;
+      k = answer_by (two_rounds (0 ∷ 0 ∷ 0 ∷ 0 ∷ []) (0 ∷ [])) (1 ∷ 0 ∷ []) k_checked k_interpolant;
+      k_layer = store_by (two_rounds (0 ∷ 0 ∷ 0 ∷ 0 ∷ []) (0 ∷ [])) (2 ∷ 4 ∷ 0x16 ∷ 0x10 ∷ []) k_checked k_store;
+      k_last = last_by (two_rounds (0 ∷ 0 ∷ 0 ∷ 0 ∷ []) (0 ∷ [])) (1 ∷ 0 ∷ []) k_checked k_interpolant;
+      k_query =
+          (simp (k_first, k_second), simp (k_first, k_second), simp (k_first, k_second), simp (k_first, k_second));
       l =
-          let first = first-value (3 ∷ 4 ∷ 0x16 ∷ 0x10 ∷ []) (1 ∷ []) 0 0 (omega arith) refl in
+          let first = first_value (3 ∷ 4 ∷ 0x16 ∷ 0x10 ∷ []) (1 ∷ []) 0 0 (omega arith) refl in
           (simp first, simp first, simp first, simp first);
-      l-query =
-          let first = first-value (3 ∷ 4 ∷ 0x16 ∷ 0x10 ∷ []) (1 ∷ []) 7 3 (omega arith) refl in
-          (simp (first, l-second), simp (first, l-second), simp (first, l-second), simp (first, l-second));
+      l_query =
+          let first = first_value (3 ∷ 4 ∷ 0x16 ∷ 0x10 ∷ []) (1 ∷ []) 7 3 (omega arith) refl in
+          (simp (first, l_second), simp (first, l_second), simp (first, l_second), simp (first, l_second));
     }

@@ -11,18 +11,18 @@ use Rattle.reed_solomon.proofs.Cases as reed-solomon-cases
 use Rattle.transform.proofs.Theorems as transform
 use Rattle.fold.proofs.Theorems as fold
 use Rattle.fold.proofs.Outcomes as fold-outcomes
-use Rattle.fold.proofs.Cases as fold-cases
+use Rattle.fold.proofs.Cases as fold_cases
 use Rattle.fri.proofs.Layers as layers
 use Rattle.fri.proofs.Lookups as lookups
 use Rattle.fri.proofs.Refusals as refusals
-use Rattle.fri.proofs.RoundChecks as round-checks
+use Rattle.fri.proofs.RoundChecks as round_checks
 use Rattle.fri.proofs.Provers as provers
 use Rattle.fri.proofs.Completeness as completeness
 use Rattle.fri.proofs.Soundness as soundness
 use Rattle.transcript.proofs.Theorems as transcript
 use Rattle.transcript.proofs.Shared as transcript-shared
 use Rattle.transcript.proofs.LongInputs as transcript-long-inputs
-use Rattle.written.proofs.Sections as written-sections
+use Rattle.written.proofs.Sections as written_sections
 use Rattle.written.proofs.RoundTrip as written-round-trip
 use Rattle.written.proofs.Writer as written-writer
 use Rattle.written.proofs.Written as written-written
@@ -43,81 +43,81 @@ use Rattle.theorems.specs.Theorems.{Theorems}
 pub theorems : Theorems
 theorems =
     record {
-      polynomial-product = gf64.polynomial-product;
+      polynomial_product = gf64.polynomial_product;
       division = gf64.division;
-      sum-group = gf64.sum-group;
-      product-ring = gf64.product-ring;
+      sum_group = gf64.sum_group;
+      product_ring = gf64.product_ring;
       inverses = gf64.inverses;
       powers = gf64.powers;
-      field-cases = gf64-cases.field-cases;
-      retired-numbers = refusal.retired-numbers;
-      round-numbers = refusal.round-numbers;
-      over-every-carrier = poly.over-every-carrier;
+      field_cases = gf64-cases.field_cases;
+      retired_numbers = refusal.retired_numbers;
+      round_numbers = refusal.round_numbers;
+      over_every_carrier = poly.over_every_carrier;
       at_field = poly-at-field.at_field;
       degrees = poly-degree.degrees;
       cosets = coset.cosets;
-      first-dependent = coset.first-dependent;
+      first_dependent = coset.first_dependent;
       subspaces = coset.subspaces;
-      next-cosets = coset.next-cosets;
+      next_cosets = coset.next_cosets;
       encoding = reed-solomon.encoding;
-      round-trips = reed-solomon.round-trips;
-      codes-accepted = reed-solomon.accepted;
-      code-refusals = reed-solomon.refusals;
-      code-cases = reed-solomon-cases.code-cases;
-      transform-steps = transform.steps;
+      round_trips = reed-solomon.round_trips;
+      codes_accepted = reed-solomon.accepted;
+      code_refusals = reed-solomon.refusals;
+      code_cases = reed-solomon-cases.code_cases;
+      transform_steps = transform.steps;
       transforms = transform.transforms;
       folds = fold.folds;
-      exceptional-sets = fold.exceptional-sets;
+      exceptional_sets = fold.exceptional_sets;
       halvings = fold.halvings;
-      fold-accepted = fold-outcomes.accepted;
-      fold-refusals = fold-outcomes.refusals;
-      fold-cases = fold-cases.fold-cases;
+      fold_accepted = fold-outcomes.accepted;
+      fold_refusals = fold-outcomes.refusals;
+      fold_cases = fold_cases.fold_cases;
       layouts = layers.layouts;
-      layer-cosets = layers.layer-cosets;
-      honest-layers = layers.honest-run;
+      layer_cosets = layers.layer_cosets;
+      honest_layers = layers.honest_run;
       lookups = lookups.lookups;
-      sent-layers = lookups.sent-layers;
+      sent_layers = lookups.sent_layers;
       passing = refusals.passing;
       refusals = refusals.refusals;
-      shared-cosets = refusals.shared-cosets;
-      round-checks = round-checks.round-checks;
-      reads = round-checks.reads;
-      prover-answers = provers.prover-answers;
-      only-numbers = refusals.only-numbers;
+      shared_cosets = refusals.shared_cosets;
+      round_checks = round_checks.round_checks;
+      reads = round_checks.reads;
+      prover_answers = provers.prover_answers;
+      only_numbers = refusals.only_numbers;
       completeness = completeness.completeness;
       soundness = soundness.soundness;
-      few-exceptional = soundness.few-exceptional;
-      honest-proofs = completeness.honest-proofs;
-      judging-bytes = transcript.judging-bytes;
-      shared-in-bytes = transcript-shared.shared-in-bytes;
-      long-transcripts = transcript.long-transcripts;
-      long-inputs = transcript-long-inputs.long-inputs;
-      transcript-numbers = transcript-long-inputs.transcript-numbers;
-      transcript-completeness = transcript.transcript-completeness;
-      transcript-soundness = transcript.transcript-soundness;
-      written-sections = written-sections.written-sections;
-      written-transcripts = written-round-trip.written-transcripts;
-      writer-refusals = written-writer.writer-refusals;
-      written-bytes = written-written.written-bytes;
-      line-examples = line-text.examples;
-      printed-rounds = line-text.printed-rounds;
+      few_exceptional = soundness.few_exceptional;
+      honest_proofs = completeness.honest_proofs;
+      judging_bytes = transcript.judging_bytes;
+      shared_in_bytes = transcript-shared.shared_in_bytes;
+      long_transcripts = transcript.long_transcripts;
+      long_inputs = transcript-long-inputs.long_inputs;
+      transcript_numbers = transcript-long-inputs.transcript_numbers;
+      transcript_completeness = transcript.transcript_completeness;
+      transcript_soundness = transcript.transcript_soundness;
+      written_sections = written_sections.written_sections;
+      written_transcripts = written-round-trip.written_transcripts;
+      writer_refusals = written-writer.writer_refusals;
+      written_bytes = written-written.written_bytes;
+      line_examples = line-text.examples;
+      printed_rounds = line-text.printed_rounds;
       decimals = line-text.decimals;
-      sheet-examples = sheet-text.examples;
+      sheet_examples = sheet-text.examples;
       hexadecimals = sheet-text.hexadecimals;
       sheets = sheet-text.sheets;
-      length-told = writer.length-told;
-      proved-is-accepted = end_to_end.proved-is-accepted;
-      written-is-accepted = end_to_end.written-is-accepted;
-      judged-soundness = end_to_end.judged-soundness;
-      fold-numbers = c-answers.fold-numbers;
-      run-numbers = c-answers.run-numbers;
-      prints-of-read = input-printed.prints-of-read;
-      prints-of-whole = input-printed.prints-of-whole;
+      length_told = writer.length_told;
+      proved_is_accepted = end_to_end.proved_is_accepted;
+      written_is_accepted = end_to_end.written_is_accepted;
+      judged_soundness = end_to_end.judged_soundness;
+      fold_numbers = c-answers.fold_numbers;
+      run_numbers = c-answers.run_numbers;
+      prints_of_read = input-printed.prints_of_read;
+      prints_of_whole = input-printed.prints_of_whole;
       table-a = table-a.table-a;
-      transcript-cases = table-a-transcripts.transcript-cases;
-      exceptional-sets-needed = table-a-needed.exceptional-sets-needed;
+      transcript_cases = table-a-transcripts.transcript_cases;
+      exceptional_sets_needed = table-a-needed.exceptional_sets_needed;
       agreement = samples-samples.agreement;
-      removed-check = former-answers-later-bases.removed-check;
-      answers-as-before = former-answers-later-bases.answers-as-before;
-      changed-answers = former-answers-long-inputs.changed-answers;
+      removed_check = former-answers-later-bases.removed_check;
+      answers_as_before = former-answers-later-bases.answers_as_before;
+      changed_answers = former-answers-long-inputs.changed_answers;
     }

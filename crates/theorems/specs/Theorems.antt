@@ -27,27 +27,27 @@ use Rattle.former_answers.specs.LongInputs as former-inputs
 pub record Theorems : Type 1 where
   -- ---- the field
   -- the product of polynomials over GF(2) is the convolution of their coefficients; it makes a ring
-  pub polynomial-product : gf64.PolynomialProduct
+  pub polynomial_product : gf64.PolynomialProduct
   -- the remainder modulo t^64 + t^4 + t^3 + t + 1 is that of a division, and the only one
   pub division : gf64.Division
   -- elements form a commutative group under the sum, in which each is its own negative
-  pub sum-group : gf64.SumGroup
+  pub sum_group : gf64.SumGroup
   -- the product is commutative, associative and distributive, and one is neutral
-  pub product-ring : gf64.ProductRing
+  pub product_ring : gf64.ProductRing
   -- every nonzero element has exactly one inverse; that of zero is zero
   pub inverses : gf64.Inverses
   -- powers are repeated products
   pub powers : gf64.Powers
   -- cases A to C of Table A
-  pub field-cases : gf64.FieldCases
+  pub field_cases : gf64.FieldCases
   -- ---- numbers
   -- no cause has the number 15 or 16
-  pub retired-numbers : refusal.RetiredNumbers
+  pub retired_numbers : refusal.RetiredNumbers
   -- a round goes with number 11 and with no other
-  pub round-numbers : refusal.RoundNumbers
+  pub round_numbers : refusal.RoundNumbers
   -- ---- polynomials
   -- root bound, interpolant and division into rows, over every carrier with the laws of a field of characteristic 2
-  pub over-every-carrier : poly.OverEveryCarrier
+  pub over_every_carrier : poly.OverEveryCarrier
   -- the field of 2^64 elements is one
   pub at_field : poly.AtField
   -- the degree as a number
@@ -56,142 +56,142 @@ pub record Theorems : Type 1 where
   -- the points of a coset: how many, in which order, and that they are distinct
   pub cosets : coset.Cosets
   -- the first element of a basis that lies in the span of earlier ones
-  pub first-dependent : coset.FirstDependent
+  pub first_dependent : coset.FirstDependent
   -- the subspace polynomial q: monic, additive, zero exactly on its span, a composition of maps
   pub subspaces : coset.Subspaces
   -- the next coset: independent where the basis is, each point the image of one coset of the fold
-  pub next-cosets : coset.NextCosets
+  pub next_cosets : coset.NextCosets
   -- ---- encoding and interpolation
   -- encoding, entry by entry
   pub encoding : reed-solomon.Encoding
   -- encoding and interpolation invert one another
-  pub round-trips : reed-solomon.RoundTrips
+  pub round_trips : reed-solomon.RoundTrips
   -- which calls of them are done
-  pub codes-accepted : reed-solomon.CodesAccepted
+  pub codes_accepted : reed-solomon.CodesAccepted
   -- and which are refused, by the first check that fails
-  pub code-refusals : reed-solomon.CodeRefusals
+  pub code_refusals : reed-solomon.CodeRefusals
   -- case E of Table A
-  pub code-cases : reed-solomon.CodeCases
+  pub code_cases : reed-solomon.CodeCases
   -- each step of the additive transform and its way back
-  pub transform-steps : transform.Steps
+  pub transform_steps : transform.Steps
   -- the transform equals encoding, and its inverse interpolation, over every dimension
   pub transforms : transform.Transforms
   -- ---- the fold
   -- the fold: the value at the challenge of each coset's interpolant; it keeps degree bounds
   pub folds : fold.Folds
   -- the exceptional set of a layer has at most 2^η - 1 elements
-  pub exceptional-sets : fold.ExceptionalSets
+  pub exceptional_sets : fold.ExceptionalSets
   -- an entry of the fold by halvings, as code computes it
   pub halvings : fold.Halvings
   -- which lone folds are done, and what they answer and leave
-  pub fold-accepted : fold.FoldAccepted
+  pub fold_accepted : fold.FoldAccepted
   -- and which are refused, by the first check that fails, leaving both lists
-  pub fold-refusals : fold.FoldRefusals
+  pub fold_refusals : fold.FoldRefusals
   -- cases D, F, J and K of Table A, one fold at a time
-  pub fold-cases : fold.FoldCases
+  pub fold_cases : fold.FoldCases
   -- ---- the protocol over lists
   -- rounds, dimensions of layers, d, the store and a query's indices
   pub layouts : fri.Layouts
   -- the cosets of the layers
-  pub layer-cosets : fri.LayerCosets
+  pub layer_cosets : fri.LayerCosets
   -- the honest layers and last coefficients
-  pub honest-layers : fri.HonestLayers
+  pub honest_layers : fri.HonestLayers
   -- what the layer lookup hands back
   pub lookups : fri.Lookups
   -- the layers that the judge reads are those of the lookup
-  pub sent-layers : fri.SentLayers
+  pub sent_layers : fri.SentLayers
   -- which runs and queries pass the checks before the round checks
   pub passing : fri.Passing
   -- and which are refused, by the first check that fails
   pub refusals : fri.Refusals
-  -- queries that share a first-layer coset (17)
-  pub shared-cosets : fri.SharedCosets
+  -- queries that share a first_layer coset (17)
+  pub shared_cosets : fri.SharedCosets
   -- the two values of a round check; acceptance and 11 by the first that fails
-  pub round-checks : fri.RoundChecks
+  pub round_checks : fri.RoundChecks
   -- entries read
   pub reads : fri.Reads
   -- when the prover is done, when it answers 12, and what it leaves
-  pub prover-answers : fri.ProverAnswers
+  pub prover_answers : fri.ProverAnswers
   -- no other numbers are given by judge and prover
-  pub only-numbers : fri.OnlyNumbers
+  pub only_numbers : fri.OnlyNumbers
   -- ---- demand 3
   -- demand 3, first half: every honest run of a word of low degree is accepted
   pub completeness : demand.Completeness
-  -- demand 3, second half: what accepted judgings that visit every first-layer coset show of layers from anybody
+  -- demand 3, second half: what accepted judgings that visit every first_layer coset show of layers from anybody
   pub soundness : demand.Soundness
   -- the bound on exceptional sets by itself
-  pub few-exceptional : demand.FewExceptional
+  pub few_exceptional : demand.FewExceptional
   -- the prover makes the honest run, and some query lists cover it
-  pub honest-proofs : demand.HonestProofs
+  pub honest_proofs : demand.HonestProofs
   -- ---- transcripts
   -- judging bytes is judging the lists that they carry
-  pub judging-bytes : transcript.JudgingBytes
-  -- queries that share a first-layer coset, over bytes
-  pub shared-in-bytes : transcript.SharedInBytes
+  pub judging_bytes : transcript.JudgingBytes
+  -- queries that share a first_layer coset, over bytes
+  pub shared_in_bytes : transcript.SharedInBytes
   -- the longest transcript, and that more bytes change no verdict
-  pub long-transcripts : transcript.LongTranscripts
+  pub long_transcripts : transcript.LongTranscripts
   -- the program's answer to inputs over its limit
-  pub long-inputs : transcript.LongInputs
+  pub long_inputs : transcript.LongInputs
   -- no other numbers are given over bytes
-  pub transcript-numbers : transcript.TranscriptNumbers
+  pub transcript_numbers : transcript.TranscriptNumbers
   -- demand 3, first half, of the lists that bytes carry
-  pub transcript-completeness : transcript.TranscriptCompleteness
+  pub transcript_completeness : transcript.TranscriptCompleteness
   -- demand 3, second half, of the lists that bytes carry
-  pub transcript-soundness : transcript.TranscriptSoundness
+  pub transcript_soundness : transcript.TranscriptSoundness
   -- ---- written transcripts
   -- the bytes of counts, entries and sections, and that others have other bytes
-  pub written-sections : written.WrittenSections
+  pub written_sections : written.WrittenSections
   -- the reader finds in a written transcript what was written, and the same in no other bytes
-  pub written-transcripts : written.WrittenTranscripts
+  pub written_transcripts : written.WrittenTranscripts
   -- which lists the writer refuses, in which order
-  pub writer-refusals : written.WriterRefusals
+  pub writer_refusals : written.WriterRefusals
   -- what the lent bytes hold where the writer is done
-  pub written-bytes : written.WrittenBytes
+  pub written_bytes : written.WrittenBytes
   -- ---- the lines that the programs print
   -- the lines of `judge`, by example
-  pub line-examples : line-text.Examples
+  pub line_examples : line-text.Examples
   -- a round is printed with 11 alone
-  pub printed-rounds : line-text.PrintedRounds
+  pub printed_rounds : line-text.PrintedRounds
   -- decimal digits stand for their number
   pub decimals : line-text.Decimals
   -- the lines of a sheet, by example
-  pub sheet-examples : sheet-text.Examples
+  pub sheet_examples : sheet-text.Examples
   -- hexadecimal digits stand for their number
   pub hexadecimals : sheet-text.Hexadecimals
   -- the sheet beside the judge's answer: where there are lines, all are `ok` exactly where it accepts
   pub sheets : sheet-text.Sheets
   -- ---- prover, writer and judge together
   -- the length told beforehand is the one that the writer asks for
-  pub length-told : writer.LengthTold
+  pub length_told : writer.LengthTold
   -- what `prove` leaves of a word of low degree is accepted by `judge`
-  pub proved-is-accepted : end_to_end.ProvedIsAccepted
+  pub proved_is_accepted : end_to_end.ProvedIsAccepted
   -- the same through bytes
-  pub written-is-accepted : end_to_end.WrittenIsAccepted
+  pub written_is_accepted : end_to_end.WrittenIsAccepted
   -- demand 3, second half, of the verdicts that `judge` returns
-  pub judged-soundness : end_to_end.JudgedSoundness
+  pub judged_soundness : end_to_end.JudgedSoundness
   -- ---- the C interface
   -- the five numbers of the C interface, by example: a fold
-  pub fold-numbers : c-answers.FoldNumbers
+  pub fold_numbers : c-answers.FoldNumbers
   -- prover, judge and lookup
-  pub run-numbers : c-answers.RunNumbers
+  pub run_numbers : c-answers.RunNumbers
   -- ---- what the programs have read
   -- what a program prints is the text of the bytes that were read
-  pub prints-of-read : reading.PrintsOfRead
+  pub prints_of_read : reading.PrintsOfRead
   -- and, where there is no more room, of every input that begins with them
-  pub prints-of-whole : reading.PrintsOfWhole
+  pub prints_of_whole : reading.PrintsOfWhole
   -- ---- cases and samples
   -- the starred cases of Table A
   pub table-a : table.TableA
   -- cases G, H and K as transcripts and as sheets
-  pub transcript-cases : transcripts.TranscriptCases
+  pub transcript_cases : transcripts.TranscriptCases
   -- case J: without exceptional sets demand 3 would be false
-  pub exceptional-sets-needed : needed.ExceptionalSetsNeeded
+  pub exceptional_sets_needed : needed.ExceptionalSetsNeeded
   -- the definitions give what the reference gives, on all its samples
   pub agreement : samples.Agreement
   -- ---- former answers
   -- the check of later layers' bases (16) never refused
-  pub removed-check : former-bases.RemovedCheck
+  pub removed_check : former-bases.RemovedCheck
   -- so that without it every answer is as before
-  pub answers-as-before : former-bases.AnswersAsBefore
+  pub answers_as_before : former-bases.AnswersAsBefore
   -- which answers to long inputs changed
-  pub changed-answers : former-inputs.ChangedAnswers
+  pub changed_answers : former-inputs.ChangedAnswers

@@ -12,209 +12,209 @@ use Rattle.refusal.specs.declared.Cause.{Cause}
 use Rattle.refusal.specs.declared.Cause.TheVariants.{TrailingBytes, QueryCountOutOfRange}
 use Rattle.refusal.specs.declared.Outcome.{Outcome}
 use Rattle.refusal.specs.declared.Outcome.TheVariants.{Done, Refused}
-use Rattle.refusal.specs.Checks.{refusedUnless, and_then}
-use Rattle.refusal.proofs.Checks.{equal-of-test, passed-by, unless-done, then-passed, then-done}
+use Rattle.refusal.specs.Checks.{refused_unless, and_then}
+use Rattle.refusal.proofs.Checks.{equal_of_test, passed_by, unless_done, then_passed, then_done}
 use Rattle.coset.specs.Answers.{basisOutcome}
-use Rattle.fri.specs.Layout.{stepAt, dimension, lastCount, layerStart, storeLength}
-use Rattle.fri.specs.Run.{layerIn}
-use Rattle.fri.specs.Checks.{parametersOutcome, lengthsOutcome, runOutcome}
-use Rattle.fri.specs.Checks.{indicesOutcome, queriesOutcome}
-use Rattle.fri.specs.Judge.{checksOutcome}
+use Rattle.fri.specs.Layout.{step_at, dimension, last_count, layer_start, store_length}
+use Rattle.fri.specs.Run.{layer_in}
+use Rattle.fri.specs.Checks.{parameters_outcome, lengths_outcome, run_outcome}
+use Rattle.fri.specs.Checks.{indices_outcome, queries_outcome}
+use Rattle.fri.specs.Judge.{checks_outcome}
 use Rattle.fri.specs.Theorems.{Fit}
-use Rattle.fri.proofs.Checks.{parameters-pass, lengths-pass, queries-valid}
-use Rattle.fri.proofs.Layouts.{joined_length, joined-found, some-round}
-use Rattle.transcript.specs.Sections.{sectionStart, sectionCount, sectionEntries, layerSection, transcriptK}
-use Rattle.transcript.specs.Sections.{transcriptRate, transcriptStep, transcriptSteps, transcriptRounds, runIn}
-use Rattle.transcript.specs.Sections.{queriesIn}
-use Rattle.transcript.specs.Checks.{dueOutcome, parametersSection, cosetSection, challengesSection}
-use Rattle.transcript.specs.Checks.{queriesSection, listsOutcome, frontOutcome, layersFrom, endOutcome}
-use Rattle.transcript.specs.Checks.{layersOutcome, transcriptOutcome}
+use Rattle.fri.proofs.Checks.{parameters_pass, lengths_pass, queries_valid}
+use Rattle.fri.proofs.Layouts.{joined_length, joined_found, some_round}
+use Rattle.transcript.specs.Sections.{section_start, section_count, section_entries, layer_section, transcript_k}
+use Rattle.transcript.specs.Sections.{transcript_rate, transcript_step, transcript_steps, transcript_rounds, run_in}
+use Rattle.transcript.specs.Sections.{queries_in}
+use Rattle.transcript.specs.Checks.{due_outcome, parameters_section, coset_section, challenges_section}
+use Rattle.transcript.specs.Checks.{queries_section, lists_outcome, front_outcome, layers_from, end_outcome}
+use Rattle.transcript.specs.Checks.{layers_outcome, transcript_outcome}
 use Rattle.transcript.specs.Theorems.{Carries}
-use Rattle.transcript.proofs.Numerals.{length-entries}
-use Rattle.transcript.proofs.Sections.{start-later}
-use Rattle.transcript.proofs.Checks.{section-tested, due-passes, due-done, parameters-done, layers-pass}
-use Rattle.transcript.proofs.Checks.{layers-done}
+use Rattle.transcript.proofs.Numerals.{length_entries}
+use Rattle.transcript.proofs.Sections.{start_later}
+use Rattle.transcript.proofs.Checks.{section_tested, due_passes, due_done, parameters_done, layers_pass}
+use Rattle.transcript.proofs.Checks.{layers_done}
 
-test-then : (test : Bool) (cause : Cause) (after : Outcome)
-    → and_then (refusedUnless test cause Done) after ≡ refusedUnless test cause after
-test-then true cause after = refl
-test-then false cause after = refl
+test_then : (test : Bool) (cause : Cause) (after : Outcome)
+    → and_then (refused_unless test cause Done) after ≡ refused_unless test cause after
+test_then true cause after = refl
+test_then false cause after = refl
 
-then-nothing : (o : Outcome) → and_then o Done ≡ o
-then-nothing Done = refl
-then-nothing (Refused cause) = refl
+then_nothing : (o : Outcome) → and_then o Done ≡ o
+then_nothing Done = refl
+then_nothing (Refused cause) = refl
 
 module _ (bytes : List ℕ) where
   abbrev r : ℕ
-  r = transcriptRounds bytes
+  r = transcript_rounds bytes
 
-  abbrev last-due : ℕ
-  last-due = lastCount (transcriptK bytes) (transcriptRate bytes) (transcriptSteps bytes)
+  abbrev last_due : ℕ
+  last_due = last_count (transcript_k bytes) (transcript_rate bytes) (transcript_steps bytes)
 
   abbrev end : Outcome
-  end = refusedUnless (eqb (sectionStart bytes (suc (layerSection r))) (length bytes)) TrailingBytes Done
+  end = refused_unless (eqb (section_start bytes (suc (layer_section r))) (length bytes)) TrailingBytes Done
 
   abbrev layer : ℕ → List ℕ
-  layer i = sectionEntries bytes (layerSection i)
+  layer i = section_entries bytes (layer_section i)
 
   abbrev counted : Bool
-  counted = leb 1 (sectionCount bytes 4) && leb (sectionCount bytes 4) 256
+  counted = leb 1 (section_count bytes 4) && leb (section_count bytes 4) 256
 
   abbrev first_step : ℕ
-  first_step = stepAt (transcriptSteps bytes) 0
+  first_step = step_at (transcript_steps bytes) 0
 
   abbrev indices : Outcome
-  indices = indicesOutcome (transcriptK bytes) first_step (queriesIn bytes)
+  indices = indices_outcome (transcript_k bytes) first_step (queries_in bytes)
 
-  abbrev of-queries : Outcome
-  of-queries = queriesOutcome (transcriptK bytes) first_step (queriesIn bytes)
+  abbrev of_queries : Outcome
+  of_queries = queries_outcome (transcript_k bytes) first_step (queries_in bytes)
 
   -- where the bytes of section 4 are there, it is checked as a query list is
-  pub queries-section : sectionStart bytes 5 ≤ length bytes → queriesSection bytes ≡ of-queries
+  pub queries-section : section_start bytes 5 ≤ length bytes → queries_section bytes ≡ of_queries
   queries-section whole =
       ap (λ (o : Outcome). and_then o indices)
-      (section-tested bytes 4 counted QueryCountOutOfRange (omega arith) whole)
-      ∙ test-then counted QueryCountOutOfRange indices
-      ∙ ap (λ (n : ℕ). refusedUnless (leb 1 n && leb n 256) QueryCountOutOfRange indices)
-      (sym (length-entries bytes (sectionStart bytes 4 + 4) (sectionCount bytes 4)))
+      (section_tested bytes 4 counted QueryCountOutOfRange (omega arith) whole)
+      ∙ test_then counted QueryCountOutOfRange indices
+      ∙ ap (λ (n : ℕ). refused_unless (leb 1 n && leb n 256) QueryCountOutOfRange indices)
+      (sym (length_entries bytes (section_start bytes 4 + 4) (section_count bytes 4)))
 
   module _ (c : Carries bytes) where
     -- all sections end within the bytes
-    inside : (s : ℕ) → 1 ≤ s → s ≤ layerSection r → sectionStart bytes (suc s) ≤ length bytes
+    inside : (s : ℕ) → 1 ≤ s → s ≤ layer_section r → section_start bytes (suc s) ≤ length bytes
     inside s h l =
-        le_trans (start-later bytes (suc s) (suc (layerSection r)) (omega arith) (omega arith)) (le_of_eq c.ends)
+        le_trans (start_later bytes (suc s) (suc (layer_section r)) (omega arith) (omega arith)) (le_of_eq c.ends)
 
-    pub rounds-some : 0 < r
-    rounds-some =
-        some-round (transcriptK bytes) (transcriptRate bytes) (transcriptStep bytes) c.parameters.step-least
-        c.parameters.k-enough
+    pub rounds_some : 0 < r
+    rounds_some =
+        some_round (transcript_k bytes) (transcript_rate bytes) (transcript_step bytes) c.parameters.step_least
+        c.parameters.k_enough
 
-    layer-sized : (i : ℕ) → i < r → length (layer i) ≡ 2 ^ dimension (transcriptK bytes) (transcriptSteps bytes) i
-    layer-sized i h =
-        length-entries bytes (sectionStart bytes (layerSection i) + 4) (sectionCount bytes (layerSection i))
-        ∙ c.layer-counts i h
+    layer_sized : (i : ℕ) → i < r → length (layer i) ≡ 2 ^ dimension (transcript_k bytes) (transcript_steps bytes) i
+    layer_sized i h =
+        length_entries bytes (section_start bytes (layer_section i) + 4) (section_count bytes (layer_section i))
+        ∙ c.layer_counts i h
 
     -- the lists that they carry have the lengths due
-    pub fit : Fit (runIn bytes)
-    unfolding storeLength dimension
+    pub fit : Fit (run_in bytes)
+    unfolding store_length dimension
     fit =
         record {
           basis =
-              length-drop 1 (sectionEntries bytes 2)
+              length-drop 1 (section_entries bytes 2)
               ∙ ap (λ (n : ℕ). n - 1)
-              (length-entries bytes (sectionStart bytes 2 + 4) (sectionCount bytes 2) ∙ c.coset-count) ∙ one_less;
-          challenges = length-entries bytes (sectionStart bytes 3 + 4) (sectionCount bytes 3) ∙ c.challenges-count;
-          word = layer-sized 0 rounds-some;
+              (length_entries bytes (section_start bytes 2 + 4) (section_count bytes 2) ∙ c.coset_count) ∙ one_less;
+          challenges = length_entries bytes (section_start bytes 3 + 4) (section_count bytes 3) ∙ c.challenges_count;
+          word = layer_sized 0 rounds_some;
           store =
-              joined_length (transcriptK bytes) (transcriptSteps bytes) layer (r - 1)
-              (λ i least most. layer-sized i (omega (arith, rounds-some)))
-              ∙ ap (λ (n : ℕ). layerStart (transcriptK bytes) (transcriptSteps bytes) n) whole;
+              joined_length (transcript_k bytes) (transcript_steps bytes) layer (r - 1)
+              (λ i least most. layer_sized i (omega (arith, rounds_some)))
+              ∙ ap (λ (n : ℕ). layer_start (transcript_k bytes) (transcript_steps bytes) n) whole;
           last =
-              length-entries bytes (sectionStart bytes (layerSection r) + 4) (sectionCount bytes (layerSection r))
+              length_entries bytes (section_start bytes (layer_section r) + 4) (section_count bytes (layer_section r))
               ∙ c.last-count;
         }
       where
-        one_less : transcriptK bytes + 1 - 1 ≡ transcriptK bytes
+        one_less : transcript_k bytes + 1 - 1 ≡ transcript_k bytes
         one_less = omega arith
 
         whole : suc (r - 1) ≡ r
-        whole = omega (arith, rounds-some)
+        whole = omega (arith, rounds_some)
 
     -- layer i of the run is the section of layer i
-    pub layer-is : (i : ℕ) → i < r → layerIn (runIn bytes) i ≡ layer i
-    unfolding layerIn
-    layer-is zero h = refl
-    layer-is (suc i) h =
-        joined-found (transcriptK bytes) (transcriptSteps bytes) layer (r - 1)
-        (λ j least most. layer-sized j (omega (arith, rounds-some))) (suc i) (omega arith) (omega (arith, rounds-some))
+    pub layer_is : (i : ℕ) → i < r → layer_in (run_in bytes) i ≡ layer i
+    unfolding layer_in
+    layer_is zero h = refl
+    layer_is (suc i) h =
+        joined_found (transcript_k bytes) (transcript_steps bytes) layer (r - 1)
+        (λ j least most. layer_sized j (omega (arith, rounds_some))) (suc i) (omega arith) (omega (arith, rounds_some))
 
     -- ---- the checks
 
-    parameters-section : parametersSection bytes ≡ Done
+    parameters-section : parameters_section bytes ≡ Done
     parameters-section =
-        sym (then-passed (dueOutcome bytes 1 3)
-        (parametersOutcome (transcriptK bytes) (transcriptRate bytes) (transcriptStep bytes))
-        (due-passes bytes 1 3 (omega arith) c.parameters-count (inside 1 (omega arith) (omega arith))))
-        ∙ parameters-pass (transcriptK bytes) (transcriptRate bytes) (transcriptStep bytes) c.parameters
+        sym (then_passed (due_outcome bytes 1 3)
+        (parameters_outcome (transcript_k bytes) (transcript_rate bytes) (transcript_step bytes))
+        (due_passes bytes 1 3 (omega arith) c.parameters_count (inside 1 (omega arith) (omega arith))))
+        ∙ parameters_pass (transcript_k bytes) (transcript_rate bytes) (transcript_step bytes) c.parameters
 
-    coset-section : cosetSection bytes ≡ basisOutcome (runIn bytes).basis
+    coset-section : coset_section bytes ≡ basisOutcome (run_in bytes).basis
     coset-section =
-        sym (then-passed (dueOutcome bytes 2 (transcriptK bytes + 1)) (basisOutcome (runIn bytes).basis)
-        (due-passes bytes 2 (transcriptK bytes + 1) (omega arith) c.coset-count
+        sym (then_passed (due_outcome bytes 2 (transcript_k bytes + 1)) (basisOutcome (run_in bytes).basis)
+        (due_passes bytes 2 (transcript_k bytes + 1) (omega arith) c.coset_count
         (inside 2 (omega arith) (omega arith))))
 
-    challenges-section : challengesSection bytes ≡ Done
-    challenges-section = due-passes bytes 3 r (omega arith) c.challenges-count (inside 3 (omega arith) (omega arith))
+    challenges-section : challenges_section bytes ≡ Done
+    challenges-section = due_passes bytes 3 r (omega arith) c.challenges_count (inside 3 (omega arith) (omega arith))
 
-    front-is : frontOutcome bytes ≡ and_then (basisOutcome (runIn bytes).basis) of-queries
-    front-is =
-        sym (then-passed (parametersSection bytes) (listsOutcome bytes) parameters-section)
+    front_is : front_outcome bytes ≡ and_then (basisOutcome (run_in bytes).basis) of_queries
+    front_is =
+        sym (then_passed (parameters_section bytes) (lists_outcome bytes) parameters-section)
         ∙ ap₂ and_then coset-section
-        (sym (then-passed (challengesSection bytes) (queriesSection bytes) challenges-section)
+        (sym (then_passed (challenges_section bytes) (queries_section bytes) challenges-section)
         ∙ queries-section (inside 4 (omega arith) (omega arith)))
 
-    layers-pass-all : layersOutcome bytes ≡ Done
-    layers-pass-all =
-        sym (then-passed (layersFrom bytes 0 r) (endOutcome bytes)
-        (layers-pass bytes 0 r r (omega arith)
-        (λ j l m. due-passes bytes (layerSection j) (2 ^ dimension (transcriptK bytes) (transcriptSteps bytes) j)
-        (omega arith) (c.layer-counts j m) (inside (layerSection j) (omega arith) (omega arith)))))
-        ∙ sym (then-passed (dueOutcome bytes (layerSection r) last-due) end
-        (due-passes bytes (layerSection r) last-due (omega arith) c.last-count
-        (inside (layerSection r) (omega arith) (omega arith))))
-        ∙ sym (passed-by (eqb (sectionStart bytes (suc (layerSection r))) (length bytes)) TrailingBytes Done
-        (eq-eqb (sectionStart bytes (suc (layerSection r))) (length bytes) c.ends))
+    layers_pass_all : layers_outcome bytes ≡ Done
+    layers_pass_all =
+        sym (then_passed (layers_from bytes 0 r) (end_outcome bytes)
+        (layers_pass bytes 0 r r (omega arith)
+        (λ j l m. due_passes bytes (layer_section j) (2 ^ dimension (transcript_k bytes) (transcript_steps bytes) j)
+        (omega arith) (c.layer_counts j m) (inside (layer_section j) (omega arith) (omega arith)))))
+        ∙ sym (then_passed (due_outcome bytes (layer_section r) last_due) end
+        (due_passes bytes (layer_section r) last_due (omega arith) c.last-count
+        (inside (layer_section r) (omega arith) (omega arith))))
+        ∙ sym (passed_by (eqb (section_start bytes (suc (layer_section r))) (length bytes)) TrailingBytes Done
+        (eq-eqb (section_start bytes (suc (layer_section r))) (length bytes) c.ends))
 
     -- the checks of sections 1 to 4 are those of the lists
-    pub front-checks : frontOutcome bytes ≡ checksOutcome (runIn bytes) (queriesIn bytes)
-    front-checks = front-is ∙ ap (λ (o : Outcome). and_then o of-queries) lists
+    pub front_checks : front_outcome bytes ≡ checks_outcome (run_in bytes) (queries_in bytes)
+    front_checks = front_is ∙ ap (λ (o : Outcome). and_then o of_queries) lists
       where
-        lists : basisOutcome (runIn bytes).basis ≡ runOutcome (runIn bytes)
+        lists : basisOutcome (run_in bytes).basis ≡ run_outcome (run_in bytes)
         lists =
-            then-passed (lengthsOutcome (runIn bytes)) (basisOutcome (runIn bytes).basis)
-            (lengths-pass (runIn bytes) fit)
-            ∙ then-passed (parametersOutcome (transcriptK bytes) (transcriptRate bytes) (transcriptStep bytes))
-            (and_then (lengthsOutcome (runIn bytes)) (basisOutcome (runIn bytes).basis))
-            (parameters-pass (transcriptK bytes) (transcriptRate bytes) (transcriptStep bytes) c.parameters)
+            then_passed (lengths_outcome (run_in bytes)) (basisOutcome (run_in bytes).basis)
+            (lengths_pass (run_in bytes) fit)
+            ∙ then_passed (parameters_outcome (transcript_k bytes) (transcript_rate bytes) (transcript_step bytes))
+            (and_then (lengths_outcome (run_in bytes)) (basisOutcome (run_in bytes).basis))
+            (parameters_pass (transcript_k bytes) (transcript_rate bytes) (transcript_step bytes) c.parameters)
 
     -- and so are those of all sections
-    pub checks-are : transcriptOutcome bytes ≡ checksOutcome (runIn bytes) (queriesIn bytes)
-    checks-are =
-        ap₂ and_then front-checks layers-pass-all ∙ then-nothing (checksOutcome (runIn bytes) (queriesIn bytes))
+    pub checks_are : transcript_outcome bytes ≡ checks_outcome (run_in bytes) (queries_in bytes)
+    checks_are =
+        ap₂ and_then front_checks layers_pass_all ∙ then_nothing (checks_outcome (run_in bytes) (queries_in bytes))
 
   -- ---- bytes that pass carry lists
 
-  pub passed-carries : transcriptOutcome bytes ≡ Done → Carries bytes
-  passed-carries done =
-      let both = then-done (frontOutcome bytes) (layersOutcome bytes) done in
-      let first = then-done (parametersSection bytes) (listsOutcome bytes) both.0 in
-      let second = then-done (cosetSection bytes)
-      (and_then (challengesSection bytes) (queriesSection bytes)) first.1 in
-      let third = then-done (challengesSection bytes) (queriesSection bytes) second.1 in
-      let parameters = parameters-done bytes first.0 in
-      let coset = then-done (dueOutcome bytes 2 (transcriptK bytes + 1))
-      (basisOutcome (runIn bytes).basis) second.0 in
-      let layers = then-done (layersFrom bytes 0 r) (endOutcome bytes) both.1 in
-      let last = then-done (dueOutcome bytes (layerSection r) last-due) end layers.1 in
+  pub passed_carries : transcript_outcome bytes ≡ Done → Carries bytes
+  passed_carries done =
+      let both = then_done (front_outcome bytes) (layers_outcome bytes) done in
+      let first = then_done (parameters_section bytes) (lists_outcome bytes) both.0 in
+      let second = then_done (coset_section bytes)
+      (and_then (challenges_section bytes) (queries_section bytes)) first.1 in
+      let third = then_done (challenges_section bytes) (queries_section bytes) second.1 in
+      let parameters = parameters_done bytes first.0 in
+      let coset = then_done (due_outcome bytes 2 (transcript_k bytes + 1))
+      (basisOutcome (run_in bytes).basis) second.0 in
+      let layers = then_done (layers_from bytes 0 r) (end_outcome bytes) both.1 in
+      let last = then_done (due_outcome bytes (layer_section r) last_due) end layers.1 in
       record {
-        parameters-count = parameters.0;
+        parameters_count = parameters.0;
         parameters = parameters.1;
-        coset-count = (due-done bytes 2 (transcriptK bytes + 1) coset.0).0;
-        challenges-count = (due-done bytes 3 r third.0).0;
-        layer-counts =
-            λ i h. (due-done bytes (layerSection i) (2 ^ dimension (transcriptK bytes) (transcriptSteps bytes) i)
-            (layers-done bytes 0 r r (omega arith) layers.0 i (omega arith) h)).0;
-        last-count = (due-done bytes (layerSection r) last-due last.0).0;
+        coset_count = (due_done bytes 2 (transcript_k bytes + 1) coset.0).0;
+        challenges_count = (due_done bytes 3 r third.0).0;
+        layer_counts =
+            λ i h. (due_done bytes (layer_section i) (2 ^ dimension (transcript_k bytes) (transcript_steps bytes) i)
+            (layers_done bytes 0 r r (omega arith) layers.0 i (omega arith) h)).0;
+        last-count = (due_done bytes (layer_section r) last_due last.0).0;
         ends =
-            equal-of-test (sectionStart bytes (suc (layerSection r))) (length bytes)
-            (unless-done (eqb (sectionStart bytes (suc (layerSection r))) (length bytes))
+            equal_of_test (section_start bytes (suc (layer_section r))) (length bytes)
+            (unless_done (eqb (section_start bytes (suc (layer_section r))) (length bytes))
             TrailingBytes Done last.1).0;
       }
 
   -- and 1 to 256 queries
-  pub queries-few : transcriptOutcome bytes ≡ Done → sectionCount bytes 4 ≤ 256
-  queries-few done =
-      let carries = passed-carries done in
-      let queries = (then-done (runOutcome (runIn bytes)) of-queries (sym (checks-are carries) ∙ done)).1 in
-      subst (λ (n : ℕ). n ≤ 256) (length-entries bytes (sectionStart bytes 4 + 4) (sectionCount bytes 4))
-      (queries-valid (transcriptK bytes) first_step (queriesIn bytes) queries).0.most
+  pub queries_few : transcript_outcome bytes ≡ Done → section_count bytes 4 ≤ 256
+  queries_few done =
+      let carries = passed_carries done in
+      let queries = (then_done (run_outcome (run_in bytes)) of_queries (sym (checks_are carries) ∙ done)).1 in
+      subst (λ (n : ℕ). n ≤ 256) (length_entries bytes (section_start bytes 4 + 4) (section_count bytes 4))
+      (queries_valid (transcript_k bytes) first_step (queries_in bytes) queries).0.most

@@ -15,20 +15,20 @@ use Rattle.refusal.specs.declared.Cause.{Cause}
 use Rattle.refusal.specs.declared.Cause.TheVariants.{CountDiffers, TrailingBytes, QueryCountOutOfRange}
 use Rattle.refusal.specs.declared.Outcome.{Outcome}
 use Rattle.refusal.specs.declared.Outcome.TheVariants.{Done, Refused}
-use Rattle.refusal.specs.Checks.{refusedUnless, and_then}
-use Rattle.refusal.proofs.Checks.{equal-of-test, then-done, unless-done, within_of}
+use Rattle.refusal.specs.Checks.{refused_unless, and_then}
+use Rattle.refusal.proofs.Checks.{equal_of_test, then_done, unless_done, within_of}
 use Rattle.coset.specs.Answers.{basisOutcome}
-use Rattle.fri.specs.Layout.{steps_of, stepAt, dimension, lastCount}
-use Rattle.fri.specs.Checks.{parametersOutcome, indicesOutcome}
-use Rattle.transcript.specs.Numerals.{littleEndian, countAt, entryAt, entries_at}
-use Rattle.transcript.specs.Sections.{sectionStart, sectionCount, sectionEntries, layerSection, transcriptK}
-use Rattle.transcript.specs.Sections.{transcriptRounds}
-use Rattle.transcript.specs.Checks.{sectionOutcome, dueOutcome, parametersSection, cosetSection}
-use Rattle.transcript.specs.Checks.{challengesSection, queriesSection, listsOutcome, frontOutcome, layersFrom}
-use Rattle.transcript.specs.Checks.{endOutcome, layersOutcome, transcriptOutcome}
-use Rattle.transcript.specs.Judge.{longestFront, longestTranscript}
-use Rattle.transcript.proofs.Sections.{start-next, first-start}
-use Rattle.transcript.proofs.Checks.{section-counted, section-done, due-done, layers-done}
+use Rattle.fri.specs.Layout.{steps_of, step_at, dimension, last_count}
+use Rattle.fri.specs.Checks.{parameters_outcome, indices_outcome}
+use Rattle.transcript.specs.Numerals.{little_endian, count_at, entry_at, entries_at}
+use Rattle.transcript.specs.Sections.{section_start, section_count, section_entries, layer_section, transcript_k}
+use Rattle.transcript.specs.Sections.{transcript_rounds}
+use Rattle.transcript.specs.Checks.{section_outcome, due_outcome, parameters_section, coset_section}
+use Rattle.transcript.specs.Checks.{challenges_section, queries_section, lists_outcome, front_outcome, layers_from}
+use Rattle.transcript.specs.Checks.{end_outcome, layers_outcome, transcript_outcome}
+use Rattle.transcript.specs.Judge.{longest_front, longest_transcript}
+use Rattle.transcript.proofs.Sections.{start_next, first_start}
+use Rattle.transcript.proofs.Checks.{section_counted, section_done, due_done, layers_done}
 use Rattle.transcript.proofs.Positions as at
 
 -- ---- checks one after the other
@@ -54,122 +54,122 @@ module _ (front rest : List ℕ) where
       ap (take width) (drop-append-le at front rest (omega arith))
       ∙ take-append-le width (drop at front) rest (omega (arith, length-drop at front))
 
-  count_same : (at : ℕ) → at + 4 ≤ length front → countAt whole at ≡ countAt front at
-  unfolding countAt
-  count_same at h = ap littleEndian (part_same at 4 h)
+  count_same : (at : ℕ) → at + 4 ≤ length front → count_at whole at ≡ count_at front at
+  unfolding count_at
+  count_same at h = ap little_endian (part_same at 4 h)
 
-  entries-same : (at n : ℕ) → at + 8 * n ≤ length front → entries_at whole at n ≡ entries_at front at n
-  unfolding entries_at entryAt
-  entries-same at zero h = refl
-  entries-same at (suc n) h =
-      ap₂ (λ (x : ℕ) (l : List ℕ). x ∷ l) (ap littleEndian (part_same at 8 (omega arith)))
-      (entries-same (at + 8) n (omega arith))
+  entries_same : (at n : ℕ) → at + 8 * n ≤ length front → entries_at whole at n ≡ entries_at front at n
+  unfolding entries_at entry_at
+  entries_same at zero h = refl
+  entries_same at (suc n) h =
+      ap₂ (λ (x : ℕ) (l : List ℕ). x ∷ l) (ap little_endian (part_same at 8 (omega arith)))
+      (entries_same (at + 8) n (omega arith))
 
   -- ---- one section: it begins at the same place, and `most` entries of it lie in the front
 
-  module _ (s most : ℕ) (least : 1 ≤ s) (same : sectionStart whole s ≡ sectionStart front s)
-      (early : sectionStart front s + 4 + 8 * most ≤ length front) where
-    count-is : sectionCount whole s ≡ sectionCount front s
-    count-is = ap (countAt whole) same ∙ count_same (sectionStart front s) (omega arith)
+  module _ (s most : ℕ) (least : 1 ≤ s) (same : section_start whole s ≡ section_start front s)
+      (early : section_start front s + 4 + 8 * most ≤ length front) where
+    count_is : section_count whole s ≡ section_count front s
+    count_is = ap (count_at whole) same ∙ count_same (section_start front s) (omega arith)
 
-    next-same : sectionStart whole (suc s) ≡ sectionStart front (suc s)
-    next-same =
-        start-next whole s least ∙ ap₂ (λ (a n : ℕ). a + 4 + 8 * n) same count-is ∙ sym (start-next front s least)
+    next_same : section_start whole (suc s) ≡ section_start front (suc s)
+    next_same =
+        start_next whole s least ∙ ap₂ (λ (a n : ℕ). a + 4 + 8 * n) same count_is ∙ sym (start_next front s least)
 
-    entries-are : sectionCount front s ≤ most → sectionEntries whole s ≡ sectionEntries front s
-    entries-are few =
-        ap₂ (λ (a n : ℕ). entries_at whole (a + 4) n) same count-is
-        ∙ entries-same (sectionStart front s + 4) (sectionCount front s) (omega arith)
+    entries_are : section_count front s ≤ most → section_entries whole s ≡ section_entries front s
+    entries_are few =
+        ap₂ (λ (a n : ℕ). entries_at whole (a + 4) n) same count_is
+        ∙ entries_same (section_start front s + 4) (section_count front s) (omega arith)
 
-    section-same : (cause : Cause) (test : ℕ → Bool) → ((n : ℕ) → test n ≡ true → n ≤ most)
-        → sectionOutcome whole s (test (sectionCount whole s)) cause
-        ≡ sectionOutcome front s (test (sectionCount front s)) cause
-    section-same cause test few =
-        section-counted whole s most cause test least few (omega (arith, same, longer))
-        ∙ ap (λ (n : ℕ). refusedUnless (test n) cause Done) count-is
-        ∙ sym (section-counted front s most cause test least few early)
+    section_same : (cause : Cause) (test : ℕ → Bool) → ((n : ℕ) → test n ≡ true → n ≤ most)
+        → section_outcome whole s (test (section_count whole s)) cause
+        ≡ section_outcome front s (test (section_count front s)) cause
+    section_same cause test few =
+        section_counted whole s most cause test least few (omega (arith, same, longer))
+        ∙ ap (λ (n : ℕ). refused_unless (test n) cause Done) count_is
+        ∙ sym (section_counted front s most cause test least few early)
 
-    due-same : dueOutcome whole s most ≡ dueOutcome front s most
-    due-same = section-same (CountDiffers s) (λ n. eqb n most) (λ n e. omega (arith, equal-of-test n most e))
+    due_same : due_outcome whole s most ≡ due_outcome front s most
+    due_same = section_same (CountDiffers s) (λ n. eqb n most) (λ n e. omega (arith, equal_of_test n most e))
 
   -- ---- sections 1 to 4 of a front that is long enough
 
-  module _ (enough : longestFront ≤ length front) where
-    start1 : sectionStart whole 1 ≡ sectionStart front 1
-    start1 = first-start whole ∙ sym (first-start front)
+  module _ (enough : longest_front ≤ length front) where
+    start1 : section_start whole 1 ≡ section_start front 1
+    start1 = first_start whole ∙ sym (first_start front)
 
-    early1 : sectionStart front 1 + 4 + 8 * 3 ≤ length front
-    early1 = omega (arith, first-start front)
+    early1 : section_start front 1 + 4 + 8 * 3 ≤ length front
+    early1 = omega (arith, first_start front)
 
-    entries1 : dueOutcome front 1 3 ≡ Done → sectionEntries whole 1 ≡ sectionEntries front 1
-    entries1 d = entries-are 1 3 (omega arith) start1 early1 (omega (arith, (due-done front 1 3 d).0))
+    entries1 : due_outcome front 1 3 ≡ Done → section_entries whole 1 ≡ section_entries front 1
+    entries1 d = entries_are 1 3 (omega arith) start1 early1 (omega (arith, (due_done front 1 3 d).0))
 
     abbrev ranges : List ℕ → Outcome
-    ranges l = parametersOutcome (get_or l 0 0) (get_or l 1 0) (get_or l 2 0)
+    ranges l = parameters_outcome (get_or l 0 0) (get_or l 1 0) (get_or l 2 0)
 
-    first-same : parametersSection whole ≡ parametersSection front
-    first-same =
-        then_same (ranges (sectionEntries whole 1)) (ranges (sectionEntries front 1))
-        (due-same 1 3 (omega arith) start1 early1) (λ (d : dueOutcome front 1 3 ≡ Done). ap ranges (entries1 d))
+    first_same : parameters_section whole ≡ parameters_section front
+    first_same =
+        then_same (ranges (section_entries whole 1)) (ranges (section_entries front 1))
+        (due_same 1 3 (omega arith) start1 early1) (λ (d : due_outcome front 1 3 ≡ Done). ap ranges (entries1 d))
 
-    module _ (one : parametersSection front ≡ Done) where
+    module _ (one : parameters_section front ≡ Done) where
       abbrev k : ℕ
-      k = transcriptK front
+      k = transcript_k front
 
       abbrev r : ℕ
-      r = transcriptRounds front
+      r = transcript_rounds front
 
       abbrev steps-of : List ℕ → List ℕ
       steps-of l = steps_of (get_or l 0 0) (get_or l 1 0) (get_or l 2 0)
 
-      three : dueOutcome front 1 3 ≡ Done
-      three = (then-done (dueOutcome front 1 3) (ranges (sectionEntries front 1)) one).0
+      three : due_outcome front 1 3 ≡ Done
+      three = (then_done (due_outcome front 1 3) (ranges (section_entries front 1)) one).0
 
       -- what is said by section 1 is said of both
-      by-parameters : {A : Type 0} (f : List ℕ → A) → f (sectionEntries whole 1) ≡ f (sectionEntries front 1)
-      by-parameters f = ap f (entries1 three)
+      by_parameters : {A : Type 0} (f : List ℕ → A) → f (section_entries whole 1) ≡ f (section_entries front 1)
+      by_parameters f = ap f (entries1 three)
 
       -- section 2
-      start2 : sectionStart whole 2 ≡ sectionStart front 2
-      start2 = next-same 1 3 (omega arith) start1 early1
+      start2 : section_start whole 2 ≡ section_start front 2
+      start2 = next_same 1 3 (omega arith) start1 early1
 
-      early2 : sectionStart front 2 + 4 + 8 * (k + 1) ≤ length front
-      early2 = omega (arith, at.start-two front one, (at.valid front one).k-most)
+      early2 : section_start front 2 + 4 + 8 * (k + 1) ≤ length front
+      early2 = omega (arith, at.start_two front one, (at.valid front one).k_most)
 
       abbrev basis : List ℕ → Outcome
       basis m = basisOutcome (drop 1 m)
 
-      second-same : cosetSection whole ≡ cosetSection front
-      second-same =
-          then_same (basis (sectionEntries whole 2)) (basis (sectionEntries front 2))
-          (by-parameters (λ l. dueOutcome whole 2 (get_or l 0 0 + 1)) ∙ due-same 2 (k + 1) (omega arith) start2 early2)
-          (λ (d : dueOutcome front 2 (k + 1) ≡ Done).
+      second_same : coset_section whole ≡ coset_section front
+      second_same =
+          then_same (basis (section_entries whole 2)) (basis (section_entries front 2))
+          (by_parameters (λ l. due_outcome whole 2 (get_or l 0 0 + 1)) ∙ due_same 2 (k + 1) (omega arith) start2 early2)
+          (λ (d : due_outcome front 2 (k + 1) ≡ Done).
           ap basis
-          (entries-are 2 (k + 1) (omega arith) start2 early2 (omega (arith, (due-done front 2 (k + 1) d).0))))
+          (entries_are 2 (k + 1) (omega arith) start2 early2 (omega (arith, (due_done front 2 (k + 1) d).0))))
 
-      module _ (two : cosetSection front ≡ Done) where
-        coset-there : dueOutcome front 2 (k + 1) ≡ Done
-        coset-there =
-            (then-done (dueOutcome front 2 (k + 1)) (basis (sectionEntries front 2)) two).0
+      module _ (two : coset_section front ≡ Done) where
+        coset_there : due_outcome front 2 (k + 1) ≡ Done
+        coset_there =
+            (then_done (due_outcome front 2 (k + 1)) (basis (section_entries front 2)) two).0
 
         -- section 3
-        start3 : sectionStart whole 3 ≡ sectionStart front 3
-        start3 = next-same 2 (k + 1) (omega arith) start2 early2
+        start3 : section_start whole 3 ≡ section_start front 3
+        start3 = next_same 2 (k + 1) (omega arith) start2 early2
 
-        early3 : sectionStart front 3 + 4 + 8 * r ≤ length front
-        early3 = omega (arith, at.start-three front one coset-there, at.few-rounds front one)
+        early3 : section_start front 3 + 4 + 8 * r ≤ length front
+        early3 = omega (arith, at.start_three front one coset_there, at.few_rounds front one)
 
-        third-same : challengesSection whole ≡ challengesSection front
-        third-same =
-            by-parameters (λ l. dueOutcome whole 3 (length (steps-of l))) ∙ due-same 3 r (omega arith) start3 early3
+        third_same : challenges_section whole ≡ challenges_section front
+        third_same =
+            by_parameters (λ l. due_outcome whole 3 (length (steps-of l))) ∙ due_same 3 r (omega arith) start3 early3
 
-        module _ (challenges-there : challengesSection front ≡ Done) where
+        module _ (challenges-there : challenges_section front ≡ Done) where
           -- section 4
-          start4 : sectionStart whole 4 ≡ sectionStart front 4
-          start4 = next-same 3 r (omega arith) start3 early3
+          start4 : section_start whole 4 ≡ section_start front 4
+          start4 = next_same 3 r (omega arith) start3 early3
 
-          early4 : sectionStart front 4 + 4 + 8 * 256 ≤ length front
-          early4 = omega (arith, at.start-four front one coset-there challenges-there)
+          early4 : section_start front 4 + 4 + 8 * 256 ≤ length front
+          early4 = omega (arith, at.start_four front one coset_there challenges-there)
 
           abbrev counted : ℕ → Bool
           counted n = leb 1 n && leb n 256
@@ -178,48 +178,48 @@ module _ (front rest : List ℕ) where
           few4 n e = (within_of 1 256 n e).1
 
           abbrev indices : List ℕ → List ℕ → Outcome
-          indices l queries = indicesOutcome (get_or l 0 0) (stepAt (steps-of l) 0) queries
+          indices l queries = indices_outcome (get_or l 0 0) (step_at (steps-of l) 0) queries
 
-          fourth-same : queriesSection whole ≡ queriesSection front
-          fourth-same =
-              then_same (indices (sectionEntries whole 1) (sectionEntries whole 4))
-              (indices (sectionEntries front 1) (sectionEntries front 4))
-              (section-same 4 256 (omega arith) start4 early4 QueryCountOutOfRange counted few4)
-              (λ (d : sectionOutcome front 4 (counted (sectionCount front 4)) QueryCountOutOfRange ≡ Done).
+          fourth_same : queries_section whole ≡ queries_section front
+          fourth_same =
+              then_same (indices (section_entries whole 1) (section_entries whole 4))
+              (indices (section_entries front 1) (section_entries front 4))
+              (section_same 4 256 (omega arith) start4 early4 QueryCountOutOfRange counted few4)
+              (λ (d : section_outcome front 4 (counted (section_count front 4)) QueryCountOutOfRange ≡ Done).
               ap₂ indices (entries1 three)
-              (entries-are 4 256 (omega arith) start4 early4
-              (few4 (sectionCount front 4)
-              (section-done front 4 (counted (sectionCount front 4)) QueryCountOutOfRange d).0)))
+              (entries_are 4 256 (omega arith) start4 early4
+              (few4 (section_count front 4)
+              (section_done front 4 (counted (section_count front 4)) QueryCountOutOfRange d).0)))
 
-          start5 : sectionStart whole 5 ≡ sectionStart front 5
-          start5 = next-same 4 256 (omega arith) start4 early4
+          start5 : section_start whole 5 ≡ section_start front 5
+          start5 = next_same 4 256 (omega arith) start4 early4
 
     -- bytes after the front decide nothing about sections 1 to 4
-    pub front-alone : frontOutcome whole ≡ frontOutcome front
-    front-alone =
-        then_same (listsOutcome whole) (listsOutcome front) first-same
-        (λ (one : parametersSection front ≡ Done).
-        then_same (and_then (challengesSection whole) (queriesSection whole))
-        (and_then (challengesSection front) (queriesSection front)) (second-same one)
-        (λ (two : cosetSection front ≡ Done).
-        then_same (queriesSection whole) (queriesSection front) (third-same one two)
-        (λ (challenges : challengesSection front ≡ Done). fourth-same one two challenges)))
+    pub front_alone : front_outcome whole ≡ front_outcome front
+    front_alone =
+        then_same (lists_outcome whole) (lists_outcome front) first_same
+        (λ (one : parameters_section front ≡ Done).
+        then_same (and_then (challenges_section whole) (queries_section whole))
+        (and_then (challenges_section front) (queries_section front)) (second_same one)
+        (λ (two : coset_section front ≡ Done).
+        then_same (queries_section whole) (queries_section front) (third_same one two)
+        (λ (challenges : challenges_section front ≡ Done). fourth_same one two challenges)))
 
   -- ---- the layers and the last coefficients of a front that is longer than every transcript
 
-  module _ (enough : longestTranscript < length front) where
-    front-enough : longestFront ≤ length front
-    front-enough = omega arith
+  module _ (enough : longest_transcript < length front) where
+    front_enough : longest_front ≤ length front
+    front_enough = omega arith
 
-    module _ (done : frontOutcome front ≡ Done) where
-      one : parametersSection front ≡ Done
-      one = (then-done (parametersSection front) (listsOutcome front) done).0
+    module _ (done : front_outcome front ≡ Done) where
+      one : parameters_section front ≡ Done
+      one = (then_done (parameters_section front) (lists_outcome front) done).0
 
-      lists : listsOutcome front ≡ Done
-      lists = (then-done (parametersSection front) (listsOutcome front) done).1
+      lists : lists_outcome front ≡ Done
+      lists = (then_done (parameters_section front) (lists_outcome front) done).1
 
       abbrev rounds : ℕ
-      rounds = transcriptRounds front
+      rounds = transcript_rounds front
 
       abbrev size : ℕ → ℕ
       size = at.size front one
@@ -227,121 +227,121 @@ module _ (front rest : List ℕ) where
       abbrev last : ℕ
       last = at.last front one
 
-      five : sectionStart front 5 ≤ longestFront
-      five = at.front-within front one lists
+      five : section_start front 5 ≤ longest_front
+      five = at.front_within front one lists
 
-      same-five : sectionStart whole 5 ≡ sectionStart front 5
-      same-five =
-          let two = then-done (cosetSection front) (and_then (challengesSection front) (queriesSection front)) lists in
-          start5 front-enough one two.0 (then-done (challengesSection front) (queriesSection front) two.1).0
+      same_five : section_start whole 5 ≡ section_start front 5
+      same_five =
+          let two = then_done (coset_section front) (and_then (challenges_section front) (queries_section front)) lists in
+          start5 front_enough one two.0 (then_done (challenges_section front) (queries_section front) two.1).0
 
       -- the layers before layer i passed
       abbrev Before : ℕ → Type 0
-      Before i = (j : ℕ) → j < i → dueOutcome front (layerSection j) (size j) ≡ Done
+      Before i = (j : ℕ) → j < i → due_outcome front (layer_section j) (size j) ≡ Done
 
-      before-next : (i : ℕ) → Before i → dueOutcome front (layerSection i) (size i) ≡ Done → Before (suc i)
-      before-next i before d j h =
-          ⊎_elim (λ (e : j ≡ i). subst (λ (n : ℕ). dueOutcome front (layerSection n) (size n) ≡ Done) (sym e) d)
+      before_next : (i : ℕ) → Before i → due_outcome front (layer_section i) (size i) ≡ Done → Before (suc i)
+      before_next i before d j h =
+          ⊎_elim (λ (e : j ≡ i). subst (λ (n : ℕ). due_outcome front (layer_section n) (size n) ≡ Done) (sym e) d)
           (λ (l : j < i). before j l) (eq-or-lt_of_le (le_of_suc-le-suc h))
 
-      early-layer : (i : ℕ) → i < rounds → Before i
-          → sectionStart front (layerSection i) + 4 + 8 * size i ≤ length front
-      early-layer i h before = omega (arith, at.layer-within front one five i h before)
+      early_layer : (i : ℕ) → i < rounds → Before i
+          → section_start front (layer_section i) + 4 + 8 * size i ≤ length front
+      early_layer i h before = omega (arith, at.layer_within front one five i h before)
 
-      same-layer : (i : ℕ) → i ≤ rounds → Before i
-          → sectionStart whole (layerSection i) ≡ sectionStart front (layerSection i)
-      same-layer zero h before = same-five
-      same-layer (suc i) h before =
+      same_layer : (i : ℕ) → i ≤ rounds → Before i
+          → section_start whole (layer_section i) ≡ section_start front (layer_section i)
+      same_layer zero h before = same_five
+      same_layer (suc i) h before =
           let earlier : Before i = λ j l. before j (omega arith) in
-          let next : layerSection (suc i) ≡ suc (layerSection i) = omega arith in
-          ap (sectionStart whole) next
-          ∙ next-same (layerSection i) (size i) (omega arith) (same-layer i (omega arith) earlier)
-          (early-layer i h earlier)
-          ∙ sym (ap (sectionStart front) next)
+          let next : layer_section (suc i) ≡ suc (layer_section i) = omega arith in
+          ap (section_start whole) next
+          ∙ next_same (layer_section i) (size i) (omega arith) (same_layer i (omega arith) earlier)
+          (early_layer i h earlier)
+          ∙ sym (ap (section_start front) next)
 
-      layers-same : (i left : ℕ) → i + left ≡ rounds → Before i → layersFrom whole i left ≡ layersFrom front i left
-      unfolding layersFrom
-      layers-same i zero e before = refl
-      layers-same i (suc left) e before =
-          then_same (layersFrom whole (suc i) left) (layersFrom front (suc i) left)
-          (by-parameters front-enough one
-          (λ l. dueOutcome whole (layerSection i) (2 ^ dimension (get_or l 0 0) (steps-of front-enough one l) i))
-          ∙ due-same (layerSection i) (size i) (omega arith) (same-layer i (omega arith) before)
-          (early-layer i (omega arith) before))
-          (λ (d : dueOutcome front (layerSection i) (size i) ≡ Done).
-          layers-same (suc i) left (omega arith) (before-next i before d))
+      layers_same : (i left : ℕ) → i + left ≡ rounds → Before i → layers_from whole i left ≡ layers_from front i left
+      unfolding layers_from
+      layers_same i zero e before = refl
+      layers_same i (suc left) e before =
+          then_same (layers_from whole (suc i) left) (layers_from front (suc i) left)
+          (by_parameters front_enough one
+          (λ l. due_outcome whole (layer_section i) (2 ^ dimension (get_or l 0 0) (steps-of front_enough one l) i))
+          ∙ due_same (layer_section i) (size i) (omega arith) (same_layer i (omega arith) before)
+          (early_layer i (omega arith) before))
+          (λ (d : due_outcome front (layer_section i) (size i) ≡ Done).
+          layers_same (suc i) left (omega arith) (before_next i before d))
 
       module _ (before : Before rounds) where
-        early-last : sectionStart front (layerSection rounds) + 4 + 8 * last ≤ length front
-        early-last = omega (arith, at.last_within front one five before)
+        early_last : section_start front (layer_section rounds) + 4 + 8 * last ≤ length front
+        early_last = omega (arith, at.last_within front one five before)
 
-        same-last : sectionStart whole (layerSection rounds) ≡ sectionStart front (layerSection rounds)
-        same-last = same-layer rounds (omega arith) before
+        same-last : section_start whole (layer_section rounds) ≡ section_start front (layer_section rounds)
+        same-last = same_layer rounds (omega arith) before
 
         -- bytes follow in both
         abbrev end : (bytes : List ℕ) → ℕ
-        end bytes = sectionStart bytes (suc (layerSection rounds))
+        end bytes = section_start bytes (suc (layer_section rounds))
 
         trailing : (bytes : List ℕ) → end bytes ≢ length bytes
-            → refusedUnless (eqb (end bytes) (length bytes)) TrailingBytes Done ≡ Refused TrailingBytes
+            → refused_unless (eqb (end bytes) (length bytes)) TrailingBytes Done ≡ Refused TrailingBytes
         trailing bytes h =
-            ap (λ (t : Bool). refusedUnless t TrailingBytes Done) (ne_eqb (end bytes) (length bytes) h)
+            ap (λ (t : Bool). refused_unless t TrailingBytes Done) (ne_eqb (end bytes) (length bytes) h)
 
-        end_same : endOutcome whole ≡ endOutcome front
+        end_same : end_outcome whole ≡ end_outcome front
         end_same =
             then_same
-            (refusedUnless (eqb (sectionStart whole (suc (layerSection (transcriptRounds whole)))) (length whole))
+            (refused_unless (eqb (section_start whole (suc (layer_section (transcript_rounds whole)))) (length whole))
             TrailingBytes Done)
-            (refusedUnless (eqb (end front) (length front)) TrailingBytes Done)
-            (by-parameters front-enough one
+            (refused_unless (eqb (end front) (length front)) TrailingBytes Done)
+            (by_parameters front_enough one
             (λ l.
-            dueOutcome whole (layerSection (length (steps-of front-enough one l)))
-            (lastCount (get_or l 0 0) (get_or l 1 0) (steps-of front-enough one l)))
-            ∙ due-same (layerSection rounds) last (omega arith) same-last early-last)
-            (λ (d : dueOutcome front (layerSection rounds) last ≡ Done).
-            let ends = start-next front (layerSection rounds) (omega arith) in
-            let count = (due-done front (layerSection rounds) last d).0 in
+            due_outcome whole (layer_section (length (steps-of front_enough one l)))
+            (last_count (get_or l 0 0) (get_or l 1 0) (steps-of front_enough one l)))
+            ∙ due_same (layer_section rounds) last (omega arith) same-last early_last)
+            (λ (d : due_outcome front (layer_section rounds) last ≡ Done).
+            let ends = start_next front (layer_section rounds) (omega arith) in
+            let count = (due_done front (layer_section rounds) last d).0 in
             let most = at.last_within front one five before in
-            let next = next-same (layerSection rounds) last (omega arith) same-last early-last in
-            by-parameters front-enough one
+            let next = next_same (layer_section rounds) last (omega arith) same-last early_last in
+            by_parameters front_enough one
             (λ l.
-            refusedUnless
-            (eqb (sectionStart whole (suc (layerSection (length (steps-of front-enough one l))))) (length whole))
+            refused_unless
+            (eqb (section_start whole (suc (layer_section (length (steps-of front_enough one l))))) (length whole))
             TrailingBytes Done)
             ∙ trailing whole (omega (arith, next, ends, count, most, longer))
             ∙ sym (trailing front (omega (arith, ends, count, most))))
 
-      layers-alone : layersOutcome whole ≡ layersOutcome front
-      layers-alone =
-          then_same (endOutcome whole) (endOutcome front)
-          (by-parameters front-enough one (λ l. layersFrom whole 0 (length (steps-of front-enough one l)))
-          ∙ layers-same 0 rounds (omega arith) (λ j h. absurd (omega arith)))
-          (λ (d : layersFrom front 0 rounds ≡ Done).
-          end_same (λ j h. layers-done front 0 rounds rounds (omega arith) d j (omega arith) h))
+      layers_alone : layers_outcome whole ≡ layers_outcome front
+      layers_alone =
+          then_same (end_outcome whole) (end_outcome front)
+          (by_parameters front_enough one (λ l. layers_from whole 0 (length (steps-of front_enough one l)))
+          ∙ layers_same 0 rounds (omega arith) (λ j h. absurd (omega arith)))
+          (λ (d : layers_from front 0 rounds ≡ Done).
+          end_same (λ j h. layers_done front 0 rounds rounds (omega arith) d j (omega arith) h))
 
     -- bytes after the front decide nothing
-    pub transcript-alone : transcriptOutcome whole ≡ transcriptOutcome front
-    transcript-alone =
-        then_same (layersOutcome whole) (layersOutcome front) (front-alone front-enough)
-        (λ (done : frontOutcome front ≡ Done). layers-alone done)
+    pub transcript_alone : transcript_outcome whole ≡ transcript_outcome front
+    transcript_alone =
+        then_same (layers_outcome whole) (layers_outcome front) (front_alone front_enough)
+        (λ (done : front_outcome front ≡ Done). layers_alone done)
 
 -- ---- the longest transcript
 
-pub longest : (bytes : List ℕ) → transcriptOutcome bytes ≡ Done → length bytes ≤ longestTranscript
+pub longest : (bytes : List ℕ) → transcript_outcome bytes ≡ Done → length bytes ≤ longest_transcript
 longest bytes done =
-    let both = then-done (frontOutcome bytes) (layersOutcome bytes) done in
-    let front = then-done (parametersSection bytes) (listsOutcome bytes) both.0 in
-    let r = transcriptRounds bytes in
-    let layers = then-done (layersFrom bytes 0 r) (endOutcome bytes) both.1 in
-    let ends = eqb (sectionStart bytes (suc (layerSection r))) (length bytes) in
+    let both = then_done (front_outcome bytes) (layers_outcome bytes) done in
+    let front = then_done (parameters_section bytes) (lists_outcome bytes) both.0 in
+    let r = transcript_rounds bytes in
+    let layers = then_done (layers_from bytes 0 r) (end_outcome bytes) both.1 in
+    let ends = eqb (section_start bytes (suc (layer_section r))) (length bytes) in
     let last = at.last bytes front.0 in
-    let end = then-done (dueOutcome bytes (layerSection r) last) (refusedUnless ends TrailingBytes Done) layers.1 in
+    let end = then_done (due_outcome bytes (layer_section r) last) (refused_unless ends TrailingBytes Done) layers.1 in
     omega (
       arith,
-      start-next bytes (layerSection r) (omega arith),
-      (due-done bytes (layerSection r) last end.0).0,
-      equal-of-test (sectionStart bytes (suc (layerSection r))) (length bytes)
-          (unless-done ends TrailingBytes Done end.1).0,
-      at.last_within bytes front.0 (at.front-within bytes front.0 front.1)
-          (λ j h. layers-done bytes 0 r r (omega arith) layers.0 j (omega arith) h),
+      start_next bytes (layer_section r) (omega arith),
+      (due_done bytes (layer_section r) last end.0).0,
+      equal_of_test (section_start bytes (suc (layer_section r))) (length bytes)
+          (unless_done ends TrailingBytes Done end.1).0,
+      at.last_within bytes front.0 (at.front_within bytes front.0 front.1)
+          (λ j h. layers_done bytes 0 r r (omega arith) layers.0 j (omega arith) h),
     )

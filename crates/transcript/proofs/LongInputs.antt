@@ -9,7 +9,7 @@ use lib.Dec.{leb}
 use lib.ListN.{length, take, drop, take-append-drop}
 use lib.Seq.{length-take-le}
 use borrow.Author.Tests.{leb-true, leb-false}
-use Rattle.poly.proofs.Entries.{of-first}
+use Rattle.poly.proofs.Entries.{of_first}
 use Rattle.refusal.specs.declared.Cause.{Cause}
 use Rattle.refusal.specs.declared.Cause.TheVariants.{BytesEnd, CountDiffers, TrailingBytes, DimensionOutOfRange}
 use Rattle.refusal.specs.declared.Cause.TheVariants.{InputTooLong}
@@ -17,71 +17,71 @@ use Rattle.refusal.specs.declared.Outcome.{Outcome}
 use Rattle.refusal.specs.declared.Outcome.TheVariants.{Done, Refused}
 use Rattle.refusal.specs.declared.Position.TheVariants.{At, Absent}
 use Rattle.refusal.specs.Checks.{and_then}
-use Rattle.refusal.specs.Numbers.{number_of, numberOfOutcome}
-use Rattle.refusal.proofs.Checks.{refused-not-done, then-passed, then-refused, then-done, holds_after, number-then}
-use Rattle.refusal.proofs.Theorems.{never-zero}
+use Rattle.refusal.specs.Numbers.{number_of, number_of_outcome}
+use Rattle.refusal.proofs.Checks.{refused_not_done, then_passed, then_refused, then_done, holds_after, number_then}
+use Rattle.refusal.proofs.Theorems.{never_zero}
 use Rattle.fri.specs.declared.Answer.{Answer}
 use Rattle.fri.specs.declared.Answer.TheVariants as answers
 use Rattle.fri.specs.declared.Verdict.{Verdict}
-use Rattle.fri.specs.Checks.{parametersOutcome}
-use Rattle.fri.specs.Rounds.{roundsOutcome}
-use Rattle.fri.specs.Judge.{answer_of, numberOfAnswer, placeOfAnswer, roundOfAnswer}
+use Rattle.fri.specs.Checks.{parameters_outcome}
+use Rattle.fri.specs.Rounds.{rounds_outcome}
+use Rattle.fri.specs.Judge.{answer_of, number_of_answer, place_of_answer, round_of_answer}
 use Rattle.fri.specs.Theorems.{Tells}
-use Rattle.fri.proofs.Checks.{k-refused}
-use Rattle.fri.proofs.Rounds.{refused-by-round}
+use Rattle.fri.proofs.Checks.{k_refused}
+use Rattle.fri.proofs.Rounds.{refused_by_round}
 use Rattle.fri.proofs.Verdicts.{same_number}
-use Rattle.transcript.specs.Sections.{sectionStart, sectionCount, transcriptK, transcriptRate, transcriptStep}
-use Rattle.transcript.specs.Sections.{runIn, queriesIn}
-use Rattle.transcript.specs.Checks.{dueOutcome, parametersSection, listsOutcome, frontOutcome, layersOutcome}
-use Rattle.transcript.specs.Checks.{transcriptOutcome}
-use Rattle.transcript.specs.Judge.{transcriptVerdict, longestFront, inputLimit, longVerdict, inputVerdict}
+use Rattle.transcript.specs.Sections.{section_start, section_count, transcript_k, transcript_rate, transcript_step}
+use Rattle.transcript.specs.Sections.{run_in, queries_in}
+use Rattle.transcript.specs.Checks.{due_outcome, parameters_section, lists_outcome, front_outcome, layers_outcome}
+use Rattle.transcript.specs.Checks.{transcript_outcome}
+use Rattle.transcript.specs.Judge.{transcript_verdict, longest_front, input_limit, long_verdict, input_verdict}
 use Rattle.transcript.specs.Theorems.{FrontNumber, RefusedInFront, LongInputs, TranscriptNumber}
 use Rattle.transcript.specs.Theorems.{TranscriptNumbers}
-use Rattle.transcript.proofs.Sections.{start-next, first-start}
-use Rattle.transcript.proofs.Checks.{due-passes}
-use Rattle.transcript.proofs.Carried.{front-checks}
-use Rattle.transcript.proofs.Refusals.{behind-holds, transcript-number, ValueNumber, whole-front-holds}
-use Rattle.transcript.proofs.Positions.{front-within}
-use Rattle.transcript.proofs.Fronts.{front-alone}
-use Rattle.transcript.proofs.Theorems.{refused-verdict, short, long}
+use Rattle.transcript.proofs.Sections.{start_next, first_start}
+use Rattle.transcript.proofs.Checks.{due_passes}
+use Rattle.transcript.proofs.Carried.{front_checks}
+use Rattle.transcript.proofs.Refusals.{behind_holds, transcript_number, ValueNumber, whole_front_holds}
+use Rattle.transcript.proofs.Positions.{front_within}
+use Rattle.transcript.proofs.Fronts.{front_alone}
+use Rattle.transcript.proofs.Theorems.{refused_verdict, short, long}
 
 -- ---- sections 1 to 4
 
 abbrev InFront : Outcome → Type 0
 InFront o = (o ≡ Done) ⊎ RefusedInFront (answer_of o)
 
-by_value : (o : Outcome) → ValueNumber (numberOfOutcome o) → InFront o
+by_value : (o : Outcome) → ValueNumber (number_of_outcome o) → InFront o
 by_value Done v = inl refl
-by_value (Refused cause) (inl none) = absurd (never-zero cause none)
+by_value (Refused cause) (inl none) = absurd (never_zero cause none)
 by_value (Refused cause) (inr some) = inr (inr some)
 
 -- none of them is cut off
-front-refused : (bytes : List ℕ) (cause : Cause) → longestFront ≤ length bytes → frontOutcome bytes ≡ Refused cause
+front_refused : (bytes : List ℕ) (cause : Cause) → longest_front ≤ length bytes → front_outcome bytes ≡ Refused cause
     → RefusedInFront (answers.Refused cause)
-front-refused bytes cause enough e =
-    ⊎_elim (λ (passed : Refused cause ≡ Done). absurd (refused-not-done cause passed))
+front_refused bytes cause enough e =
+    ⊎_elim (λ (passed : Refused cause ≡ Done). absurd (refused_not_done cause passed))
     (λ (given : RefusedInFront (answers.Refused cause)). given)
-    (subst InFront e (whole-front-holds InFront by_value (λ s h. inr (inl (s, h, refl))) bytes enough))
+    (subst InFront e (whole_front_holds InFront by_value (λ s h. inr (inl (s, h, refl))) bytes enough))
 
-number-of : (answer : Answer) → RefusedInFront answer → FrontNumber (numberOfAnswer answer)
-number-of answer (inl (section, h, is)) = inl (ap numberOfAnswer is)
+number-of : (answer : Answer) → RefusedInFront answer → FrontNumber (number_of_answer answer)
+number-of answer (inl (section, h, is)) = inl (ap number_of_answer is)
 number-of answer (inr some) = inr some
 
-front-number : (bytes : List ℕ) (cause : Cause) → longestFront ≤ length bytes → frontOutcome bytes ≡ Refused cause
+front_number : (bytes : List ℕ) (cause : Cause) → longest_front ≤ length bytes → front_outcome bytes ≡ Refused cause
     → FrontNumber (number_of cause)
-front-number bytes cause enough e = number-of (answers.Refused cause) (front-refused bytes cause enough e)
+front_number bytes cause enough e = number-of (answers.Refused cause) (front_refused bytes cause enough e)
 
-front_ends : (bytes : List ℕ) → frontOutcome bytes ≡ Done → sectionStart bytes 5 ≤ longestFront
+front_ends : (bytes : List ℕ) → front_outcome bytes ≡ Done → section_start bytes 5 ≤ longest_front
 front_ends bytes done =
-    let both = then-done (parametersSection bytes) (listsOutcome bytes) done in front-within bytes both.0 both.1
+    let both = then_done (parameters_section bytes) (lists_outcome bytes) done in front_within bytes both.0 both.1
 
-first-front : (bytes : List ℕ) (read : ℕ) → longestFront ≤ read → frontOutcome (take read bytes) ≡ frontOutcome bytes
-first-front bytes read h =
-    of-first frontOutcome read bytes
+first_front : (bytes : List ℕ) (read : ℕ) → longest_front ≤ read → front_outcome (take read bytes) ≡ front_outcome bytes
+first_front bytes read h =
+    of_first front_outcome read bytes
     (λ (longer : read < length bytes).
     let size : length (take read bytes) ≡ read = length-take-le read bytes (omega arith) in
-    sym (front-alone (take read bytes) (drop read bytes) (omega arith))
-    ∙ ap frontOutcome (take-append-drop read bytes))
+    sym (front_alone (take read bytes) (drop read bytes) (omega arith))
+    ∙ ap front_outcome (take-append-drop read bytes))
 
 -- ---- over the limit
 
@@ -95,28 +95,28 @@ never n (inl (inr (inr seventeen))) = (λ e. omega arith, λ e. omega arith, λ 
 never n (inr fourteen) = (λ e. omega arith, λ e. omega arith, λ e. omega arith, λ e. omega arith)
 
 -- the answer, by what sections 1 to 4 come to
-pub long-refused : (bytes : List ℕ) (cause : Cause) → frontOutcome bytes ≡ Refused cause
-    → longVerdict bytes ≡ record { answer = answers.Refused cause; reads = 0 }
-long-refused bytes cause e = simp e
+pub long_refused : (bytes : List ℕ) (cause : Cause) → front_outcome bytes ≡ Refused cause
+    → long_verdict bytes ≡ record { answer = answers.Refused cause; reads = 0 }
+long_refused bytes cause e = simp e
 
-pub long-passed : (bytes : List ℕ) → frontOutcome bytes ≡ Done
-    → longVerdict bytes ≡ record { answer = answers.Refused InputTooLong; reads = 0 }
-long-passed bytes e = simp e
+pub long_passed : (bytes : List ℕ) → front_outcome bytes ≡ Done
+    → long_verdict bytes ≡ record { answer = answers.Refused InputTooLong; reads = 0 }
+long_passed bytes e = simp e
 
-refused : (bytes : List ℕ) (cause : Cause) → inputLimit < length bytes → frontOutcome bytes ≡ Refused cause
-    → (inputVerdict bytes ≡ record { answer = answers.Refused cause; reads = 0 })
-    × (inputVerdict bytes ≡ transcriptVerdict bytes)
+refused : (bytes : List ℕ) (cause : Cause) → input_limit < length bytes → front_outcome bytes ≡ Refused cause
+    → (input_verdict bytes ≡ record { answer = answers.Refused cause; reads = 0 })
+    × (input_verdict bytes ≡ transcript_verdict bytes)
 refused bytes cause h e =
-    let told : inputVerdict bytes ≡ record { answer = answers.Refused cause; reads = 0 } =
-    long bytes h ∙ long-refused bytes cause e in (
+    let told : input_verdict bytes ≡ record { answer = answers.Refused cause; reads = 0 } =
+    long bytes h ∙ long_refused bytes cause e in (
       told,
       told
-          ∙ sym (refused-verdict bytes cause (sym (then-refused (frontOutcome bytes) (layersOutcome bytes) cause e))),
+          ∙ sym (refused_verdict bytes cause (sym (then_refused (front_outcome bytes) (layers_outcome bytes) cause e))),
     )
 
-passed : (bytes : List ℕ) → inputLimit < length bytes → frontOutcome bytes ≡ Done
-    → inputVerdict bytes ≡ record { answer = answers.Refused InputTooLong; reads = 0 }
-passed bytes h e = long bytes h ∙ long-passed bytes e
+passed : (bytes : List ℕ) → input_limit < length bytes → front_outcome bytes ≡ Done
+    → input_verdict bytes ≡ record { answer = answers.Refused InputTooLong; reads = 0 }
+passed bytes h e = long bytes h ∙ long_passed bytes e
 
 -- ---- by the library's verdict
 
@@ -124,161 +124,161 @@ passed bytes h e = long bytes h ∙ long-passed bytes e
 abbrev Behind : Outcome → Type 0
 Behind o = RefusedInFront (answer_of o) → ⊥
 
-accepted-behind : Behind Done
-accepted-behind given = (never 0 (inl (number-of answers.Accepted given))).0 refl
+accepted_behind : Behind Done
+accepted_behind given = (never 0 (inl (number-of answers.Accepted given))).0 refl
 
-later-count : (s : ℕ) → 5 ≤ s → Behind (Refused (CountDiffers s))
-later-count s h (inl (section, l, is)) = let same : s ≡ section = cc in omega arith
-later-count s h (inr (inl range)) = omega arith
-later-count s h (inr (inr seventeen)) = omega arith
+later_count : (s : ℕ) → 5 ≤ s → Behind (Refused (CountDiffers s))
+later_count s h (inl (section, l, is)) = let same : s ≡ section = cc in omega arith
+later_count s h (inr (inl range)) = omega arith
+later_count s h (inr (inr seventeen)) = omega arith
 
-rounds-behind : (bytes : List ℕ) (o : Outcome) → roundsOutcome (runIn bytes) (queriesIn bytes) 0 ≡ o → Behind o
-rounds-behind bytes Done e = accepted-behind
-rounds-behind bytes (Refused cause) e =
+rounds_behind : (bytes : List ℕ) (o : Outcome) → rounds_outcome (run_in bytes) (queries_in bytes) 0 ≡ o → Behind o
+rounds_behind bytes Done e = accepted_behind
+rounds_behind bytes (Refused cause) e =
     λ given. (never (number_of cause) (inl (number-of (answers.Refused cause) given))).3
-    (refused-by-round (runIn bytes) (queriesIn bytes) cause e)
+    (refused_by_round (run_in bytes) (queries_in bytes) cause e)
 
-passed-behind : (bytes : List ℕ) → frontOutcome bytes ≡ Done → RefusedInFront (transcriptVerdict bytes).answer → ⊥
-unfolding transcriptVerdict
-passed-behind bytes e =
-    let rounds = roundsOutcome (runIn bytes) (queriesIn bytes) 0 in
-    holds_after Behind (transcriptOutcome bytes) rounds
-    (holds_after Behind (frontOutcome bytes) (layersOutcome bytes) (subst Behind (sym e) accepted-behind)
-    (λ passed. behind-holds Behind accepted-behind bytes
-    (λ s given. (never 1 (inl (number-of (answers.Refused (BytesEnd s)) given))).1 refl) later-count
+passed_behind : (bytes : List ℕ) → front_outcome bytes ≡ Done → RefusedInFront (transcript_verdict bytes).answer → ⊥
+unfolding transcript_verdict
+passed_behind bytes e =
+    let rounds = rounds_outcome (run_in bytes) (queries_in bytes) 0 in
+    holds_after Behind (transcript_outcome bytes) rounds
+    (holds_after Behind (front_outcome bytes) (layers_outcome bytes) (subst Behind (sym e) accepted_behind)
+    (λ passed. behind_holds Behind accepted_behind bytes
+    (λ s given. (never 1 (inl (number-of (answers.Refused (BytesEnd s)) given))).1 refl) later_count
     (λ given. (never 3 (inl (number-of (answers.Refused TrailingBytes) given))).2 refl)))
-    (λ passed. rounds-behind bytes rounds refl)
+    (λ passed. rounds_behind bytes rounds refl)
 
-by-library : (bytes : List ℕ) → inputLimit < length bytes
-    → (RefusedInFront (transcriptVerdict bytes).answer → inputVerdict bytes ≡ transcriptVerdict bytes)
-    × ((RefusedInFront (transcriptVerdict bytes).answer → ⊥)
-    → inputVerdict bytes ≡ record { answer = answers.Refused InputTooLong; reads = 0 })
-by-library bytes h = by (frontOutcome bytes) refl
+by_library : (bytes : List ℕ) → input_limit < length bytes
+    → (RefusedInFront (transcript_verdict bytes).answer → input_verdict bytes ≡ transcript_verdict bytes)
+    × ((RefusedInFront (transcript_verdict bytes).answer → ⊥)
+    → input_verdict bytes ≡ record { answer = answers.Refused InputTooLong; reads = 0 })
+by_library bytes h = by (front_outcome bytes) refl
   where
-    by : (front : Outcome) → frontOutcome bytes ≡ front
-        → (RefusedInFront (transcriptVerdict bytes).answer → inputVerdict bytes ≡ transcriptVerdict bytes)
-        × ((RefusedInFront (transcriptVerdict bytes).answer → ⊥)
-        → inputVerdict bytes ≡ record { answer = answers.Refused InputTooLong; reads = 0 })
-    by Done e = (λ given. absurd (passed-behind bytes e given), λ none. passed bytes h e)
+    by : (front : Outcome) → front_outcome bytes ≡ front
+        → (RefusedInFront (transcript_verdict bytes).answer → input_verdict bytes ≡ transcript_verdict bytes)
+        × ((RefusedInFront (transcript_verdict bytes).answer → ⊥)
+        → input_verdict bytes ≡ record { answer = answers.Refused InputTooLong; reads = 0 })
+    by Done e = (λ given. absurd (passed_behind bytes e given), λ none. passed bytes h e)
     by (Refused cause) e =
         let both = refused bytes cause h e in (
           λ given. both.1,
           λ none.
               absurd (none (subst (λ (v : Verdict). RefusedInFront v.answer) (sym both.0 ∙ both.1)
-              (front-refused bytes cause (omega arith) e))),
+              (front_refused bytes cause (omega arith) e))),
         )
 
 -- ---- which numbers are given over the limit
 
-numbers : (bytes : List ℕ) → inputLimit < length bytes → LongNumber (numberOfAnswer (inputVerdict bytes).answer)
-numbers bytes h = by (frontOutcome bytes) refl
+numbers : (bytes : List ℕ) → input_limit < length bytes → LongNumber (number_of_answer (input_verdict bytes).answer)
+numbers bytes h = by (front_outcome bytes) refl
   where
-    by : (front : Outcome) → frontOutcome bytes ≡ front → LongNumber (numberOfAnswer (inputVerdict bytes).answer)
-    by Done e = inr (ap (λ (v : Verdict). numberOfAnswer v.answer) (passed bytes h e))
+    by : (front : Outcome) → front_outcome bytes ≡ front → LongNumber (number_of_answer (input_verdict bytes).answer)
+    by Done e = inr (ap (λ (v : Verdict). number_of_answer v.answer) (passed bytes h e))
     by (Refused cause) e =
-        inl (subst FrontNumber (sym (ap (λ (v : Verdict). numberOfAnswer v.answer) (refused bytes cause h e).0))
-        (front-number bytes cause (omega arith) e))
+        inl (subst FrontNumber (sym (ap (λ (v : Verdict). number_of_answer v.answer) (refused bytes cause h e).0))
+        (front_number bytes cause (omega arith) e))
 
-accepted : (bytes : List ℕ) → (inputVerdict bytes).answer ≡ answers.Accepted
-    → (length bytes ≤ inputLimit) × ((transcriptVerdict bytes).answer ≡ answers.Accepted)
-accepted bytes e = by (leb (length bytes) inputLimit) refl
+accepted : (bytes : List ℕ) → (input_verdict bytes).answer ≡ answers.Accepted
+    → (length bytes ≤ input_limit) × ((transcript_verdict bytes).answer ≡ answers.Accepted)
+accepted bytes e = by (leb (length bytes) input_limit) refl
   where
-    by : (test : Bool) → leb (length bytes) inputLimit ≡ test
-        → (length bytes ≤ inputLimit) × ((transcriptVerdict bytes).answer ≡ answers.Accepted)
+    by : (test : Bool) → leb (length bytes) input_limit ≡ test
+        → (length bytes ≤ input_limit) × ((transcript_verdict bytes).answer ≡ answers.Accepted)
     by true t =
-        let within = leb-true (length bytes) inputLimit t in
+        let within = leb-true (length bytes) input_limit t in
         (within, sym (ap (λ (v : Verdict). v.answer) (short bytes within)) ∙ e)
     by false t =
-        let given = numbers bytes (leb-false (length bytes) inputLimit t) in
-        absurd ((never (numberOfAnswer (inputVerdict bytes).answer) given).0 (ap numberOfAnswer e))
+        let given = numbers bytes (leb-false (length bytes) input_limit t) in
+        absurd ((never (number_of_answer (input_verdict bytes).answer) given).0 (ap number_of_answer e))
 
-first : (bytes : List ℕ) (read : ℕ) → inputLimit < read → inputVerdict (take read bytes) ≡ inputVerdict bytes
+first : (bytes : List ℕ) (read : ℕ) → input_limit < read → input_verdict (take read bytes) ≡ input_verdict bytes
 first bytes read h =
-    of-first inputVerdict read bytes
+    of_first input_verdict read bytes
     (λ (longer : read < length bytes).
     let size : length (take read bytes) ≡ read = length-take-le read bytes (omega arith) in
-    let same : longVerdict (take read bytes) ≡ longVerdict bytes = simp (first-front bytes read (omega arith)) in
+    let same : long_verdict (take read bytes) ≡ long_verdict bytes = simp (first_front bytes read (omega arith)) in
     long (take read bytes) (omega arith) ∙ same ∙ sym (long bytes (omega arith)))
 
 -- 02's own case
-large-dimension : (bytes : List ℕ) → inputLimit < length bytes → sectionCount bytes 1 ≡ 3 → 20 < transcriptK bytes
-    → Tells (inputVerdict bytes) 4 Absent Absent 0
-large-dimension bytes h three large =
+large_dimension : (bytes : List ℕ) → input_limit < length bytes → section_count bytes 1 ≡ 3 → 20 < transcript_k bytes
+    → Tells (input_verdict bytes) 4 Absent Absent 0
+large_dimension bytes h three large =
     let told = (refused bytes DimensionOutOfRange h front).0 in (
-      ap (λ (v : Verdict). numberOfAnswer v.answer) told,
-      ap (λ (v : Verdict). placeOfAnswer v.answer) told,
-      ap (λ (v : Verdict). roundOfAnswer v.answer) told,
+      ap (λ (v : Verdict). number_of_answer v.answer) told,
+      ap (λ (v : Verdict). place_of_answer v.answer) told,
+      ap (λ (v : Verdict). round_of_answer v.answer) told,
       ap (λ (v : Verdict). v.reads) told,
     )
   where
-    first-section : parametersSection bytes ≡ Refused DimensionOutOfRange
-    first-section =
-        sym (then-passed (dueOutcome bytes 1 3)
-        (parametersOutcome (transcriptK bytes) (transcriptRate bytes) (transcriptStep bytes))
-        (due-passes bytes 1 3 (omega arith) three
-        (omega (arith, start-next bytes 1 (omega arith), first-start bytes))))
-        ∙ k-refused (transcriptK bytes) (transcriptRate bytes) (transcriptStep bytes) (inr large)
+    first_section : parameters_section bytes ≡ Refused DimensionOutOfRange
+    first_section =
+        sym (then_passed (due_outcome bytes 1 3)
+        (parameters_outcome (transcript_k bytes) (transcript_rate bytes) (transcript_step bytes))
+        (due_passes bytes 1 3 (omega arith) three
+        (omega (arith, start_next bytes 1 (omega arith), first_start bytes))))
+        ∙ k_refused (transcript_k bytes) (transcript_rate bytes) (transcript_step bytes) (inr large)
 
-    front : frontOutcome bytes ≡ Refused DimensionOutOfRange
-    front = sym (then-refused (parametersSection bytes) (listsOutcome bytes) DimensionOutOfRange first-section)
+    front : front_outcome bytes ≡ Refused DimensionOutOfRange
+    front = sym (then_refused (parameters_section bytes) (lists_outcome bytes) DimensionOutOfRange first_section)
 
-pub long-inputs : LongInputs
-long-inputs =
+pub long_inputs : LongInputs
+long_inputs =
     record {
       limit = refl;
       refused = refused;
       passed = passed;
-      by-library = by-library;
-      large-dimension = large-dimension;
-      carried = front-checks;
-      front-numbers = front-number;
+      by_library = by_library;
+      large_dimension = large_dimension;
+      carried = front_checks;
+      front_numbers = front_number;
       numbers = numbers;
       accepted = accepted;
-      front-size = refl;
+      front_size = refl;
       front_ends = front_ends;
-      front-alone = first-front;
+      front_alone = first_front;
       first = first;
     }
 
 -- ---- which numbers are given
 
-rounds-number : (bytes : List ℕ) (o : Outcome) → roundsOutcome (runIn bytes) (queriesIn bytes) 0 ≡ o
-    → TranscriptNumber (numberOfOutcome o)
-rounds-number bytes Done e = inl (omega arith)
-rounds-number bytes (Refused cause) e = inl (omega (arith, refused-by-round (runIn bytes) (queriesIn bytes) cause e))
+rounds_number : (bytes : List ℕ) (o : Outcome) → rounds_outcome (run_in bytes) (queries_in bytes) 0 ≡ o
+    → TranscriptNumber (number_of_outcome o)
+rounds_number bytes Done e = inl (omega arith)
+rounds_number bytes (Refused cause) e = inl (omega (arith, refused_by_round (run_in bytes) (queries_in bytes) cause e))
 
-library-number : (bytes : List ℕ) → TranscriptNumber (numberOfAnswer (transcriptVerdict bytes).answer)
-unfolding transcriptVerdict
-library-number bytes =
-    let rounds = roundsOutcome (runIn bytes) (queriesIn bytes) 0 in
-    subst TranscriptNumber (sym (same_number (and_then (transcriptOutcome bytes) rounds)))
-    (number-then TranscriptNumber (transcriptOutcome bytes) rounds
-    (transcript-number TranscriptNumber (λ n l. inl (omega arith)) (inr refl) bytes)
-    (rounds-number bytes rounds refl))
+library_number : (bytes : List ℕ) → TranscriptNumber (number_of_answer (transcript_verdict bytes).answer)
+unfolding transcript_verdict
+library_number bytes =
+    let rounds = rounds_outcome (run_in bytes) (queries_in bytes) 0 in
+    subst TranscriptNumber (sym (same_number (and_then (transcript_outcome bytes) rounds)))
+    (number_then TranscriptNumber (transcript_outcome bytes) rounds
+    (transcript_number TranscriptNumber (λ n l. inl (omega arith)) (inr refl) bytes)
+    (rounds_number bytes rounds refl))
 
-of-front : (n : ℕ) → FrontNumber n → TranscriptNumber n
-of-front n (inl two) = inl (omega arith)
-of-front n (inr (inl range)) = inl (omega arith)
-of-front n (inr (inr seventeen)) = inr seventeen
+of_front : (n : ℕ) → FrontNumber n → TranscriptNumber n
+of_front n (inl two) = inl (omega arith)
+of_front n (inr (inl range)) = inl (omega arith)
+of_front n (inr (inr seventeen)) = inr seventeen
 
 abbrev ProgramNumber : Verdict → Type 0
 ProgramNumber verdict =
-    TranscriptNumber (numberOfAnswer verdict.answer) ⊎ (numberOfAnswer verdict.answer ≡ 14)
+    TranscriptNumber (number_of_answer verdict.answer) ⊎ (number_of_answer verdict.answer ≡ 14)
 
-program-number : (bytes : List ℕ) → ProgramNumber (inputVerdict bytes)
-program-number bytes = by (leb (length bytes) inputLimit) refl
+program_number : (bytes : List ℕ) → ProgramNumber (input_verdict bytes)
+program_number bytes = by (leb (length bytes) input_limit) refl
   where
-    by : (test : Bool) → leb (length bytes) inputLimit ≡ test → ProgramNumber (inputVerdict bytes)
+    by : (test : Bool) → leb (length bytes) input_limit ≡ test → ProgramNumber (input_verdict bytes)
     by true e =
-        subst ProgramNumber (sym (short bytes (leb-true (length bytes) inputLimit e))) (inl (library-number bytes))
+        subst ProgramNumber (sym (short bytes (leb-true (length bytes) input_limit e))) (inl (library_number bytes))
     by false e =
-        ⊎_elim (λ (f : FrontNumber (numberOfAnswer (inputVerdict bytes).answer)). inl (of-front _ f))
-        (λ (l : numberOfAnswer (inputVerdict bytes).answer ≡ 14). inr l)
-        (numbers bytes (leb-false (length bytes) inputLimit e))
+        ⊎_elim (λ (f : FrontNumber (number_of_answer (input_verdict bytes).answer)). inl (of_front _ f))
+        (λ (l : number_of_answer (input_verdict bytes).answer ≡ 14). inr l)
+        (numbers bytes (leb-false (length bytes) input_limit e))
 
-empty : Tells (inputVerdict []) 1 (At 1) Absent 0
-unfolding inputVerdict transcriptVerdict sectionStart
+empty : Tells (input_verdict []) 1 (At 1) Absent 0
+unfolding input_verdict transcript_verdict section_start
 empty = (refl, refl, refl, refl)
 
-pub transcript-numbers : TranscriptNumbers
-transcript-numbers = record { library = library-number; program = program-number; empty = empty }
+pub transcript_numbers : TranscriptNumbers
+transcript_numbers = record { library = library_number; program = program_number; empty = empty }

@@ -12,30 +12,30 @@ use Rattle.refusal.specs.declared.Outcome.{Outcome}
 use Rattle.refusal.specs.declared.Outcome.TheVariants.{Done, Refused}
 use Rattle.refusal.specs.declared.Position.TheVariants.{At}
 use Rattle.refusal.specs.Checks.{and_then}
-use Rattle.refusal.specs.Numbers.{numberOfOutcome}
-use Rattle.refusal.proofs.Checks.{then-passed, then-refused, number-then, Either, which}
+use Rattle.refusal.specs.Numbers.{number_of_outcome}
+use Rattle.refusal.proofs.Checks.{then_passed, then_refused, number_then, Either, which}
 use Rattle.fri.specs.declared.Answer.TheVariants as answers
 use Rattle.fri.specs.declared.Verdict.{Verdict}
 use Rattle.coset.specs.Answers.{basisOutcome}
-use Rattle.coset.proofs.Independence.{basis-number}
-use Rattle.fri.specs.Layout.{stepAt}
-use Rattle.fri.specs.Checks.{parametersOutcome, firstShared, indicesOutcome}
-use Rattle.fri.specs.Rounds.{roundsOutcome}
+use Rattle.coset.proofs.Independence.{basis_number}
+use Rattle.fri.specs.Layout.{step_at}
+use Rattle.fri.specs.Checks.{parameters_outcome, first_shared, indices_outcome}
+use Rattle.fri.specs.Rounds.{rounds_outcome}
 use Rattle.fri.specs.Demand.{ValidQueries}
-use Rattle.fri.proofs.Checks.{parameters-number, shared_of, shared-refused}
-use Rattle.fri.proofs.Rounds.{refused-by-round}
-use Rattle.fri.proofs.Verdicts.{refused-of}
-use Rattle.transcript.specs.Sections.{sectionStart, sectionCount, transcriptK, transcriptRate, transcriptStep}
-use Rattle.transcript.specs.Sections.{transcriptSteps, transcriptRounds, runIn, queriesIn}
-use Rattle.transcript.specs.Checks.{sectionOutcome, dueOutcome, parametersSection, cosetSection}
-use Rattle.transcript.specs.Checks.{challengesSection, queriesSection, listsOutcome, frontOutcome}
-use Rattle.transcript.specs.Checks.{layersOutcome, transcriptOutcome}
-use Rattle.transcript.specs.Judge.{transcriptVerdict}
+use Rattle.fri.proofs.Checks.{parameters_number, shared_of, shared_refused}
+use Rattle.fri.proofs.Rounds.{refused_by_round}
+use Rattle.fri.proofs.Verdicts.{refused_of}
+use Rattle.transcript.specs.Sections.{section_start, section_count, transcript_k, transcript_rate, transcript_step}
+use Rattle.transcript.specs.Sections.{transcript_steps, transcript_rounds, run_in, queries_in}
+use Rattle.transcript.specs.Checks.{section_outcome, due_outcome, parameters_section, coset_section}
+use Rattle.transcript.specs.Checks.{challenges_section, queries_section, lists_outcome, front_outcome}
+use Rattle.transcript.specs.Checks.{layers_outcome, transcript_outcome}
+use Rattle.transcript.specs.Judge.{transcript_verdict}
 use Rattle.transcript.specs.Theorems.{SharedInBytes}
-use Rattle.transcript.proofs.Checks.{section-done}
-use Rattle.transcript.proofs.Refusals.{section-number, due-number, behind-number}
+use Rattle.transcript.proofs.Checks.{section_done}
+use Rattle.transcript.proofs.Refusals.{section_number, due_number, behind_number}
 use Rattle.transcript.proofs.Carried.{queries-section}
-use Rattle.transcript.proofs.Theorems.{refused-verdict}
+use Rattle.transcript.proofs.Theorems.{refused_verdict}
 
 abbrev Other : ℕ → Type 0
 Other n = n ≢ 17
@@ -51,91 +51,91 @@ module _ (bytes : List ℕ) (query : ℕ) where
   refused = Refused (CosetShared query)
 
   -- checks that give no 17 have passed where 17 comes
-  after : (first rest : Outcome) → Other (numberOfOutcome first) → and_then first rest ≡ refused
+  after : (first rest : Outcome) → Other (number_of_outcome first) → and_then first rest ≡ refused
       → (first ≡ Done) × (rest ≡ refused)
   after first rest other e = by (which first rest (CosetShared query) e)
     where
       by : Either first rest (CosetShared query) → (first ≡ Done) × (rest ≡ refused)
-      by (inl f) = absurd (other (ap numberOfOutcome f))
+      by (inl f) = absurd (other (ap number_of_outcome f))
       by (inr f) = f
 
-  parameters-other : Other (numberOfOutcome (parametersSection bytes))
-  parameters-other =
-      let ranges = parametersOutcome (transcriptK bytes) (transcriptRate bytes) (transcriptStep bytes) in
-      number-then Other (dueOutcome bytes 1 3) ranges (due-number Other low bytes 1 3)
-      (parameters-number Other (low 0 (omega arith)) (λ n l u. small n (omega arith)) (transcriptK bytes)
-      (transcriptRate bytes) (transcriptStep bytes))
+  parameters_other : Other (number_of_outcome (parameters_section bytes))
+  parameters_other =
+      let ranges = parameters_outcome (transcript_k bytes) (transcript_rate bytes) (transcript_step bytes) in
+      number_then Other (due_outcome bytes 1 3) ranges (due_number Other low bytes 1 3)
+      (parameters_number Other (low 0 (omega arith)) (λ n l u. small n (omega arith)) (transcript_k bytes)
+      (transcript_rate bytes) (transcript_step bytes))
 
-  coset-other : Other (numberOfOutcome (cosetSection bytes))
-  coset-other =
-      number-then Other (dueOutcome bytes 2 (transcriptK bytes + 1)) (basisOutcome (runIn bytes).basis)
-      (due-number Other low bytes 2 (transcriptK bytes + 1))
-      (basis-number Other (low 0 (omega arith)) (small 8 (omega arith)) (runIn bytes).basis)
+  coset_other : Other (number_of_outcome (coset_section bytes))
+  coset_other =
+      number_then Other (due_outcome bytes 2 (transcript_k bytes + 1)) (basisOutcome (run_in bytes).basis)
+      (due_number Other low bytes 2 (transcript_k bytes + 1))
+      (basis_number Other (low 0 (omega arith)) (small 8 (omega arith)) (run_in bytes).basis)
 
-  layers-other : Other (numberOfOutcome (layersOutcome bytes))
-  layers-other = behind-number Other low bytes
+  layers_other : Other (number_of_outcome (layers_outcome bytes))
+  layers_other = behind_number Other low bytes
 
   abbrev counted : Bool
-  counted = leb 1 (sectionCount bytes 4) && leb (sectionCount bytes 4) 256
+  counted = leb 1 (section_count bytes 4) && leb (section_count bytes 4) 256
 
-  abbrev firstStep : ℕ
-  firstStep = stepAt (transcriptSteps bytes) 0
+  abbrev first_step : ℕ
+  first_step = step_at (transcript_steps bytes) 0
 
   -- sections 1 to 4, and whatever follows
   abbrev Passed : Type 0
   Passed =
-      (parametersSection bytes ≡ Done) × (cosetSection bytes ≡ Done) × (challengesSection bytes ≡ Done)
-      × (sectionStart bytes 5 ≤ length bytes) × ValidQueries (transcriptK bytes) (queriesIn bytes)
-      × (firstShared firstStep (queriesIn bytes) ≡ At query)
+      (parameters_section bytes ≡ Done) × (coset_section bytes ≡ Done) × (challenges_section bytes ≡ Done)
+      × (section_start bytes 5 ≤ length bytes) × ValidQueries (transcript_k bytes) (queries_in bytes)
+      × (first_shared first_step (queries_in bytes) ≡ At query)
 
-  of-sections : transcriptOutcome bytes ≡ refused → Passed
-  of-sections e =
-      let front : frontOutcome bytes ≡ refused =
-      first (which (frontOutcome bytes) (layersOutcome bytes) (CosetShared query) e) in
-      let one = after (parametersSection bytes) (listsOutcome bytes) parameters-other front in
-      let two = after (cosetSection bytes) (and_then (challengesSection bytes) (queriesSection bytes)) coset-other
+  of_sections : transcript_outcome bytes ≡ refused → Passed
+  of_sections e =
+      let front : front_outcome bytes ≡ refused =
+      first (which (front_outcome bytes) (layers_outcome bytes) (CosetShared query) e) in
+      let one = after (parameters_section bytes) (lists_outcome bytes) parameters_other front in
+      let two = after (coset_section bytes) (and_then (challenges_section bytes) (queries_section bytes)) coset_other
       one.1 in
-      let three = after (challengesSection bytes) (queriesSection bytes)
-      (due-number Other low bytes 3 (transcriptRounds bytes)) two.1 in
-      let four = after (sectionOutcome bytes 4 counted QueryCountOutOfRange)
-      (indicesOutcome (transcriptK bytes) firstStep (queriesIn bytes))
-      (section-number Other low bytes 4 counted QueryCountOutOfRange (small 9 (omega arith))) three.1 in
-      let whole = (section-done bytes 4 counted QueryCountOutOfRange four.0).1 in
-      let told = shared_of (transcriptK bytes) firstStep (queriesIn bytes) query
+      let three = after (challenges_section bytes) (queries_section bytes)
+      (due_number Other low bytes 3 (transcript_rounds bytes)) two.1 in
+      let four = after (section_outcome bytes 4 counted QueryCountOutOfRange)
+      (indices_outcome (transcript_k bytes) first_step (queries_in bytes))
+      (section_number Other low bytes 4 counted QueryCountOutOfRange (small 9 (omega arith))) three.1 in
+      let whole = (section_done bytes 4 counted QueryCountOutOfRange four.0).1 in
+      let told = shared_of (transcript_k bytes) first_step (queries_in bytes) query
       (sym (queries-section bytes whole) ∙ three.1) in
       (one.0, two.0, three.0, whole, told.0, told.1)
     where
-      first : Either (frontOutcome bytes) (layersOutcome bytes) (CosetShared query) → frontOutcome bytes ≡ refused
+      first : Either (front_outcome bytes) (layers_outcome bytes) (CosetShared query) → front_outcome bytes ≡ refused
       first (inl f) = f
-      first (inr f) = absurd (layers-other (ap numberOfOutcome f.1))
+      first (inr f) = absurd (layers_other (ap number_of_outcome f.1))
 
-  of-verdict : (transcriptVerdict bytes).answer ≡ answers.Refused (CosetShared query) → Passed
-  unfolding transcriptVerdict
-  of-verdict e =
-      let rounds = roundsOutcome (runIn bytes) (queriesIn bytes) 0 in
-      of-sections (by (which (transcriptOutcome bytes) rounds (CosetShared query)
-      (refused-of (and_then (transcriptOutcome bytes) rounds) (CosetShared query) e)))
+  of_verdict : (transcript_verdict bytes).answer ≡ answers.Refused (CosetShared query) → Passed
+  unfolding transcript_verdict
+  of_verdict e =
+      let rounds = rounds_outcome (run_in bytes) (queries_in bytes) 0 in
+      of_sections (by (which (transcript_outcome bytes) rounds (CosetShared query)
+      (refused_of (and_then (transcript_outcome bytes) rounds) (CosetShared query) e)))
     where
-      by : Either (transcriptOutcome bytes) (roundsOutcome (runIn bytes) (queriesIn bytes) 0) (CosetShared query)
-          → transcriptOutcome bytes ≡ refused
+      by : Either (transcript_outcome bytes) (rounds_outcome (run_in bytes) (queries_in bytes) 0) (CosetShared query)
+          → transcript_outcome bytes ≡ refused
       by (inl f) = f
       by (inr f) =
           absurd (let impossible : ◌≡◌ {A = ℕ} 17 11 =
-          refused-by-round (runIn bytes) (queriesIn bytes) (CosetShared query) f.1 in omega arith)
+          refused_by_round (run_in bytes) (queries_in bytes) (CosetShared query) f.1 in omega arith)
 
-  to-verdict : Passed → (transcriptVerdict bytes).answer ≡ answers.Refused (CosetShared query)
-  to-verdict p =
+  to_verdict : Passed → (transcript_verdict bytes).answer ≡ answers.Refused (CosetShared query)
+  to_verdict p =
       ap (λ (v : Verdict). v.answer)
-      (refused-verdict bytes (CosetShared query)
-      (sym (then-refused (frontOutcome bytes) (layersOutcome bytes) (CosetShared query) front)))
+      (refused_verdict bytes (CosetShared query)
+      (sym (then_refused (front_outcome bytes) (layers_outcome bytes) (CosetShared query) front)))
     where
-      front : frontOutcome bytes ≡ refused
+      front : front_outcome bytes ≡ refused
       front =
-          sym (then-passed (parametersSection bytes) (listsOutcome bytes) p.0)
-          ∙ sym (then-passed (cosetSection bytes) (and_then (challengesSection bytes) (queriesSection bytes)) p.1)
-          ∙ sym (then-passed (challengesSection bytes) (queriesSection bytes) p.2)
+          sym (then_passed (parameters_section bytes) (lists_outcome bytes) p.0)
+          ∙ sym (then_passed (coset_section bytes) (and_then (challenges_section bytes) (queries_section bytes)) p.1)
+          ∙ sym (then_passed (challenges_section bytes) (queries_section bytes) p.2)
           ∙ queries-section bytes p.3
-          ∙ shared-refused (transcriptK bytes) firstStep (queriesIn bytes) query p.4 p.5
+          ∙ shared_refused (transcript_k bytes) first_step (queries_in bytes) query p.4 p.5
 
-pub shared-in-bytes : SharedInBytes
-shared-in-bytes bytes query = (of-verdict bytes query, to-verdict bytes query)
+pub shared_in_bytes : SharedInBytes
+shared_in_bytes bytes query = (of_verdict bytes query, to_verdict bytes query)

@@ -10,192 +10,192 @@ use lib.ListN.{length, take, drop, take-append-drop}
 use lib.Seq.{length-take-le}
 use borrow.Author.Tests.{le-leb, lt-leb}
 use Rattle.poly.specs.Polynomial.{All}
-use Rattle.poly.proofs.Entries.{of-first}
+use Rattle.poly.proofs.Entries.{of_first}
 use Rattle.refusal.specs.declared.Cause.{Cause}
 use Rattle.refusal.specs.declared.Cause.TheVariants.{RoundCheckFails}
 use Rattle.refusal.specs.declared.Outcome.{Outcome}
 use Rattle.refusal.specs.declared.Outcome.TheVariants.{Done, Refused}
 use Rattle.refusal.specs.Checks.{and_then}
-use Rattle.refusal.specs.Numbers.{numberOfOutcome}
-use Rattle.refusal.proofs.Checks.{then-done, Either, which}
+use Rattle.refusal.specs.Numbers.{number_of_outcome}
+use Rattle.refusal.proofs.Checks.{then_done, Either, which}
 use Rattle.fri.specs.declared.Answer.TheVariants as answers
 use Rattle.fri.specs.declared.Verdict.{Verdict}
 use Rattle.fri.specs.Run.{Run}
 use Rattle.fri.specs.Run as run
-use Rattle.fri.specs.Rounds.{roundsOutcome}
-use Rattle.fri.specs.Reads.{entriesRead}
-use Rattle.fri.specs.Judge.{answer_of, readsAfter, verdictOf}
+use Rattle.fri.specs.Rounds.{rounds_outcome}
+use Rattle.fri.specs.Reads.{entries_read}
+use Rattle.fri.specs.Judge.{answer_of, reads_after, verdict_of}
 use Rattle.fri.specs.Demand.{Any, Accepted, Visits, Elements}
-use Rattle.fri.proofs.Verdicts.{done-of, refused-of}
+use Rattle.fri.proofs.Verdicts.{done_of, refused_of}
 use Rattle.fri.proofs.Soundness.{soundness}
 use Rattle.fri.proofs.Completeness.{completeness}
-use Rattle.transcript.specs.Sections.{runIn, queriesIn}
-use Rattle.transcript.specs.Checks.{transcriptOutcome}
-use Rattle.transcript.specs.Judge.{transcriptVerdict, longestTranscript, inputLimit, longVerdict, inputVerdict}
+use Rattle.transcript.specs.Sections.{run_in, queries_in}
+use Rattle.transcript.specs.Checks.{transcript_outcome}
+use Rattle.transcript.specs.Judge.{transcript_verdict, longest_transcript, input_limit, long_verdict, input_verdict}
 use Rattle.transcript.specs.Theorems.{Carries, JudgingBytes, TranscriptCompleteness}
 use Rattle.transcript.specs.Theorems.{OfRun, TranscriptSoundness, LongTranscripts}
 use Rattle.transcript.proofs.Sections.{run_fits}
-use Rattle.transcript.proofs.Refusals.{transcript-number}
-use Rattle.transcript.proofs.Fronts.{transcript-alone, longest}
-use Rattle.transcript.proofs.Carried.{fit, checks-are, passed-carries}
+use Rattle.transcript.proofs.Refusals.{transcript_number}
+use Rattle.transcript.proofs.Fronts.{transcript_alone, longest}
+use Rattle.transcript.proofs.Carried.{fit, checks_are, passed_carries}
 
 -- ---- where they carry lists
 
-carried : (bytes : List ℕ) → Carries bytes → transcriptVerdict bytes ≡ verdictOf (runIn bytes) (queriesIn bytes)
-unfolding transcriptVerdict
+carried : (bytes : List ℕ) → Carries bytes → transcript_verdict bytes ≡ verdict_of (run_in bytes) (queries_in bytes)
+unfolding transcript_verdict
 carried bytes c =
     ap {B = Verdict}
     (λ (o : Outcome).
     record {
-      answer = answer_of (and_then o (roundsOutcome (runIn bytes) (queriesIn bytes) 0));
-      reads = readsAfter o (entriesRead (runIn bytes) (queriesIn bytes));
+      answer = answer_of (and_then o (rounds_outcome (run_in bytes) (queries_in bytes) 0));
+      reads = reads_after o (entries_read (run_in bytes) (queries_in bytes));
     })
-    (checks-are bytes c)
+    (checks_are bytes c)
 
 -- a section's refusal is the answer, and nothing is read
-pub refused-verdict : (bytes : List ℕ) (cause : Cause) → transcriptOutcome bytes ≡ Refused cause
-    → transcriptVerdict bytes ≡ record { answer = answers.Refused cause; reads = 0 }
-unfolding transcriptVerdict
-refused-verdict bytes cause e =
+pub refused_verdict : (bytes : List ℕ) (cause : Cause) → transcript_outcome bytes ≡ Refused cause
+    → transcript_verdict bytes ≡ record { answer = answers.Refused cause; reads = 0 }
+unfolding transcript_verdict
+refused_verdict bytes cause e =
     ap {B = Verdict}
     (λ (o : Outcome).
     record {
-      answer = answer_of (and_then o (roundsOutcome (runIn bytes) (queriesIn bytes) 0));
-      reads = readsAfter o (entriesRead (runIn bytes) (queriesIn bytes));
+      answer = answer_of (and_then o (rounds_outcome (run_in bytes) (queries_in bytes) 0));
+      reads = reads_after o (entries_read (run_in bytes) (queries_in bytes));
     })
     e
 
 -- ---- which bytes do
 
-passed-sections : (bytes : List ℕ) → (transcriptVerdict bytes).answer ≡ answers.Accepted
-    → transcriptOutcome bytes ≡ Done
-unfolding transcriptVerdict
-passed-sections bytes e =
-    let rounds = roundsOutcome (runIn bytes) (queriesIn bytes) 0 in
-    (then-done (transcriptOutcome bytes) rounds (done-of (and_then (transcriptOutcome bytes) rounds) e)).0
+passed_sections : (bytes : List ℕ) → (transcript_verdict bytes).answer ≡ answers.Accepted
+    → transcript_outcome bytes ≡ Done
+unfolding transcript_verdict
+passed_sections bytes e =
+    let rounds = rounds_outcome (run_in bytes) (queries_in bytes) 0 in
+    (then_done (transcript_outcome bytes) rounds (done_of (and_then (transcript_outcome bytes) rounds) e)).0
 
-accepted-carries : (bytes : List ℕ) → (transcriptVerdict bytes).answer ≡ answers.Accepted → Carries bytes
-accepted-carries bytes e = passed-carries bytes (passed-sections bytes e)
+accepted_carries : (bytes : List ℕ) → (transcript_verdict bytes).answer ≡ answers.Accepted → Carries bytes
+accepted_carries bytes e = passed_carries bytes (passed_sections bytes e)
 
-refused-carries : (bytes : List ℕ) (query round : ℕ)
-    → (transcriptVerdict bytes).answer ≡ answers.Refused (RoundCheckFails query round) → Carries bytes
-unfolding transcriptVerdict
-refused-carries bytes query round e =
-    let rounds = roundsOutcome (runIn bytes) (queriesIn bytes) 0 in
-    by (which (transcriptOutcome bytes) rounds (RoundCheckFails query round)
-    (refused-of (and_then (transcriptOutcome bytes) rounds) (RoundCheckFails query round) e))
+refused_carries : (bytes : List ℕ) (query round : ℕ)
+    → (transcript_verdict bytes).answer ≡ answers.Refused (RoundCheckFails query round) → Carries bytes
+unfolding transcript_verdict
+refused_carries bytes query round e =
+    let rounds = rounds_outcome (run_in bytes) (queries_in bytes) 0 in
+    by (which (transcript_outcome bytes) rounds (RoundCheckFails query round)
+    (refused_of (and_then (transcript_outcome bytes) rounds) (RoundCheckFails query round) e))
   where
-    by : Either (transcriptOutcome bytes) (roundsOutcome (runIn bytes) (queriesIn bytes) 0)
+    by : Either (transcript_outcome bytes) (rounds_outcome (run_in bytes) (queries_in bytes) 0)
         (RoundCheckFails query round) → Carries bytes
     by (inl early) =
         absurd
-        (transcript-number (λ n. n ≢ 11) (λ n l e. omega arith) (λ e. omega arith) bytes (ap numberOfOutcome early))
-    by (inr (passed, late)) = passed-carries bytes passed
+        (transcript_number (λ n. n ≢ 11) (λ n l e. omega arith) (λ e. omega arith) bytes (ap number_of_outcome early))
+    by (inr (passed, late)) = passed_carries bytes passed
 
 -- ---- demand 3
 
-pub transcript-completeness : TranscriptCompleteness
-transcript-completeness bytes h c independent low is valid apart =
-    carried bytes c ∙ ap (λ (r : Run). verdictOf r (queriesIn bytes)) is
-    ∙ completeness (runIn bytes) (queriesIn bytes)
+pub transcript_completeness : TranscriptCompleteness
+transcript_completeness bytes h c independent low is valid apart =
+    carried bytes c ∙ ap (λ (r : Run). verdict_of r (queries_in bytes)) is
+    ∙ completeness (run_in bytes) (queries_in bytes)
     (record {
       parameters = c.parameters;
-      offset-element = (run_fits bytes h).offset;
-      basis-elements = (run_fits bytes h).basis;
-      basis-count = (fit bytes c).basis;
+      offset_element = (run_fits bytes h).offset;
+      basis_elements = (run_fits bytes h).basis;
+      basis_count = (fit bytes c).basis;
       independent = independent;
     })
     (record {
-      word-elements = (run_fits bytes h).word;
+      word_elements = (run_fits bytes h).word;
       word_count = (fit bytes c).word;
-      challenges-elements = (run_fits bytes h).challenges;
-      challenges-count = (fit bytes c).challenges;
+      challenges_elements = (run_fits bytes h).challenges;
+      challenges_count = (fit bytes c).challenges;
     })
     low valid apart
 
-queries-of : List (List ℕ) → List (List ℕ)
-queries-of [] = []
-queries-of (bytes ∷ transcripts) = queriesIn bytes ∷ queries-of transcripts
+queries_of : List (List ℕ) → List (List ℕ)
+queries_of [] = []
+queries_of (bytes ∷ transcripts) = queries_in bytes ∷ queries_of transcripts
 
 -- what is accepted as bytes is accepted as lists
 visited : (sent : Run) (coset : ℕ) (transcripts : List (List ℕ)) → All (OfRun sent) transcripts
-    → Any (λ bytes. ((transcriptVerdict bytes).answer ≡ answers.Accepted) × Visits sent (queriesIn bytes) coset)
+    → Any (λ bytes. ((transcript_verdict bytes).answer ≡ answers.Accepted) × Visits sent (queries_in bytes) coset)
     transcripts
-    → Any (λ queries. Accepted sent queries × Visits sent queries coset) (queries-of transcripts)
-unfolding queries-of
-visited sent coset (bytes ∷ transcripts) of-run (inl (a, v)) =
+    → Any (λ queries. Accepted sent queries × Visits sent queries coset) (queries_of transcripts)
+unfolding queries_of
+visited sent coset (bytes ∷ transcripts) of_run (inl (a, v)) =
     inl (
       sym (ap (λ (x : Verdict). x.answer)
-          (carried bytes (accepted-carries bytes a) ∙ ap (λ (r : Run). verdictOf r (queriesIn bytes)) of-run.0.1))
+          (carried bytes (accepted_carries bytes a) ∙ ap (λ (r : Run). verdict_of r (queries_in bytes)) of_run.0.1))
           ∙ a,
       v,
     )
-visited sent coset (bytes ∷ transcripts) of-run (inr rest) = inr (visited sent coset transcripts of-run.1 rest)
-visited sent coset [] of-run none = none
+visited sent coset (bytes ∷ transcripts) of_run (inr rest) = inr (visited sent coset transcripts of_run.1 rest)
+visited sent coset [] of_run none = none
 
 -- there is a transcript, so that the run has 64-bit numbers
-sent-fits : (sent : Run) (P : List ℕ → Type 0) (transcripts : List (List ℕ)) → All (OfRun sent) transcripts
+sent_fits : (sent : Run) (P : List ℕ → Type 0) (transcripts : List (List ℕ)) → All (OfRun sent) transcripts
     → Any P transcripts → Elements sent
-sent-fits sent P [] of-run none = absurd none
-sent-fits sent P (bytes ∷ transcripts) of-run some = subst Elements of-run.0.1 (run_fits bytes of-run.0.0)
+sent_fits sent P [] of_run none = absurd none
+sent_fits sent P (bytes ∷ transcripts) of_run some = subst Elements of_run.0.1 (run_fits bytes of_run.0.0)
 
-pub transcript-soundness : TranscriptSoundness
-transcript-soundness sent transcripts of-run covers =
-    soundness sent (queries-of transcripts)
-    (sent-fits sent
-    (λ bytes. ((transcriptVerdict bytes).answer ≡ answers.Accepted) × Visits sent (queriesIn bytes) 0) transcripts of-run
-    (covers 0 (pow_pos (sent.k - run.stepIn sent 0))))
-    (λ coset h. visited sent coset transcripts of-run (covers coset h))
+pub transcript_soundness : TranscriptSoundness
+transcript_soundness sent transcripts of_run covers =
+    soundness sent (queries_of transcripts)
+    (sent_fits sent
+    (λ bytes. ((transcript_verdict bytes).answer ≡ answers.Accepted) × Visits sent (queries_in bytes) 0) transcripts of_run
+    (covers 0 (pow_pos (sent.k - run.step_in sent 0))))
+    (λ coset h. visited sent coset transcripts of_run (covers coset h))
 
 -- ---- the program's answer
 
-abbrev program-by : (bytes : List ℕ) (test : Bool) → Verdict
-program-by bytes test = cond test (transcriptVerdict bytes) (longVerdict bytes)
+abbrev program_by : (bytes : List ℕ) (test : Bool) → Verdict
+program_by bytes test = cond test (transcript_verdict bytes) (long_verdict bytes)
 
-pub short : (bytes : List ℕ) → length bytes ≤ inputLimit → inputVerdict bytes ≡ transcriptVerdict bytes
-unfolding inputVerdict
-short bytes h = ap (program-by bytes) (le-leb (length bytes) inputLimit h)
+pub short : (bytes : List ℕ) → length bytes ≤ input_limit → input_verdict bytes ≡ transcript_verdict bytes
+unfolding input_verdict
+short bytes h = ap (program_by bytes) (le-leb (length bytes) input_limit h)
 
-pub long : (bytes : List ℕ) → inputLimit < length bytes → inputVerdict bytes ≡ longVerdict bytes
-unfolding inputVerdict
-long bytes h = ap (program-by bytes) (lt-leb (length bytes) inputLimit h)
+pub long : (bytes : List ℕ) → input_limit < length bytes → input_verdict bytes ≡ long_verdict bytes
+unfolding input_verdict
+long bytes h = ap (program_by bytes) (lt-leb (length bytes) input_limit h)
 
-pub judging-bytes : JudgingBytes
-judging-bytes =
+pub judging_bytes : JudgingBytes
+judging_bytes =
     record {
       carried = carried;
-      early = refused-verdict;
-      accepted = accepted-carries;
-      refused = refused-carries;
+      early = refused_verdict;
+      accepted = accepted_carries;
+      refused = refused_carries;
       short = short;
     }
 
 -- ---- long files
 
 -- a front that is longer than every transcript is refused, and so is all that it begins, for the same cause
-same-refusal : (front bytes : List ℕ) (outcome : Outcome) → transcriptOutcome front ≡ outcome
-    → transcriptOutcome bytes ≡ outcome → longestTranscript < length front
-    → transcriptVerdict front ≡ transcriptVerdict bytes
-same-refusal front bytes Done e f h = absurd (omega (arith, longest front e))
-same-refusal front bytes (Refused cause) e f h = refused-verdict front cause e ∙ sym (refused-verdict bytes cause f)
+same_refusal : (front bytes : List ℕ) (outcome : Outcome) → transcript_outcome front ≡ outcome
+    → transcript_outcome bytes ≡ outcome → longest_transcript < length front
+    → transcript_verdict front ≡ transcript_verdict bytes
+same_refusal front bytes Done e f h = absurd (omega (arith, longest front e))
+same_refusal front bytes (Refused cause) e f h = refused_verdict front cause e ∙ sym (refused_verdict bytes cause f)
 
-first-decide : (bytes : List ℕ) (read : ℕ) → longestTranscript < read
-    → transcriptVerdict (take read bytes) ≡ transcriptVerdict bytes
-first-decide bytes read h =
-    of-first transcriptVerdict read bytes
+first_decide : (bytes : List ℕ) (read : ℕ) → longest_transcript < read
+    → transcript_verdict (take read bytes) ≡ transcript_verdict bytes
+first_decide bytes read h =
+    of_first transcript_verdict read bytes
     (λ (longer : read < length bytes).
     let size : length (take read bytes) ≡ read = length-take-le read bytes (omega arith) in
-    let more : longestTranscript < length (take read bytes) = omega arith in
-    same-refusal (take read bytes) bytes (transcriptOutcome (take read bytes)) refl
-    (ap transcriptOutcome (sym (take-append-drop read bytes))
-    ∙ transcript-alone (take read bytes) (drop read bytes) more)
+    let more : longest_transcript < length (take read bytes) = omega arith in
+    same_refusal (take read bytes) bytes (transcript_outcome (take read bytes)) refl
+    (ap transcript_outcome (sym (take-append-drop read bytes))
+    ∙ transcript_alone (take read bytes) (drop read bytes) more)
     more)
 
-pub long-transcripts : LongTranscripts
-long-transcripts =
+pub long_transcripts : LongTranscripts
+long_transcripts =
     record {
       size = refl;
       longest = longest;
-      accepted = λ bytes e. longest bytes (passed-sections bytes e);
-      first = first-decide;
+      accepted = λ bytes e. longest bytes (passed_sections bytes e);
+      first = first_decide;
     }

@@ -1,68 +1,68 @@
 -- The sections of a transcript, document 01's own format, counted from 1, and the lists that are read from it: 1 k, R,
 -- η; 2 offset and basis; 3 challenges; 4 queries; 5 to 4 + r layers 0 to r - 1; 5 + r the last coefficients.
 use Rattle.std.specs.Prelude.{List, ℕ, zero, suc, ◌+◌, ◌*◌, ◌-◌, get_or, length, drop}
-use Rattle.fri.specs.Layout.{steps_of, joinedLayers}
+use Rattle.fri.specs.Layout.{steps_of, joined_layers}
 use Rattle.fri.specs.Run.{Run}
-use Rattle.transcript.specs.Numerals.{countAt, entries_at}
+use Rattle.transcript.specs.Numerals.{count_at, entries_at}
 
 -- where a section ends that begins there: after its count and as many entries
-abbrev pub sectionEnd : (bytes : List ℕ) (at : ℕ) → ℕ
-sectionEnd bytes at = at + 4 + 8 * countAt bytes at
+abbrev pub section_end : (bytes : List ℕ) (at : ℕ) → ℕ
+section_end bytes at = at + 4 + 8 * count_at bytes at
 
 -- where a section begins
-unfoldable pub sectionStart : (bytes : List ℕ) (section : ℕ) → ℕ
-sectionStart bytes zero = 0
-sectionStart bytes (suc zero) = 0
-sectionStart bytes (suc (suc section)) = sectionEnd bytes (sectionStart bytes (suc section))
+unfoldable pub section_start : (bytes : List ℕ) (section : ℕ) → ℕ
+section_start bytes zero = 0
+section_start bytes (suc zero) = 0
+section_start bytes (suc (suc section)) = section_end bytes (section_start bytes (suc section))
 
 -- the count of a section
-abbrev pub sectionCount : (bytes : List ℕ) (section : ℕ) → ℕ
-sectionCount bytes section = countAt bytes (sectionStart bytes section)
+abbrev pub section_count : (bytes : List ℕ) (section : ℕ) → ℕ
+section_count bytes section = count_at bytes (section_start bytes section)
 
 -- the entries of a section
-abbrev pub sectionEntries : (bytes : List ℕ) (section : ℕ) → List ℕ
-sectionEntries bytes section = entries_at bytes (sectionStart bytes section + 4) (sectionCount bytes section)
+abbrev pub section_entries : (bytes : List ℕ) (section : ℕ) → List ℕ
+section_entries bytes section = entries_at bytes (section_start bytes section + 4) (section_count bytes section)
 
 -- the section of layer i
-abbrev pub layerSection : (i : ℕ) → ℕ
-layerSection i = 5 + i
+abbrev pub layer_section : (i : ℕ) → ℕ
+layer_section i = 5 + i
 
 -- k, the first entry of section 1
-abbrev pub transcriptK : (bytes : List ℕ) → ℕ
-transcriptK bytes = get_or (sectionEntries bytes 1) 0 0
+abbrev pub transcript_k : (bytes : List ℕ) → ℕ
+transcript_k bytes = get_or (section_entries bytes 1) 0 0
 
 -- R, the second
-abbrev pub transcriptRate : (bytes : List ℕ) → ℕ
-transcriptRate bytes = get_or (sectionEntries bytes 1) 1 0
+abbrev pub transcript_rate : (bytes : List ℕ) → ℕ
+transcript_rate bytes = get_or (section_entries bytes 1) 1 0
 
 -- η, the third
-abbrev pub transcriptStep : (bytes : List ℕ) → ℕ
-transcriptStep bytes = get_or (sectionEntries bytes 1) 2 0
+abbrev pub transcript_step : (bytes : List ℕ) → ℕ
+transcript_step bytes = get_or (section_entries bytes 1) 2 0
 
 -- the steps of the rounds
-abbrev pub transcriptSteps : (bytes : List ℕ) → List ℕ
-transcriptSteps bytes = steps_of (transcriptK bytes) (transcriptRate bytes) (transcriptStep bytes)
+abbrev pub transcript_steps : (bytes : List ℕ) → List ℕ
+transcript_steps bytes = steps_of (transcript_k bytes) (transcript_rate bytes) (transcript_step bytes)
 
 -- r, the number of rounds
-abbrev pub transcriptRounds : (bytes : List ℕ) → ℕ
-transcriptRounds bytes = length (transcriptSteps bytes)
+abbrev pub transcript_rounds : (bytes : List ℕ) → ℕ
+transcript_rounds bytes = length (transcript_steps bytes)
 
 -- the run that is read from the bytes, and that they carry where `Carries` holds;
 -- layers 1 to r - 1, joined, are its store
-abbrev pub runIn : (bytes : List ℕ) → Run
-runIn bytes =
+abbrev pub run_in : (bytes : List ℕ) → Run
+run_in bytes =
     record {
-      k = transcriptK bytes;
-      rate = transcriptRate bytes;
-      step = transcriptStep bytes;
-      offset = get_or (sectionEntries bytes 2) 0 0;
-      basis = drop 1 (sectionEntries bytes 2);
-      challenges = sectionEntries bytes 3;
-      word = sectionEntries bytes (layerSection 0);
-      store = joinedLayers (λ i. sectionEntries bytes (layerSection i)) (transcriptRounds bytes - 1);
-      last = sectionEntries bytes (layerSection (transcriptRounds bytes));
+      k = transcript_k bytes;
+      rate = transcript_rate bytes;
+      step = transcript_step bytes;
+      offset = get_or (section_entries bytes 2) 0 0;
+      basis = drop 1 (section_entries bytes 2);
+      challenges = section_entries bytes 3;
+      word = section_entries bytes (layer_section 0);
+      store = joined_layers (λ i. section_entries bytes (layer_section i)) (transcript_rounds bytes - 1);
+      last = section_entries bytes (layer_section (transcript_rounds bytes));
     }
 
 -- the queries that are read from them
-abbrev pub queriesIn : (bytes : List ℕ) → List ℕ
-queriesIn bytes = sectionEntries bytes 4
+abbrev pub queries_in : (bytes : List ℕ) → List ℕ
+queries_in bytes = section_entries bytes 4

@@ -8,38 +8,38 @@ use lib.ListN.{length, take, drop, length-append, length-drop, take-append-drop}
 use lib.Seq.{take_at, drop_at, length-take-le}
 use lib.Bits.{bit_xor, xor_self, xor_zero_r}
 use Rattle.gf64.specs.Field.{IsElement, product}
-use Rattle.gf64.proofs.Xor.{xor_assoc, xor-cancel}
+use Rattle.gf64.proofs.Xor.{xor_assoc, xor_cancel}
 use Rattle.gf64.proofs.Ring.{product_lt}
 use Rattle.poly.specs.Carrier.{gf64}
 use Rattle.poly.specs.Polynomial.{All, plus, scale}
-use Rattle.poly.proofs.AtField.{gf64-laws}
+use Rattle.poly.proofs.AtField.{gf64_laws}
 use Rattle.poly.proofs.Entries.{all_take, all_drop, all_append, all_map, all_of}
 use Rattle.poly.proofs.Evaluation.{length-plus, length-scale, plus-elements}
-use Rattle.transform.specs.Transform.{secondAdded, firstAdded, onPart}
+use Rattle.transform.specs.Transform.{second_added, first_added, on_part}
 
 -- m elements
 abbrev pub Block : (m : ℕ) (s : List ℕ) → Type 0
 Block m s = (length s ≡ m) × All IsElement s
 
-pub block-take : (m n : ℕ) (s : List ℕ) → Block (m + n) s → Block m (take m s)
-block-take m n s h = (length-take-le m s (omega (arith, h.0)), all_take IsElement m s h.1)
+pub block_take : (m n : ℕ) (s : List ℕ) → Block (m + n) s → Block m (take m s)
+block_take m n s h = (length-take-le m s (omega (arith, h.0)), all_take IsElement m s h.1)
 
-pub block-drop : (m n : ℕ) (s : List ℕ) → Block (m + n) s → Block n (drop m s)
-block-drop m n s h = (length-drop m s ∙ omega (arith, h.0), all_drop IsElement m s h.1)
+pub block_drop : (m n : ℕ) (s : List ℕ) → Block (m + n) s → Block n (drop m s)
+block_drop m n s h = (length-drop m s ∙ omega (arith, h.0), all_drop IsElement m s h.1)
 
-pub block-append : (m n : ℕ) (a b : List ℕ) → Block m a → Block n b → Block (m + n) (a ++ b)
-block-append m n a b ha hb =
+pub block_append : (m n : ℕ) (a b : List ℕ) → Block m a → Block n b → Block (m + n) (a ++ b)
+block_append m n a b ha hb =
     (length-append a b ∙ ap₂ ◌+◌ ha.0 hb.0, all_append IsElement a b ha.1 hb.1)
 
-pub block-plus : (m : ℕ) (a b : List ℕ) → Block m a → Block m b → Block m (plus gf64 a b)
-block-plus m a b ha hb = (
+pub block_plus : (m : ℕ) (a b : List ℕ) → Block m a → Block m b → Block m (plus gf64 a b)
+block_plus m a b ha hb = (
   length-plus gf64 a b (le_of_eq (hb.0 ∙ sym ha.0)) ∙ ha.0,
-  plus-elements gf64 IsElement gf64-laws a b ha.1 hb.1,
+  plus-elements gf64 IsElement gf64_laws a b ha.1 hb.1,
 )
 
-pub block-scale : (m c : ℕ) (a : List ℕ) → length a ≡ m → Block m (scale gf64 c a)
+pub block_scale : (m c : ℕ) (a : List ℕ) → length a ≡ m → Block m (scale gf64 c a)
 unfolding scale
-block-scale m c a h = (
+block_scale m c a h = (
   length-scale gf64 c a ∙ h,
   all_map (λ x. record {}) IsElement (product c) (λ x u. product_lt c x) a (all_of (λ x. record {}) (λ x. record {})
       a),
@@ -47,56 +47,56 @@ block-scale m c a h = (
 
 -- ---- a step on halves, of the halves
 
-pub second-of : (c m : ℕ) (a b : List ℕ) → length a ≡ m
-    → secondAdded c m (a ++ b) ≡ plus gf64 a (scale gf64 c b) ++ b
-unfolding secondAdded
-second-of c m a b h =
+pub second_of : (c m : ℕ) (a b : List ℕ) → length a ≡ m
+    → second_added c m (a ++ b) ≡ plus gf64 a (scale gf64 c b) ++ b
+unfolding second_added
+second_of c m a b h =
     ap₂ (λ (x y : List ℕ). plus gf64 x (scale gf64 c y) ++ y) (take_at a b m h) (drop_at a b m h)
 
-pub first_of : (m : ℕ) (a b : List ℕ) → length a ≡ m → firstAdded m (a ++ b) ≡ a ++ plus gf64 a b
-unfolding firstAdded
+pub first_of : (m : ℕ) (a b : List ℕ) → length a ≡ m → first_added m (a ++ b) ≡ a ++ plus gf64 a b
+unfolding first_added
 first_of m a b h = ap₂ (λ (x y : List ℕ). x ++ plus gf64 x y) (take_at a b m h) (drop_at a b m h)
 
-pub second_block : (c m : ℕ) (s : List ℕ) → Block (m + m) s → Block (m + m) (secondAdded c m s)
-unfolding secondAdded
+pub second_block : (c m : ℕ) (s : List ℕ) → Block (m + m) s → Block (m + m) (second_added c m s)
+unfolding second_added
 second_block c m s h =
-    block-append m m (plus gf64 (take m s) (scale gf64 c (drop m s))) (drop m s)
-    (block-plus m (take m s) (scale gf64 c (drop m s)) (block-take m m s h)
-    (block-scale m c (drop m s) (block-drop m m s h).0))
-    (block-drop m m s h)
+    block_append m m (plus gf64 (take m s) (scale gf64 c (drop m s))) (drop m s)
+    (block_plus m (take m s) (scale gf64 c (drop m s)) (block_take m m s h)
+    (block_scale m c (drop m s) (block_drop m m s h).0))
+    (block_drop m m s h)
 
-pub first_block : (m : ℕ) (s : List ℕ) → Block (m + m) s → Block (m + m) (firstAdded m s)
-unfolding firstAdded
+pub first_block : (m : ℕ) (s : List ℕ) → Block (m + m) s → Block (m + m) (first_added m s)
+unfolding first_added
 first_block m s h =
-    block-append m m (take m s) (plus gf64 (take m s) (drop m s)) (block-take m m s h)
-    (block-plus m (take m s) (drop m s) (block-take m m s h) (block-drop m m s h))
+    block_append m m (take m s) (plus gf64 (take m s) (drop m s)) (block_take m m s h)
+    (block_plus m (take m s) (drop m s) (block_take m m s h) (block_drop m m s h))
 
 -- ---- twice
 
 cancel_right : (a x : ℕ) → bit_xor (bit_xor a x) x ≡ a
 cancel_right a x = xor_assoc a x x ∙ ap (bit_xor a) (xor_self x) ∙ xor_zero_r a
 
-plus-twice : (a x : List ℕ) → length x ≡ length a → plus gf64 (plus gf64 a x) x ≡ a
+plus_twice : (a x : List ℕ) → length x ≡ length a → plus gf64 (plus gf64 a x) x ≡ a
 unfolding plus
-plus-twice [] [] h = refl
-plus-twice [] (x ∷ xs) h = absurd (omega arith)
-plus-twice (a ∷ rest) [] h = absurd (omega arith)
-plus-twice (a ∷ rest) (x ∷ xs) h =
-    ap₂ (λ (b : ℕ) (l : List ℕ). b ∷ l) (cancel_right a x) (plus-twice rest xs (omega arith))
+plus_twice [] [] h = refl
+plus_twice [] (x ∷ xs) h = absurd (omega arith)
+plus_twice (a ∷ rest) [] h = absurd (omega arith)
+plus_twice (a ∷ rest) (x ∷ xs) h =
+    ap₂ (λ (b : ℕ) (l : List ℕ). b ∷ l) (cancel_right a x) (plus_twice rest xs (omega arith))
 
-plus-cancel : (a b : List ℕ) → length a ≡ length b → plus gf64 a (plus gf64 a b) ≡ b
+plus_cancel : (a b : List ℕ) → length a ≡ length b → plus gf64 a (plus gf64 a b) ≡ b
 unfolding plus
-plus-cancel [] [] h = refl
-plus-cancel [] (b ∷ bs) h = absurd (omega arith)
-plus-cancel (a ∷ rest) [] h = absurd (omega arith)
-plus-cancel (a ∷ rest) (b ∷ bs) h =
-    ap₂ (λ (c : ℕ) (l : List ℕ). c ∷ l) (xor-cancel a b) (plus-cancel rest bs (omega arith))
+plus_cancel [] [] h = refl
+plus_cancel [] (b ∷ bs) h = absurd (omega arith)
+plus_cancel (a ∷ rest) [] h = absurd (omega arith)
+plus_cancel (a ∷ rest) (b ∷ bs) h =
+    ap₂ (λ (c : ℕ) (l : List ℕ). c ∷ l) (xor_cancel a b) (plus_cancel rest bs (omega arith))
 
-pub second-twice : (c m : ℕ) (s : List ℕ) → Block (m + m) s → secondAdded c m (secondAdded c m s) ≡ s
-unfolding secondAdded
-second-twice c m s h =
-    second-of c m (plus gf64 a (scale gf64 c b)) b (block-plus m a (scale gf64 c b) ha scaled).0
-    ∙ ap (λ (l : List ℕ). l ++ b) (plus-twice a (scale gf64 c b) (scaled.0 ∙ sym ha.0))
+pub second_twice : (c m : ℕ) (s : List ℕ) → Block (m + m) s → second_added c m (second_added c m s) ≡ s
+unfolding second_added
+second_twice c m s h =
+    second_of c m (plus gf64 a (scale gf64 c b)) b (block_plus m a (scale gf64 c b) ha scaled).0
+    ∙ ap (λ (l : List ℕ). l ++ b) (plus_twice a (scale gf64 c b) (scaled.0 ∙ sym ha.0))
     ∙ take-append-drop m s
   where
     a : List ℕ
@@ -106,24 +106,24 @@ second-twice c m s h =
     b = drop m s
 
     ha : Block m a
-    ha = block-take m m s h
+    ha = block_take m m s h
 
     scaled : Block m (scale gf64 c b)
-    scaled = block-scale m c b (block-drop m m s h).0
+    scaled = block_scale m c b (block_drop m m s h).0
 
-pub first-twice : (m : ℕ) (s : List ℕ) → Block (m + m) s → firstAdded m (firstAdded m s) ≡ s
-unfolding firstAdded
-first-twice m s h =
-    first_of m (take m s) (plus gf64 (take m s) (drop m s)) (block-take m m s h).0
+pub first_twice : (m : ℕ) (s : List ℕ) → Block (m + m) s → first_added m (first_added m s) ≡ s
+unfolding first_added
+first_twice m s h =
+    first_of m (take m s) (plus gf64 (take m s) (drop m s)) (block_take m m s h).0
     ∙ ap (λ (l : List ℕ). take m s ++ l)
-    (plus-cancel (take m s) (drop m s) ((block-take m m s h).0 ∙ sym (block-drop m m s h).0))
+    (plus_cancel (take m s) (drop m s) ((block_take m m s h).0 ∙ sym (block_drop m m s h).0))
     ∙ take-append-drop m s
 
 -- ---- a step on a part
 
 pub part_of : (p n : ℕ) (f : List ℕ → List ℕ) (a b c : List ℕ) → length a ≡ p → length b ≡ n
-    → onPart p n f (a ++ (b ++ c)) ≡ a ++ (f b ++ c)
-unfolding onPart
+    → on_part p n f (a ++ (b ++ c)) ≡ a ++ (f b ++ c)
+unfolding on_part
 part_of p n f a b c ha hb =
     ap₂ (λ (x y : List ℕ). x ++ (f (take n y) ++ drop n y)) (take_at a (b ++ c) p ha) (drop_at a (b ++ c) p ha)
     ∙ ap₂ (λ (x y : List ℕ). a ++ (f x ++ y)) (take_at b c n hb) (drop_at b c n hb)
@@ -145,24 +145,24 @@ module _ (p n r : ℕ) (f : List ℕ → List ℕ) (keeps : (b : List ℕ) → B
 
   in-front : Block p before
   unfolding before
-  in-front = block-take p (n + r) s h
+  in-front = block_take p (n + r) s h
 
   within : Block n part
   unfolding part
-  within = block-take n r (drop p s) (block-drop p (n + r) s h)
+  within = block_take n r (drop p s) (block_drop p (n + r) s h)
 
   behind : Block r after
   unfolding after
-  behind = block-drop n r (drop p s) (block-drop p (n + r) s h)
+  behind = block_drop n r (drop p s) (block_drop p (n + r) s h)
 
-  pub part-block : Block (p + (n + r)) (onPart p n f s)
-  unfolding onPart before part after
-  part-block =
-      block-append p (n + r) before (f part ++ after) in-front
-      (block-append n r (f part) after (keeps part within) behind)
+  pub part_block : Block (p + (n + r)) (on_part p n f s)
+  unfolding on_part before part after
+  part_block =
+      block_append p (n + r) before (f part ++ after) in-front
+      (block_append n r (f part) after (keeps part within) behind)
 
-  pub part-twice : ((b : List ℕ) → Block n b → f (f b) ≡ b) → onPart p n f (onPart p n f s) ≡ s
-  unfolding onPart before part after
-  part-twice undoes =
+  pub part_twice : ((b : List ℕ) → Block n b → f (f b) ≡ b) → on_part p n f (on_part p n f s) ≡ s
+  unfolding on_part before part after
+  part_twice undoes =
       part_of p n f before (f part) after in-front.0 (keeps part within).0
       ∙ ap (λ (l : List ℕ). before ++ (l ++ after)) (undoes part within) ∙ sym (parts p n s)

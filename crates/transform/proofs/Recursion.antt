@@ -11,54 +11,54 @@ use lib.Seq.{take_at, drop_at, length-take-le}
 use lib.Bits.{xor_zero_r}
 use borrow.Rule.Slice.PartMut.{mid_of, put_mid, same_len_mid}
 use Rattle.gf64.specs.Field.{sum, product}
-use Rattle.gf64.proofs.Ring.{product-zero-r}
+use Rattle.gf64.proofs.Ring.{product-zero_r}
 use Rattle.poly.specs.Carrier.{gf64}
 use Rattle.poly.specs.Polynomial.{Zeros, DegreeBelow, plus, scale}
-use Rattle.poly.proofs.Parts.{mid-suffix, put-suffix}
+use Rattle.poly.proofs.Parts.{mid_suffix, put_suffix}
 use Rattle.poly.proofs.Entries.{all_take, all_drop}
-use Rattle.transform.specs.Transform.{secondAdded, firstAdded, quarters, quartersBack, onPart}
-use Rattle.transform.specs.Transform.{regrouped, regroupedBack, splitInHalves, joinedFromHalves}
+use Rattle.transform.specs.Transform.{second_added, first_added, quarters, quarters_back, on_part}
+use Rattle.transform.specs.Transform.{regrouped, regrouped_back, split_in_halves, joined_from_halves}
 
 -- ---- the second half lent and given back, where the first is `front`
 
-pub back-half : (half : ℕ) (front rest : List ℕ) → length front ≡ half
+pub back_half : (half : ℕ) (front rest : List ℕ) → length front ≡ half
     → mid_of half (length (front ++ rest) - half) (front ++ rest) ≡ rest
-back-half half front rest h = mid-suffix half (front ++ rest) ∙ drop_at front rest half h
+back_half half front rest h = mid_suffix half (front ++ rest) ∙ drop_at front rest half h
 
 pub put_back : (half : ℕ) (front rest changed : List ℕ) → length front ≡ half
     → put_mid half (length (front ++ rest) - half) (front ++ rest) changed ≡ front ++ changed
 put_back half front rest changed h =
-    put-suffix half (front ++ rest) changed (omega (arith, length-append front rest, h))
+    put_suffix half (front ++ rest) changed (omega (arith, length-append front rest, h))
     ∙ ap (λ (l : List ℕ). l ++ changed) (take_at front rest half h)
 
 -- both halves changed
-pub halves-changed : (half : ℕ) (held front changed : List ℕ) (f g : List ℕ → List ℕ) → length front ≡ half
+pub halves_changed : (half : ℕ) (held front changed : List ℕ) (f g : List ℕ → List ℕ) → length front ≡ half
     → front ≡ f (take half held)
     → changed ≡ g (mid_of half (length (front ++ drop half held) - half) (front ++ drop half held))
     → put_mid half (length (front ++ drop half held) - half) (front ++ drop half held) changed
     ≡ f (take half held) ++ g (drop half held)
-halves-changed half held front changed f g h e₁ e₂ =
+halves_changed half held front changed f g h e₁ e₂ =
     put_back half front (drop half held) changed h
-    ∙ ap₂ (λ (x y : List ℕ). x ++ y) e₁ (e₂ ∙ ap g (back-half half front (drop half held) h))
+    ∙ ap₂ (λ (x y : List ℕ). x ++ y) e₁ (e₂ ∙ ap g (back_half half front (drop half held) h))
 
-pub halves-length : (half : ℕ) (held front changed : List ℕ) → length front ≡ half → length held ≡ half + half
+pub halves_length : (half : ℕ) (held front changed : List ℕ) → length front ≡ half → length held ≡ half + half
     → length changed ≡ length (mid_of half (length (front ++ drop half held) - half) (front ++ drop half held))
     → length (put_mid half (length (front ++ drop half held) - half) (front ++ drop half held) changed) ≡ length held
-halves-length half held front changed h e same =
+halves_length half held front changed h e same =
     same_len_mid half (length (front ++ drop half held) - half) (front ++ drop half held) changed same
     ∙ length-append front (drop half held) ∙ omega (arith, length-drop half held)
 
 -- the length of the second half
-pub second-length : (half : ℕ) (held front : List ℕ) → length front ≡ half → length held ≡ half + half
+pub second_length : (half : ℕ) (held front : List ℕ) → length front ≡ half → length held ≡ half + half
     → length (mid_of half (length (front ++ drop half held) - half) (front ++ drop half held)) ≡ half
-second-length half held front h e =
-    ap length (back-half half front (drop half held) h) ∙ length-drop half held ∙ omega arith
+second_length half held front h e =
+    ap length (back_half half front (drop half held) h) ∙ length-drop half held ∙ omega arith
 
 -- ---- lengths
 
-pub half-power : (n l : ℕ) → 0 < n → l ≡ 2 ^ n → l / 2 ≡ 2 ^ (n - 1)
-half-power zero l h e = absurd (omega arith)
-half-power (suc n) l h e = by l n e ∙ ap (λ (m : ℕ). 2 ^ m) less
+pub half_power : (n l : ℕ) → 0 < n → l ≡ 2 ^ n → l / 2 ≡ 2 ^ (n - 1)
+half_power zero l h e = absurd (omega arith)
+half_power (suc n) l h e = by l n e ∙ ap (λ (m : ℕ). 2 ^ m) less
   where
     by : (l n : ℕ) → l ≡ 2 ^ suc n → l / 2 ≡ 2 ^ n
     by l n e = omega arith
@@ -68,21 +68,21 @@ half-power (suc n) l h e = by l n e ∙ ap (λ (m : ℕ). 2 ^ m) less
 
 -- ---- regrouping
 
-pub regrouped-few : (lower upper : ℕ) (s : List ℕ) → upper < 2 → s ≡ regrouped lower upper s
+pub regrouped_few : (lower upper : ℕ) (s : List ℕ) → upper < 2 → s ≡ regrouped lower upper s
 unfolding regrouped
-regrouped-few lower zero s h = refl
-regrouped-few lower (suc zero) s h = refl
-regrouped-few lower (suc (suc upper)) s h = absurd (omega arith)
+regrouped_few lower zero s h = refl
+regrouped_few lower (suc zero) s h = refl
+regrouped_few lower (suc (suc upper)) s h = absurd (omega arith)
 
-pub regrouped-back-few : (lower upper : ℕ) (s : List ℕ) → upper < 2 → s ≡ regroupedBack lower upper s
-unfolding regroupedBack
-regrouped-back-few lower zero s h = refl
-regrouped-back-few lower (suc zero) s h = refl
-regrouped-back-few lower (suc (suc upper)) s h = absurd (omega arith)
+pub regrouped_back_few : (lower upper : ℕ) (s : List ℕ) → upper < 2 → s ≡ regrouped_back lower upper s
+unfolding regrouped_back
+regrouped_back_few lower zero s h = refl
+regrouped_back_few lower (suc zero) s h = refl
+regrouped_back_few lower (suc (suc upper)) s h = absurd (omega arith)
 
 -- 2^(upper + lower) entries in quarters and halves
-quarter-of : (upper lower l : ℕ) → l ≡ 2 ^ (suc (suc upper) + lower) → l / 4 ≡ 2 ^ (upper + lower)
-quarter-of upper lower l e = by (upper + lower) (e ∙ ap (λ (n : ℕ). 2 ^ n) (omega arith))
+quarter_of : (upper lower l : ℕ) → l ≡ 2 ^ (suc (suc upper) + lower) → l / 4 ≡ 2 ^ (upper + lower)
+quarter_of upper lower l e = by (upper + lower) (e ∙ ap (λ (n : ℕ). 2 ^ n) (omega arith))
   where
     by : (n : ℕ) → l ≡ 2 ^ suc (suc n) → l / 4 ≡ 2 ^ n
     by n e = omega arith
@@ -94,10 +94,10 @@ half_of upper lower l e = by (suc upper + lower) (e ∙ ap (λ (n : ℕ). 2 ^ n)
     by n e = omega arith
 
 -- what the code asks of the lengths
-pub four-divides : (lower upper : ℕ) (l : ℕ) → 2 ≤ upper → l ≡ 2 ^ (upper + lower) → l % 4 ≡ 0
-four-divides lower zero l h e = absurd (omega arith)
-four-divides lower (suc zero) l h e = absurd (omega arith)
-four-divides lower (suc (suc upper)) l h e = by (upper + lower) (e ∙ ap (λ (n : ℕ). 2 ^ n) (omega arith))
+pub four_divides : (lower upper : ℕ) (l : ℕ) → 2 ≤ upper → l ≡ 2 ^ (upper + lower) → l % 4 ≡ 0
+four_divides lower zero l h e = absurd (omega arith)
+four_divides lower (suc zero) l h e = absurd (omega arith)
+four_divides lower (suc (suc upper)) l h e = by (upper + lower) (e ∙ ap (λ (n : ℕ). 2 ^ n) (omega arith))
   where
     by : (n : ℕ) → l ≡ 2 ^ suc (suc n) → l % 4 ≡ 0
     by n e = omega arith
@@ -110,61 +110,61 @@ half_length lower (suc (suc upper)) l h e = half_of upper lower l e ∙ ap (λ (
     less : suc upper ≡ suc (suc upper) - 1
     less = omega arith
 
-pub even-length : (lower upper : ℕ) (l : ℕ) → 2 ≤ upper → l ≡ 2 ^ (upper + lower) → l ≡ l / 2 + l / 2
-even-length lower upper l h e = omega (arith, four-divides lower upper l h e)
+pub even_length : (lower upper : ℕ) (l : ℕ) → 2 ≤ upper → l ≡ 2 ^ (upper + lower) → l ≡ l / 2 + l / 2
+even_length lower upper l h e = omega (arith, four_divides lower upper l h e)
 
-pub regrouped-next : (lower upper : ℕ) (s : List ℕ) → 2 ≤ upper → length s ≡ 2 ^ (upper + lower)
+pub regrouped_next : (lower upper : ℕ) (s : List ℕ) → 2 ≤ upper → length s ≡ 2 ^ (upper + lower)
     → let half = length s / 2 in
     let t = quarters (length s / 4) s in
     regrouped lower (upper - 1) (take half t) ++ regrouped lower (upper - 1) (drop half t) ≡ regrouped lower upper s
 unfolding regrouped
-regrouped-next lower zero s h e = absurd (omega arith)
-regrouped-next lower (suc zero) s h e = absurd (omega arith)
-regrouped-next lower (suc (suc upper)) s h e =
+regrouped_next lower zero s h e = absurd (omega arith)
+regrouped_next lower (suc zero) s h e = absurd (omega arith)
+regrouped_next lower (suc (suc upper)) s h e =
     ap (λ (n : ℕ). regrouped lower n (take (length s / 2) (quarters (length s / 4) s))
     ++ regrouped lower n (drop (length s / 2) (quarters (length s / 4) s))) less
     ∙ ap₂ (λ (m q : ℕ). regrouped lower (suc upper) (take m (quarters q s))
     ++ regrouped lower (suc upper) (drop m (quarters q s))) (half_of upper lower (length s) e)
-    (quarter-of upper lower (length s) e)
+    (quarter_of upper lower (length s) e)
   where
     less : suc (suc upper) - 1 ≡ suc upper
     less = omega arith
 
-pub regrouped-back-next : (lower upper : ℕ) (s : List ℕ) → 2 ≤ upper → length s ≡ 2 ^ (upper + lower)
+pub regrouped_back_next : (lower upper : ℕ) (s : List ℕ) → 2 ≤ upper → length s ≡ 2 ^ (upper + lower)
     → let half = length s / 2 in
-    quartersBack (length s / 4)
-    (regroupedBack lower (upper - 1) (take half s) ++ regroupedBack lower (upper - 1) (drop half s))
-    ≡ regroupedBack lower upper s
-unfolding regroupedBack
-regrouped-back-next lower zero s h e = absurd (omega arith)
-regrouped-back-next lower (suc zero) s h e = absurd (omega arith)
-regrouped-back-next lower (suc (suc upper)) s h e =
-    ap (λ (n : ℕ). quartersBack (length s / 4)
-    (regroupedBack lower n (take (length s / 2) s) ++ regroupedBack lower n (drop (length s / 2) s))) less
-    ∙ ap₂ (λ (m q : ℕ). quartersBack q
-    (regroupedBack lower (suc upper) (take m s) ++ regroupedBack lower (suc upper) (drop m s)))
-    (half_of upper lower (length s) e) (quarter-of upper lower (length s) e)
+    quarters_back (length s / 4)
+    (regrouped_back lower (upper - 1) (take half s) ++ regrouped_back lower (upper - 1) (drop half s))
+    ≡ regrouped_back lower upper s
+unfolding regrouped_back
+regrouped_back_next lower zero s h e = absurd (omega arith)
+regrouped_back_next lower (suc zero) s h e = absurd (omega arith)
+regrouped_back_next lower (suc (suc upper)) s h e =
+    ap (λ (n : ℕ). quarters_back (length s / 4)
+    (regrouped_back lower n (take (length s / 2) s) ++ regrouped_back lower n (drop (length s / 2) s))) less
+    ∙ ap₂ (λ (m q : ℕ). quarters_back q
+    (regrouped_back lower (suc upper) (take m s) ++ regrouped_back lower (suc upper) (drop m s)))
+    (half_of upper lower (length s) e) (quarter_of upper lower (length s) e)
   where
     less : suc (suc upper) - 1 ≡ suc upper
     less = omega arith
 
 -- ---- splitting and joining
 
-pub split-none : (z : ℕ → ℕ → ℕ) (basis : List ℕ) (n offset : ℕ) (s : List ℕ) → n ≡ 0
-    → s ≡ splitInHalves z basis n offset s
-unfolding splitInHalves
-split-none z basis zero offset s h = refl
-split-none z basis (suc n) offset s h = absurd (omega arith)
+pub split_none : (z : ℕ → ℕ → ℕ) (basis : List ℕ) (n offset : ℕ) (s : List ℕ) → n ≡ 0
+    → s ≡ split_in_halves z basis n offset s
+unfolding split_in_halves
+split_none z basis zero offset s h = refl
+split_none z basis (suc n) offset s h = absurd (omega arith)
 
-pub join-none : (z : ℕ → ℕ → ℕ) (basis : List ℕ) (n offset : ℕ) (s : List ℕ) → n ≡ 0
-    → s ≡ joinedFromHalves z basis n offset s
-unfolding joinedFromHalves
-join-none z basis zero offset s h = refl
-join-none z basis (suc n) offset s h = absurd (omega arith)
+pub join_none : (z : ℕ → ℕ → ℕ) (basis : List ℕ) (n offset : ℕ) (s : List ℕ) → n ≡ 0
+    → s ≡ joined_from_halves z basis n offset s
+unfolding joined_from_halves
+join_none z basis zero offset s h = refl
+join_none z basis (suc n) offset s h = absurd (omega arith)
 
-pub two-of-power : (n l : ℕ) → 0 < n → l ≡ 2 ^ n → l ≡ 2 ^ (n - 1) + 2 ^ (n - 1)
-two-of-power zero l h e = absurd (omega arith)
-two-of-power (suc n) l h e = by l n e ∙ ap (λ (m : ℕ). 2 ^ m + 2 ^ m) less
+pub two_of_power : (n l : ℕ) → 0 < n → l ≡ 2 ^ n → l ≡ 2 ^ (n - 1) + 2 ^ (n - 1)
+two_of_power zero l h e = absurd (omega arith)
+two_of_power (suc n) l h e = by l n e ∙ ap (λ (m : ℕ). 2 ^ m + 2 ^ m) less
   where
     by : (l n : ℕ) → l ≡ 2 ^ suc n → l ≡ 2 ^ n + 2 ^ n
     by l n e = omega arith
@@ -172,65 +172,65 @@ two-of-power (suc n) l h e = by l n e ∙ ap (λ (m : ℕ). 2 ^ m + 2 ^ m) less
     less : n ≡ suc n - 1
     less = omega arith
 
-pub split-next : (z : ℕ → ℕ → ℕ) (basis : List ℕ) (n offset half : ℕ) (s : List ℕ) → 0 < n → half ≡ 2 ^ (n - 1)
-    → let t = firstAdded (2 ^ (n - 1)) (secondAdded (z (n - 1) offset) (2 ^ (n - 1)) s) in
-    splitInHalves z basis (n - 1) offset (take half t)
-    ++ splitInHalves z basis (n - 1) (sum offset (get_or basis (n - 1) 0)) (drop half t)
-    ≡ splitInHalves z basis n offset s
-unfolding splitInHalves
-split-next z basis zero offset half s h e = absurd (omega arith)
-split-next z basis (suc n) offset half s h e =
+pub split_next : (z : ℕ → ℕ → ℕ) (basis : List ℕ) (n offset half : ℕ) (s : List ℕ) → 0 < n → half ≡ 2 ^ (n - 1)
+    → let t = first_added (2 ^ (n - 1)) (second_added (z (n - 1) offset) (2 ^ (n - 1)) s) in
+    split_in_halves z basis (n - 1) offset (take half t)
+    ++ split_in_halves z basis (n - 1) (sum offset (get_or basis (n - 1) 0)) (drop half t)
+    ≡ split_in_halves z basis n offset s
+unfolding split_in_halves
+split_next z basis zero offset half s h e = absurd (omega arith)
+split_next z basis (suc n) offset half s h e =
     ap (at half) less ∙ ap (λ (m : ℕ). at m n) (e ∙ ap (λ (j : ℕ). 2 ^ j) less)
   where
     at : (m j : ℕ) → List ℕ
     at m j =
-        splitInHalves z basis j offset (take m (firstAdded (2 ^ j) (secondAdded (z j offset) (2 ^ j) s)))
-        ++ splitInHalves z basis j (sum offset (get_or basis j 0))
-        (drop m (firstAdded (2 ^ j) (secondAdded (z j offset) (2 ^ j) s)))
+        split_in_halves z basis j offset (take m (first_added (2 ^ j) (second_added (z j offset) (2 ^ j) s)))
+        ++ split_in_halves z basis j (sum offset (get_or basis j 0))
+        (drop m (first_added (2 ^ j) (second_added (z j offset) (2 ^ j) s)))
 
     less : suc n - 1 ≡ n
     less = omega arith
 
-pub join-next : (z : ℕ → ℕ → ℕ) (basis : List ℕ) (n offset half : ℕ) (s : List ℕ) → 0 < n → half ≡ 2 ^ (n - 1)
-    → secondAdded (z (n - 1) offset) (2 ^ (n - 1)) (firstAdded (2 ^ (n - 1))
-    (joinedFromHalves z basis (n - 1) offset (take half s)
-    ++ joinedFromHalves z basis (n - 1) (sum offset (get_or basis (n - 1) 0)) (drop half s)))
-    ≡ joinedFromHalves z basis n offset s
-unfolding joinedFromHalves
-join-next z basis zero offset half s h e = absurd (omega arith)
-join-next z basis (suc n) offset half s h e =
+pub join_next : (z : ℕ → ℕ → ℕ) (basis : List ℕ) (n offset half : ℕ) (s : List ℕ) → 0 < n → half ≡ 2 ^ (n - 1)
+    → second_added (z (n - 1) offset) (2 ^ (n - 1)) (first_added (2 ^ (n - 1))
+    (joined_from_halves z basis (n - 1) offset (take half s)
+    ++ joined_from_halves z basis (n - 1) (sum offset (get_or basis (n - 1) 0)) (drop half s)))
+    ≡ joined_from_halves z basis n offset s
+unfolding joined_from_halves
+join_next z basis zero offset half s h e = absurd (omega arith)
+join_next z basis (suc n) offset half s h e =
     ap (at half) less ∙ ap (λ (m : ℕ). at m n) (e ∙ ap (λ (j : ℕ). 2 ^ j) less)
   where
     at : (m j : ℕ) → List ℕ
     at m j =
-        secondAdded (z j offset) (2 ^ j) (firstAdded (2 ^ j)
-        (joinedFromHalves z basis j offset (take m s)
-        ++ joinedFromHalves z basis j (sum offset (get_or basis j 0)) (drop m s)))
+        second_added (z j offset) (2 ^ j) (first_added (2 ^ j)
+        (joined_from_halves z basis j offset (take m s)
+        ++ joined_from_halves z basis j (sum offset (get_or basis j 0)) (drop m s)))
 
     less : suc n - 1 ≡ n
     less = omega arith
 
 -- ---- where the second half is zero
 
-le-or-lt : (j i : ℕ) → (j ≤ i) ⊎ (i < j)
-le-or-lt zero i = inl (omega arith)
-le-or-lt (suc j) zero = inr (omega arith)
-le-or-lt (suc j) (suc i) = ⊎_elim (λ l. inl (omega arith)) (λ l. inr (omega arith)) (le-or-lt j i)
+le_or_lt : (j i : ℕ) → (j ≤ i) ⊎ (i < j)
+le_or_lt zero i = inl (omega arith)
+le_or_lt (suc j) zero = inr (omega arith)
+le_or_lt (suc j) (suc i) = ⊎_elim (λ l. inl (omega arith)) (λ l. inr (omega arith)) (le_or_lt j i)
 
-plus-zeros : (a z : List ℕ) → Zeros gf64 z → length z ≡ length a → plus gf64 a z ≡ a
+plus_zeros : (a z : List ℕ) → Zeros gf64 z → length z ≡ length a → plus gf64 a z ≡ a
 unfolding plus
-plus-zeros [] [] h e = refl
-plus-zeros [] (c ∷ z) h e = absurd (omega arith)
-plus-zeros (x ∷ a) [] h e = absurd (omega arith)
-plus-zeros (x ∷ a) (c ∷ z) h e =
-    ap₂ (λ (b : ℕ) (l : List ℕ). b ∷ l) (ap (sum x) h.0 ∙ xor_zero_r x) (plus-zeros a z h.1 (omega arith))
+plus_zeros [] [] h e = refl
+plus_zeros [] (c ∷ z) h e = absurd (omega arith)
+plus_zeros (x ∷ a) [] h e = absurd (omega arith)
+plus_zeros (x ∷ a) (c ∷ z) h e =
+    ap₂ (λ (b : ℕ) (l : List ℕ). b ∷ l) (ap (sum x) h.0 ∙ xor_zero_r x) (plus_zeros a z h.1 (omega arith))
 
-scale-zeros : (c : ℕ) (z : List ℕ) → Zeros gf64 z → scale gf64 c z ≡ z
+scale_zeros : (c : ℕ) (z : List ℕ) → Zeros gf64 z → scale gf64 c z ≡ z
 unfolding scale
-scale-zeros c [] h = refl
-scale-zeros c (x ∷ z) h =
-    ap₂ (λ (b : ℕ) (l : List ℕ). b ∷ l) (ap (product c) h.0 ∙ product-zero-r c
-    ∙ sym h.0) (scale-zeros c z h.1)
+scale_zeros c [] h = refl
+scale_zeros c (x ∷ z) h =
+    ap₂ (λ (b : ℕ) (l : List ℕ). b ∷ l) (ap (product c) h.0 ∙ product-zero_r c
+    ∙ sym h.0) (scale_zeros c z h.1)
 
 -- nothing from 2^used on, and 2^n or more
 below_half : (used n : ℕ) (s : List ℕ) → used ≤ n → DegreeBelow gf64 (2 ^ used) s → Zeros gf64 (drop (2 ^ n) s)
@@ -243,11 +243,11 @@ below_half used n s h z = later (2 ^ used) (2 ^ n) s (pow_mono h) z
     later (suc i) (suc j) (x ∷ l) le z = later i j l (omega arith) z
 
 pub second_none : (used n c : ℕ) (s : List ℕ) → used ≤ n → DegreeBelow gf64 (2 ^ used) s
-    → length s ≡ 2 ^ n + 2 ^ n → secondAdded c (2 ^ n) s ≡ s
-unfolding secondAdded
+    → length s ≡ 2 ^ n + 2 ^ n → second_added c (2 ^ n) s ≡ s
+unfolding second_added
 second_none used n c s h z e =
-    ap (λ (l : List ℕ). plus gf64 (take (2 ^ n) s) l ++ drop (2 ^ n) s) (scale-zeros c (drop (2 ^ n) s) nothing)
-    ∙ ap (λ (l : List ℕ). l ++ drop (2 ^ n) s) (plus-zeros (take (2 ^ n) s) (drop (2 ^ n) s) nothing
+    ap (λ (l : List ℕ). plus gf64 (take (2 ^ n) s) l ++ drop (2 ^ n) s) (scale_zeros c (drop (2 ^ n) s) nothing)
+    ∙ ap (λ (l : List ℕ). l ++ drop (2 ^ n) s) (plus_zeros (take (2 ^ n) s) (drop (2 ^ n) s) nothing
     (length-drop (2 ^ n) s ∙ omega (arith, length-take-le (2 ^ n) s (omega arith))))
     ∙ take-append-drop (2 ^ n) s
   where
@@ -255,64 +255,64 @@ second_none used n c s h z e =
     nothing = below_half used n s h z
 
 -- the entries from 2^used on stay zero in both halves
-short-below : (n used : ℕ) (l : List ℕ) → n ≤ used → length l ≡ 2 ^ n → DegreeBelow gf64 (2 ^ used) l
-short-below n used l h e =
+short_below : (n used : ℕ) (l : List ℕ) → n ≤ used → length l ≡ 2 ^ n → DegreeBelow gf64 (2 ^ used) l
+short_below n used l h e =
     subst (λ (r : List ℕ). Zeros gf64 r) (sym (drop_of_length-le l (le_trans (le_of_eq e) (pow_mono h)))) (record {})
 
-below-taken : (i m : ℕ) (l : List ℕ) → Zeros gf64 (drop i l) → Zeros gf64 (drop i (take m l))
-below-taken zero m l z = all_take (λ c. c ≡ 0) m l z
-below-taken (suc i) zero l z = record {}
-below-taken (suc i) (suc m) [] z = record {}
-below-taken (suc i) (suc m) (x ∷ l) z = below-taken i m l z
+below_taken : (i m : ℕ) (l : List ℕ) → Zeros gf64 (drop i l) → Zeros gf64 (drop i (take m l))
+below_taken zero m l z = all_take (λ c. c ≡ 0) m l z
+below_taken (suc i) zero l z = record {}
+below_taken (suc i) (suc m) [] z = record {}
+below_taken (suc i) (suc m) (x ∷ l) z = below_taken i m l z
 
 module _ (used n c half : ℕ) (s t : List ℕ) (at : half ≡ 2 ^ n) (counted : length s ≡ 2 ^ n + 2 ^ n)
     (below : DegreeBelow gf64 (2 ^ used) s)
-    (stepped : t ≡ firstAdded (2 ^ n) (secondAdded c (2 ^ n) s)) (same : length t ≡ length s) where
+    (stepped : t ≡ first_added (2 ^ n) (second_added c (2 ^ n) s)) (same : length t ≡ length s) where
   a : List ℕ
   a = take (2 ^ n) s
 
   copied : used ≤ n → t ≡ a ++ a
-  unfolding firstAdded a
+  unfolding first_added a
   copied h =
-      stepped ∙ ap (firstAdded (2 ^ n)) (second_none used n c s h below counted)
+      stepped ∙ ap (first_added (2 ^ n)) (second_none used n c s h below counted)
       ∙ ap (λ (l : List ℕ). a ++ l)
-      (plus-zeros a (drop (2 ^ n) s) (below_half used n s h below)
+      (plus_zeros a (drop (2 ^ n) s) (below_half used n s h below)
       (length-drop (2 ^ n) s ∙ omega (arith, length-take-le (2 ^ n) s (omega arith))))
 
-  length-a : length a ≡ 2 ^ n
+  length_a : length a ≡ 2 ^ n
   unfolding a
-  length-a = length-take-le (2 ^ n) s (omega arith)
+  length_a = length-take-le (2 ^ n) s (omega arith)
 
   pub first_below : DegreeBelow gf64 (2 ^ used) (take half t)
   unfolding a
   first_below = ⊎_elim
       (λ h. subst (λ (l : List ℕ). DegreeBelow gf64 (2 ^ used) l)
-      (sym (ap₂ take at (copied h) ∙ take_at a a (2 ^ n) length-a)) (below-taken (2 ^ used) (2 ^ n) s below))
-      (λ h. short-below n used (take half t) (le_of_lt h)
+      (sym (ap₂ take at (copied h) ∙ take_at a a (2 ^ n) length_a)) (below_taken (2 ^ used) (2 ^ n) s below))
+      (λ h. short_below n used (take half t) (le_of_lt h)
       (ap (λ (m : ℕ). length (take m t)) at ∙ length-take-le (2 ^ n) t (omega arith)))
-      (le-or-lt used n)
+      (le_or_lt used n)
 
   pub second_below : DegreeBelow gf64 (2 ^ used) (drop half t)
   unfolding a
   second_below = ⊎_elim
       (λ h. subst (λ (l : List ℕ). DegreeBelow gf64 (2 ^ used) l)
-      (sym (ap₂ drop at (copied h) ∙ drop_at a a (2 ^ n) length-a)) (below-taken (2 ^ used) (2 ^ n) s below))
-      (λ h. short-below n used (drop half t) (le_of_lt h)
+      (sym (ap₂ drop at (copied h) ∙ drop_at a a (2 ^ n) length_a)) (below_taken (2 ^ used) (2 ^ n) s below))
+      (λ h. short_below n used (drop half t) (le_of_lt h)
       (ap (λ (m : ℕ). length (drop m t)) at ∙ length-drop (2 ^ n) t ∙ omega arith))
-      (le-or-lt used n)
+      (le_or_lt used n)
 
 -- ---- quarters, part by part
 
 -- a lent part whose first half got the second one added
-pub part-put : (p q n : ℕ) (s changed : List ℕ) → n ≡ q + q → p + (q + q) ≤ length s
-    → changed ≡ secondAdded 1 (length (mid_of p n s) / 2) (mid_of p n s)
-    → put_mid p n s changed ≡ onPart p (q + q) (secondAdded 1 q) s
-unfolding onPart
-part-put p q n s changed e h r =
+pub part_put : (p q n : ℕ) (s changed : List ℕ) → n ≡ q + q → p + (q + q) ≤ length s
+    → changed ≡ second_added 1 (length (mid_of p n s) / 2) (mid_of p n s)
+    → put_mid p n s changed ≡ on_part p (q + q) (second_added 1 q) s
+unfolding on_part
+part_put p q n s changed e h r =
     ap (λ (l : List ℕ). take p s ++ (l ++ drop n (drop p s))) r
     ∙ ap (λ (m : ℕ). take p s
-    ++ (secondAdded 1 (length (take m (drop p s)) / 2) (take m (drop p s)) ++ drop m (drop p s))) e
-    ∙ ap (λ (m : ℕ). take p s ++ (secondAdded 1 m (take (q + q) (drop p s)) ++ drop (q + q) (drop p s))) halved
+    ++ (second_added 1 (length (take m (drop p s)) / 2) (take m (drop p s)) ++ drop m (drop p s))) e
+    ∙ ap (λ (m : ℕ). take p s ++ (second_added 1 m (take (q + q) (drop p s)) ++ drop (q + q) (drop p s))) halved
   where
     inside : q + q ≤ length (drop p s)
     inside = omega (arith, length-drop p s)

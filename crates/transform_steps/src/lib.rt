@@ -2,14 +2,14 @@
 ghost use Rattle.std.specs.Prelude.{◌≡◌, ◌/◌, ◌%◌, length};
 ghost use Rattle.poly.specs.Carrier.{gf64};
 ghost use Rattle.poly.specs.Polynomial.{scale};
-ghost use Rattle.transform.specs.Transform.{secondAdded, firstAdded};
+ghost use Rattle.transform.specs.Transform.{second_added, first_added};
 
 use field::Element;
 
 // Each entry of the first half plus the one of the second half.
 pub fn add_second(slice: &mut [u64])
     requires { length slice.old % 2 ≡ 0 }
-    ensures { slice.new ≡ secondAdded 1 (length slice.old / 2) slice.old }
+    ensures { slice.new ≡ second_added 1 (length slice.old / 2) slice.old }
 {
     let half = slice.len() / 2;
     let mut i: usize = 0;
@@ -23,7 +23,7 @@ pub fn add_second(slice: &mut [u64])
 // product on.
 pub fn add_multiples(c: Element, slice: &mut [u64])
     requires { length slice.old % 2 ≡ 0 }
-    ensures { slice.new ≡ secondAdded c.0 (length slice.old / 2) slice.old }
+    ensures { slice.new ≡ second_added c.0 (length slice.old / 2) slice.old }
 {
     if slice.len() < 6 {
         add_products(c, slice);
@@ -34,7 +34,7 @@ pub fn add_multiples(c: Element, slice: &mut [u64])
 
 fn add_products(c: Element, slice: &mut [u64])
     requires { length slice.old % 2 ≡ 0 }
-    ensures { slice.new ≡ secondAdded c.0 (length slice.old / 2) slice.old }
+    ensures { slice.new ≡ second_added c.0 (length slice.old / 2) slice.old }
 {
     let half = slice.len() / 2;
     let mut i: usize = 0;
@@ -47,7 +47,7 @@ fn add_products(c: Element, slice: &mut [u64])
 
 fn add_by_table(c: Element, slice: &mut [u64])
     requires { length slice.old % 2 ≡ 0 }
-    ensures { slice.new ≡ secondAdded c.0 (length slice.old / 2) slice.old }
+    ensures { slice.new ≡ second_added c.0 (length slice.old / 2) slice.old }
 {
     let table = multiplier::multiples(c);
     let half = slice.len() / 2;
@@ -62,7 +62,7 @@ fn add_by_table(c: Element, slice: &mut [u64])
 // Each entry of the second half plus the one of the first half.
 pub fn add_first(slice: &mut [u64])
     requires { length slice.old % 2 ≡ 0 }
-    ensures { slice.new ≡ firstAdded (length slice.old / 2) slice.old }
+    ensures { slice.new ≡ first_added (length slice.old / 2) slice.old }
 {
     let half = slice.len() / 2;
     let mut i: usize = 0;

@@ -5,7 +5,7 @@ use Prim.Native.Nat.{ℕ, ◌+◌, ◌<◌, ◌≤◌}
 use native.Mathlib.Omega.{arith}
 use lib.ListN.{length, get_or, take, drop, set, length-set, length-drop, take-append-drop}
 use lib.Seq.{length-take-le, take-append-le, drop-append-le, take-set-le, drop-set-add}
-use Rattle.poly.proofs.Filling.{filled, filled-start, filled_next, filled-all}
+use Rattle.poly.proofs.Filling.{filled, filled_start, filled_next, filled_all}
 
 -- the front is as it was, and j of the values, for which there is room, stand behind it
 pub record Behind (size : ℕ) (values held joined : List ℕ) (j : ℕ) : Type 0 where
@@ -15,30 +15,30 @@ pub record Behind (size : ℕ) (values held joined : List ℕ) (j : ℕ) : Type 
   pub back : drop size joined ≡ filled values (drop size held) j
   pub as_long : length joined ≡ length held
 
-pub behind-start : (size : ℕ) (values held : List ℕ) → length held ≡ size + length values
+pub behind_start : (size : ℕ) (values held : List ℕ) → length held ≡ size + length values
     → Behind size values held held 0
-behind-start size values held e =
+behind_start size values held e =
     record {
       room = omega (arith, length-drop size held);
       fits = omega arith;
       front = refl;
-      back = filled-start values (drop size held);
+      back = filled_start values (drop size held);
       as_long = refl;
     }
 
 -- a part of the front
-part-of-front : (n start m : ℕ) (xs : List ℕ) → start + m ≤ n → n ≤ length xs
+part_of_front : (n start m : ℕ) (xs : List ℕ) → start + m ≤ n → n ≤ length xs
     → take m (drop start xs) ≡ take m (drop start (take n xs))
-part-of-front n start m xs inside fits =
+part_of_front n start m xs inside fits =
     ap (λ (l : List ℕ). take m (drop start l)) (sym (take-append-drop n xs))
     ∙ ap (take m) (drop-append-le start (take n xs) (drop n xs) (omega (arith, length-take-le n xs fits)))
     ∙ take-append-le m (drop start (take n xs)) (drop n xs)
     (omega (arith, length-take-le n xs fits, length-drop start (take n xs)))
 
 module _ {size : ℕ} {values held joined : List ℕ} {j : ℕ} (b : Behind size values held joined j) where
-  pub behind-next : (v : ℕ) → j < length values → v ≡ get_or values j 0
+  pub behind_next : (v : ℕ) → j < length values → v ≡ get_or values j 0
       → Behind size values held (set joined (size + j) v) (j + 1)
-  behind-next v h e =
+  behind_next v h e =
       record {
         room = b.room;
         fits = b.fits;
@@ -49,13 +49,13 @@ module _ {size : ℕ} {values held joined : List ℕ} {j : ℕ} (b : Behind size
         as_long = length-set joined (size + j) v ∙ b.as_long;
       }
 
-  pub behind-part : (start m : ℕ) → start + m ≤ size → take m (drop start joined) ≡ take m (drop start (take size held))
-  behind-part start m inside =
-      part-of-front size start m joined inside (omega (arith, b.as_long, b.fits))
+  pub behind_part : (start m : ℕ) → start + m ≤ size → take m (drop start joined) ≡ take m (drop start (take size held))
+  behind_part start m inside =
+      part_of_front size start m joined inside (omega (arith, b.as_long, b.fits))
       ∙ ap (λ (l : List ℕ). take m (drop start l)) b.front
 
-  pub behind-all : length values ≤ j → joined ≡ take size held ++ values
-  behind-all h =
+  pub behind_all : length values ≤ j → joined ≡ take size held ++ values
+  behind_all h =
       sym (take-append-drop size joined)
       ∙ ap₂ (λ (front back : List ℕ). front ++ back) b.front
-      (b.back ∙ filled-all values (drop size held) j (omega (arith, b.room)) b.room)
+      (b.back ∙ filled_all values (drop size held) j (omega (arith, b.room)) b.room)

@@ -1,24 +1,24 @@
 -- What the fold of a word asks of its lists.
 use Rattle.std.specs.Prelude.{◌≡◌, List, ℕ, ◌+◌, ◌-◌, ◌^◌, ◌≤◌, length}
 use Rattle.coset.specs.Span.{Independent}
-use Rattle.coset.specs.Steps.{stepElements}
+use Rattle.coset.specs.Steps.{step_elements}
 
 -- the elements are those of one, two or three maps of a step over this basis
 pub record StepFits (elements basis : List ℕ) : Type 0 where
   pub some : 1 ≤ length elements
   pub few : length elements ≤ 3
   pub fits : length elements ≤ length basis
-  pub basis-fits : length basis ≤ 20
-  pub elements-are : elements ≡ stepElements (length elements) basis
+  pub basis_fits : length basis ≤ 20
+  pub elements_are : elements ≡ step_elements (length elements) basis
   pub independent : Independent basis
 
 -- with a word over the basis, and a place for each value of its fold
 pub record WordFits (elements basis word values : List ℕ) : Type 0 where
   pub step : StepFits elements basis
   pub word_fits : length word ≡ 2 ^ length basis
-  pub values-fit : length values ≡ 2 ^ (length basis - length elements)
+  pub values_fit : length values ≡ 2 ^ (length basis - length elements)
 
 -- the same where the places lie behind the word, in one list with it
 pub record JoinedFits (elements basis joined : List ℕ) : Type 0 where
   pub step : StepFits elements basis
-  pub both-fit : length joined ≡ 2 ^ length basis + 2 ^ (length basis - length elements)
+  pub both_fit : length joined ≡ 2 ^ length basis + 2 ^ (length basis - length elements)

@@ -2,7 +2,7 @@
 ghost use Rattle.std.specs.Prelude.{◌≡◌, ◌++◌, ◌+◌, ◌*◌, ◌^◌, length, take};
 ghost use Rattle.gf64.specs.Field.{sum};
 ghost use Rattle.fold.specs.Fold.{folded};
-ghost use Rattle.fold.specs.Halving.{cosetValues, CosetsFit};
+ghost use Rattle.fold.specs.Halving.{coset_values, CosetsFit};
 ghost use Rattle.word_fold.specs.Fitting.{WordFits, JoinedFits};
 
 use coset_value::Coset;
@@ -52,7 +52,7 @@ fn fill_cosets(
         × (length word.now ≡ 2 ^ length upper.now * length span.now) }
     ensures { let moved = sum offset.0 challenge.0 in
         values.new
-        ≡ cosetValues inverses.now span.now moved upper.now word.now }
+        ≡ coset_values inverses.now span.now moved upper.now word.now }
 {
     let sums = points::prefix_sums(upper);
     let mut first = offset;
@@ -108,7 +108,7 @@ fn fill_cosets_behind(
     ensures { let moved = sum offset.0 challenge.0 in
         let layer = take (2 ^ length upper.now * length span.now) joined.old in
         joined.new
-        ≡ layer ++ cosetValues inverses.now span.now moved upper.now layer }
+        ≡ layer ++ coset_values inverses.now span.now moved upper.now layer }
 {
     let sums = points::prefix_sums(upper);
     let count: usize = 1 << upper.len();

@@ -9,67 +9,67 @@ use borrow.Author.Tests.{eq-eqb, ne_eqb}
 use Rattle.refusal.specs.declared.Cause.TheVariants.{WrongLength}
 use Rattle.refusal.specs.declared.Outcome.{Outcome}
 use Rattle.refusal.specs.declared.Outcome.TheVariants.{Done, Refused}
-use Rattle.refusal.specs.Checks.{refusedUnless, and_then}
-use Rattle.refusal.proofs.Checks.{then-passed, then-refused, then-done, passed-by, refused-by, unless-done}
-use Rattle.refusal.proofs.Checks.{equal-of-test}
+use Rattle.refusal.specs.Checks.{refused_unless, and_then}
+use Rattle.refusal.proofs.Checks.{then_passed, then_refused, then_done, passed_by, refused_by, unless_done}
+use Rattle.refusal.proofs.Checks.{equal_of_test}
 use Rattle.coset.specs.Answers.{basisOutcome}
-use Rattle.fri.specs.Layout.{stepAt}
-use Rattle.fri.specs.Run.{Run, stepIn}
-use Rattle.fri.specs.Checks.{queriesOutcome}
+use Rattle.fri.specs.Layout.{step_at}
+use Rattle.fri.specs.Run.{Run, step_in}
+use Rattle.fri.specs.Checks.{queries_outcome}
 use Rattle.layout.specs.declared.Parameters.{Parameters}
-use Rattle.layout.specs.Parameters.{stepsBy}
-use Rattle.run_checks.proofs.Lists.{of-lists, lists-then, lists-valid, lists-fit}
-use Rattle.written.specs.Transcript.{transcriptOf, transcriptLength}
-use Rattle.written.specs.Writer.{sizeOutcome, writeOutcome}
-use Rattle.written.proofs.Lengths.{transcript-size}
-use Rattle.writer.specs.Written.{afterListsOutcome}
+use Rattle.layout.specs.Parameters.{steps_by}
+use Rattle.run_checks.proofs.Lists.{of_lists, lists_then, lists_valid, lists_fit}
+use Rattle.written.specs.Transcript.{transcript_of, transcript_length}
+use Rattle.written.specs.Writer.{size_outcome, write_outcome}
+use Rattle.written.proofs.Lengths.{transcript_size}
+use Rattle.writer.specs.Written.{after_lists_outcome}
 
 module _ (p : Parameters) (basis queries : List ℕ) (size : ℕ) where
   abbrev needed : ℕ
-  needed = transcriptLength p.k p.rate (stepsBy p) (length queries)
+  needed = transcript_length p.k p.rate (steps_by p) (length queries)
 
   abbrev of_size : Outcome
-  of_size = refusedUnless (eqb size needed) (WrongLength 8) Done
+  of_size = refused_unless (eqb size needed) (WrongLength 8) Done
 
-  abbrev after-size : Outcome
-  after-size = and_then (basisOutcome basis) (queriesOutcome p.k (stepAt (stepsBy p) 0) queries)
+  abbrev after_size : Outcome
+  after_size = and_then (basisOutcome basis) (queries_outcome p.k (step_at (steps_by p) 0) queries)
 
-  pub size-refused : size ≢ needed → Refused (WrongLength 8) ≡ afterListsOutcome p basis queries size
-  size-refused n =
-      then-refused of_size after-size (WrongLength 8)
-      (sym (refused-by (eqb size needed) (WrongLength 8) Done (ne_eqb size needed n)))
+  pub size_refused : size ≢ needed → Refused (WrongLength 8) ≡ after_lists_outcome p basis queries size
+  size_refused n =
+      then_refused of_size after_size (WrongLength 8)
+      (sym (refused_by (eqb size needed) (WrongLength 8) Done (ne_eqb size needed n)))
 
-  pub size-passed : size ≡ needed → after-size ≡ afterListsOutcome p basis queries size
-  size-passed e =
-      then-passed of_size after-size (sym (passed-by (eqb size needed) (WrongLength 8) Done (eq-eqb size needed e)))
+  pub size_passed : size ≡ needed → after_size ≡ after_lists_outcome p basis queries size
+  size_passed e =
+      then_passed of_size after_size (sym (passed_by (eqb size needed) (WrongLength 8) Done (eq-eqb size needed e)))
 
 module _ (run : Run) (queries : List ℕ) (size : ℕ) where
-  abbrev of-basis : Outcome
-  of-basis = basisOutcome run.basis
+  abbrev of_basis : Outcome
+  of_basis = basisOutcome run.basis
 
-  abbrev of-queries : Outcome
-  of-queries = queriesOutcome run.k (stepIn run 0) queries
+  abbrev of_queries : Outcome
+  of_queries = queries_outcome run.k (step_in run 0) queries
 
   -- the checks after those of lists 1 to 5
-  abbrev pub after-lists : Outcome
-  after-lists = and_then (sizeOutcome run queries size) (and_then of-basis of-queries)
+  abbrev pub after_lists : Outcome
+  after_lists = and_then (size_outcome run queries size) (and_then of_basis of_queries)
 
   -- the formula says how long the transcript is
-  pub sized-is : of-lists run ≡ Done
-      → afterListsOutcome (record { k = run.k; rate = run.rate; step = run.step }) run.basis queries size
-      ≡ after-lists
-  sized-is done =
-      ap (λ (n : ℕ). and_then (refusedUnless (eqb size n) (WrongLength 8) Done) (and_then of-basis of-queries))
-      (sym (transcript-size run (lists-valid run done) (lists-fit run done) queries))
+  pub sized_is : of_lists run ≡ Done
+      → after_lists_outcome (record { k = run.k; rate = run.rate; step = run.step }) run.basis queries size
+      ≡ after_lists
+  sized_is done =
+      ap (λ (n : ℕ). and_then (refused_unless (eqb size n) (WrongLength 8) Done) (and_then of_basis of_queries))
+      (sym (transcript_size run (lists_valid run done) (lists_fit run done) queries))
 
   -- where all checks pass
-  module _ (done : writeOutcome run queries size ≡ Done) where
-    pub passed-lists : (of-lists run ≡ Done) × (after-lists ≡ Done)
-    passed-lists = then-done (of-lists run) after-lists (lists-then run after-lists ∙ done)
+  module _ (done : write_outcome run queries size ≡ Done) where
+    pub passed_lists : (of_lists run ≡ Done) × (after_lists ≡ Done)
+    passed_lists = then_done (of_lists run) after_lists (lists_then run after_lists ∙ done)
 
-    pub passed-size : size ≡ length (transcriptOf run queries)
-    passed-size =
-        let needed = length (transcriptOf run queries) in
-        equal-of-test size needed
-        (unless-done (eqb size needed) (WrongLength 8) Done
-        (then-done (sizeOutcome run queries size) (and_then of-basis of-queries) passed-lists.1).0).0
+    pub passed_size : size ≡ length (transcript_of run queries)
+    passed_size =
+        let needed = length (transcript_of run queries) in
+        equal_of_test size needed
+        (unless_done (eqb size needed) (WrongLength 8) Done
+        (then_done (size_outcome run queries size) (and_then of_basis of_queries) passed_lists.1).0).0

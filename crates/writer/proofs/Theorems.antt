@@ -7,37 +7,37 @@ use borrow.Author.Tests.{lt-ltb}
 use Rattle.refusal.specs.declared.Outcome.{Outcome}
 use Rattle.refusal.specs.declared.Outcome.TheVariants.{Done, Refused}
 use Rattle.refusal.specs.Checks.{and_then}
-use Rattle.fri.specs.Run.{Run, stepsIn}
-use Rattle.fri.specs.Checks.{parametersOutcome, lengthsOutcome}
-use Rattle.fri.specs.Judge.{checksOutcome}
+use Rattle.fri.specs.Run.{Run, steps_in}
+use Rattle.fri.specs.Checks.{parameters_outcome, lengths_outcome}
+use Rattle.fri.specs.Judge.{checks_outcome}
 use Rattle.layout.specs.Parameters.{run_of}
-use Rattle.written.specs.Transcript.{transcriptLength}
-use Rattle.written.specs.Writer.{writeOutcome}
-use Rattle.written.proofs.Writer.{writer-refusals}
-use Rattle.writer.specs.Lengths.{or_zero, transcriptLengthOf}
+use Rattle.written.specs.Transcript.{transcript_length}
+use Rattle.written.specs.Writer.{write_outcome}
+use Rattle.written.proofs.Writer.{writer_refusals}
+use Rattle.writer.specs.Lengths.{or_zero, transcript_length_of}
 use Rattle.writer.specs.Theorems.{LengthTold}
 
-pub length-told : LengthTold
-length-told p offset basis challenges queries word store last few = by parameters refl
+pub length_told : LengthTold
+length_told p offset basis challenges queries word store last few = by parameters refl
   where
     run : Run
     run = run_of p offset basis challenges word store last
 
     parameters : Outcome
-    parameters = parametersOutcome p.k p.rate p.step
+    parameters = parameters_outcome p.k p.rate p.step
 
     due : ℕ
-    due = transcriptLength p.k p.rate (stepsIn run) (length queries)
+    due = transcript_length p.k p.rate (steps_in run) (length queries)
 
     told : Outcome → Bool → ℕ
     told outcome test = or_zero outcome (cond test due 0)
 
     by : (o : Outcome) → parameters ≡ o
-        → writeOutcome run queries (transcriptLengthOf p (length queries)) ≡ checksOutcome run queries
+        → write_outcome run queries (transcript_length_of p (length queries)) ≡ checks_outcome run queries
     by Done e =
-        ap (writeOutcome run queries) (ap₂ told e (lt-ltb (length queries) (2 ^ 60) few))
-        ∙ writer-refusals.as_lists run queries
+        ap (write_outcome run queries) (ap₂ told e (lt-ltb (length queries) (2 ^ 60) few))
+        ∙ writer_refusals.as_lists run queries
     by (Refused cause) e =
-        let before = ap (λ (o : Outcome). and_then o (lengthsOutcome run)) e in
-        writer-refusals.earlier run queries (transcriptLengthOf p (length queries)) cause before
-        ∙ sym (writer-refusals.earlier run queries due cause before) ∙ writer-refusals.as_lists run queries
+        let before = ap (λ (o : Outcome). and_then o (lengths_outcome run)) e in
+        writer_refusals.earlier run queries (transcript_length_of p (length queries)) cause before
+        ∙ sym (writer_refusals.earlier run queries due cause before) ∙ writer_refusals.as_lists run queries

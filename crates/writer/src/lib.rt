@@ -1,11 +1,11 @@
 // The writer: it puts the transcript of a run and its queries into a lent list of bytes of exactly the needed length,
 // which is told beforehand.
 ghost use Rattle.std.specs.Prelude.{◌≡◌, ◌+◌, ◌*◌, ◌^◌, ◌≤◌, ◌<◌};
-ghost use Rattle.layout.specs.Parameters.{stepsBy, Valid, run_of};
-ghost use Rattle.written.specs.Transcript.{transcriptLength};
-ghost use Rattle.written.specs.Writer.{writeOutcome};
-ghost use Rattle.writer.specs.Lengths.{transcriptLengthOf};
-ghost use Rattle.writer.specs.Written.{afterListsOutcome, Written};
+ghost use Rattle.layout.specs.Parameters.{steps_by, Valid, run_of};
+ghost use Rattle.written.specs.Transcript.{transcript_length};
+ghost use Rattle.written.specs.Writer.{write_outcome};
+ghost use Rattle.writer.specs.Lengths.{transcript_length_of};
+ghost use Rattle.writer.specs.Written.{after_lists_outcome, Written};
 
 use field::Element;
 use layout::Parameters;
@@ -17,7 +17,7 @@ const LIST_LIMIT: usize = 1 << 60;
 // How many bytes the transcript of a run with these parameters and so many queries has; 0 for parameters out of range,
 // and for more queries than a list can hold.
 pub fn transcript_length(parameters: Parameters, queries: usize) -> u64
-    ensures { result ≡ transcriptLengthOf parameters queries }
+    ensures { result ≡ transcript_length_of parameters queries }
 {
     let outcome = parameters.checked();
     match outcome {
@@ -34,7 +34,7 @@ pub fn transcript_length(parameters: Parameters, queries: usize) -> u64
 // The transcript of a run and its queries, section by section, into `bytes`, list 8. Any lists that pass the checks
 // are written, honest or not. Refused, in this order, as by the judge over lists: parameters (4, 5, 6, 7), the lowest
 // of lists 1 to 5 whose length is not the one due, then list 8 (13), a dependent basis (8), the number of queries (9),
-// a query out of range (10), two queries that share a first-layer coset (17). A refusal leaves every byte.
+// a query out of range (10), two queries that share a first_layer coset (17). A refusal leaves every byte.
 pub fn write(
     parameters: Parameters,
     offset: Element,
@@ -86,7 +86,7 @@ fn checked(
 ) -> Outcome
     ensures { let run = run_of parameters offset.0 basis.now challenges.now word.now
         store.now last.now in
-        result ≡ writeOutcome run queries.now size }
+        result ≡ write_outcome run queries.now size }
 {
     let lists = run_checks::checked_lists(parameters, offset, basis, challenges, word, store, last);
     match lists {
@@ -103,7 +103,7 @@ fn checked_after_lists(
     size: usize,
 ) -> Outcome
     requires { Valid parameters }
-    ensures { result ≡ afterListsOutcome parameters basis.now queries.now size }
+    ensures { result ≡ after_lists_outcome parameters basis.now queries.now size }
 {
     if size != length_due(parameters, queries.len()) {
         return Outcome::Refused(Cause::WrongLength { list: 8 });
@@ -118,7 +118,7 @@ fn checked_after_lists(
 // The needed length of list 8.
 fn length_due(parameters: Parameters, queries: usize) -> usize
     requires { Valid parameters × (queries < 2 ^ 60) }
-    ensures { result ≡ transcriptLength parameters.k parameters.rate (stepsBy parameters) queries }
+    ensures { result ≡ transcript_length parameters.k parameters.rate (steps_by parameters) queries }
 {
     let rounds = parameters.rounds();
     let word: usize = 1 << parameters.k;

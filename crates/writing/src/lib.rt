@@ -1,6 +1,6 @@
 // Puts numbers into a lent list of bytes, in ASCII, and answers where their digits end.
 ghost use Rattle.std.specs.Prelude.{◌≡◌, ◌++◌, ◌+◌, ◌≤◌, ◌<◌, length};
-ghost use Rattle.line_text.specs.Digits.{bytes, digits, placesWithin, decimal};
+ghost use Rattle.line_text.specs.Digits.{bytes, digits, places_within, decimal};
 ghost use Rattle.line_text.specs.Digits.{digit as digitOf};
 ghost use Rattle.placing.specs.Put.{Put};
 
@@ -42,7 +42,7 @@ fn digit(d: u64) -> u8
 
 // How many decimal digits a number has.
 pub fn places(n: u64) -> usize
-    ensures { (result ≡ placesWithin 19 n) × (result ≤ 20) }
+    ensures { (result ≡ places_within 19 n) × (result ≤ 20) }
 {
     let mut count: usize = 1;
     let mut rest = n;

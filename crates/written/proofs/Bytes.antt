@@ -9,148 +9,148 @@ use lib.Seq.{take_at, drop_at, take-suc, length-take-le}
 use Rattle.gf64.specs.Field.{IsElement}
 use Rattle.poly.specs.Polynomial.{All}
 use Rattle.poly.proofs.Entries.{all_append}
-use Rattle.transcript.specs.Numerals.{AreBytes, littleEndian, countAt, entryAt, entries_at}
-use Rattle.written.specs.Bytes.{littleEndianBytes, countBytes, entryBytes, entriesBytes, sectionBytes}
+use Rattle.transcript.specs.Numerals.{AreBytes, little_endian, count_at, entry_at, entries_at}
+use Rattle.written.specs.Bytes.{little_endian_bytes, count_bytes, entry_bytes, entries_bytes, section_bytes}
 
 -- ---- numbers
 
-pub length-number : (width n : ℕ) → length (littleEndianBytes width n) ≡ width
-unfolding littleEndianBytes
-length-number zero n = refl
-length-number (suc width) n = ap suc (length-number width (n / 256))
+pub length_number : (width n : ℕ) → length (little_endian_bytes width n) ≡ width
+unfolding little_endian_bytes
+length_number zero n = refl
+length_number (suc width) n = ap suc (length_number width (n / 256))
 
-number-bytes : (width n : ℕ) → AreBytes (littleEndianBytes width n)
-unfolding littleEndianBytes
-number-bytes zero n = record {}
-number-bytes (suc width) n = (omega arith, number-bytes width (n / 256))
+number_bytes : (width n : ℕ) → AreBytes (little_endian_bytes width n)
+unfolding little_endian_bytes
+number_bytes zero n = record {}
+number_bytes (suc width) n = (omega arith, number_bytes width (n / 256))
 
 -- a number is read as it was written, where the bytes hold it
-pub number_read : (width n : ℕ) → n < 256 ^ width → littleEndian (littleEndianBytes width n) ≡ n
-unfolding littleEndianBytes littleEndian
+pub number_read : (width n : ℕ) → n < 256 ^ width → little_endian (little_endian_bytes width n) ≡ n
+unfolding little_endian_bytes little_endian
 number_read zero n h = omega arith
 number_read (suc width) n h = omega (arith, number_read width (n / 256) (omega arith))
 
 -- bytes are written as they were read
-pub number-written : (bytes : List ℕ) → AreBytes bytes → littleEndianBytes (length bytes) (littleEndian bytes) ≡ bytes
-unfolding littleEndianBytes littleEndian
-number-written [] h = refl
-number-written (b ∷ bytes) h =
+pub number_written : (bytes : List ℕ) → AreBytes bytes → little_endian_bytes (length bytes) (little_endian bytes) ≡ bytes
+unfolding little_endian_bytes little_endian
+number_written [] h = refl
+number_written (b ∷ bytes) h =
     let small : b < 256 = h.0 in
-    let n : ℕ = littleEndian bytes in
+    let n : ℕ = little_endian bytes in
     let low : (b + 256 * n) % 256 ≡ b = omega arith in
     let high : (b + 256 * n) / 256 ≡ n = omega arith in
-    ap₂ (λ (x : ℕ) (l : List ℕ). x ∷ l) low (ap (littleEndianBytes (length bytes)) high ∙ number-written bytes h.1)
+    ap₂ (λ (x : ℕ) (l : List ℕ). x ∷ l) low (ap (little_endian_bytes (length bytes)) high ∙ number_written bytes h.1)
 
 -- a number that stands behind others
 module _ (before : List ℕ) (n : ℕ) (after : List ℕ) where
   behind : (width : ℕ)
-      → take width (drop (length before) (before ++ (littleEndianBytes width n ++ after))) ≡ littleEndianBytes width n
+      → take width (drop (length before) (before ++ (little_endian_bytes width n ++ after))) ≡ little_endian_bytes width n
   behind width =
-      ap (take width) (drop_at before (littleEndianBytes width n ++ after) (length before) refl)
-      ∙ take_at (littleEndianBytes width n) after width (length-number width n)
+      ap (take width) (drop_at before (little_endian_bytes width n ++ after) (length before) refl)
+      ∙ take_at (little_endian_bytes width n) after width (length_number width n)
 
-  pub count-behind : n < 2 ^ 32 → countAt (before ++ (countBytes n ++ after)) (length before) ≡ n
-  unfolding countAt
-  count-behind h = ap littleEndian (behind 4) ∙ number_read 4 n h
+  pub count_behind : n < 2 ^ 32 → count_at (before ++ (count_bytes n ++ after)) (length before) ≡ n
+  unfolding count_at
+  count_behind h = ap little_endian (behind 4) ∙ number_read 4 n h
 
-  pub entry-behind : IsElement n → entryAt (before ++ (entryBytes n ++ after)) (length before) ≡ n
-  unfolding entryAt
-  entry-behind h = ap littleEndian (behind 8) ∙ number_read 8 n h
+  pub entry_behind : IsElement n → entry_at (before ++ (entry_bytes n ++ after)) (length before) ≡ n
+  unfolding entry_at
+  entry_behind h = ap little_endian (behind 8) ∙ number_read 8 n h
 
 -- ---- entries
 
-pub length-entriesBytes : (entries : List ℕ) → length (entriesBytes entries) ≡ 8 * length entries
-unfolding entriesBytes
-length-entriesBytes [] = refl
-length-entriesBytes (x ∷ entries) =
-    omega (arith, length-append (entryBytes x) (entriesBytes entries), length-number 8 x, length-entriesBytes entries)
+pub length-entries_bytes : (entries : List ℕ) → length (entries_bytes entries) ≡ 8 * length entries
+unfolding entries_bytes
+length-entries_bytes [] = refl
+length-entries_bytes (x ∷ entries) =
+    omega (arith, length-append (entry_bytes x) (entries_bytes entries), length_number 8 x, length-entries_bytes entries)
 
-entries-bytes : (entries : List ℕ) → AreBytes (entriesBytes entries)
-unfolding entriesBytes
+entries-bytes : (entries : List ℕ) → AreBytes (entries_bytes entries)
+unfolding entries_bytes
 entries-bytes [] = record {}
 entries-bytes (x ∷ entries) =
-    all_append (λ b. b < 2 ^ 8) (entryBytes x) (entriesBytes entries) (number-bytes 8 x) (entries-bytes entries)
+    all_append (λ b. b < 2 ^ 8) (entry_bytes x) (entries_bytes entries) (number_bytes 8 x) (entries-bytes entries)
 
 -- entries that stand behind other bytes
-pub entries-behind : (before entries after : List ℕ) (at : ℕ) → at ≡ length before → All IsElement entries
-    → entries_at (before ++ (entriesBytes entries ++ after)) at (length entries) ≡ entries
-unfolding entries_at entriesBytes
-entries-behind before [] after at e h = refl
-entries-behind before (x ∷ xs) after at e h =
+pub entries_behind : (before entries after : List ℕ) (at : ℕ) → at ≡ length before → All IsElement entries
+    → entries_at (before ++ (entries_bytes entries ++ after)) at (length entries) ≡ entries
+unfolding entries_at entries_bytes
+entries_behind before [] after at e h = refl
+entries_behind before (x ∷ xs) after at e h =
     ap₂ (λ (y : ℕ) (l : List ℕ). y ∷ l)
-    (ap (λ (l : List ℕ). entryAt l at) first ∙ ap (entryAt (before ++ (entryBytes x ++ (entriesBytes xs ++ after)))) e
-    ∙ entry-behind before x (entriesBytes xs ++ after) h.0)
+    (ap (λ (l : List ℕ). entry_at l at) first ∙ ap (entry_at (before ++ (entry_bytes x ++ (entries_bytes xs ++ after)))) e
+    ∙ entry_behind before x (entries_bytes xs ++ after) h.0)
     (ap (λ (l : List ℕ). entries_at l (at + 8) (length xs))
-    (first ∙ sym (append_assoc before (entryBytes x) (entriesBytes xs ++ after)))
-    ∙ entries-behind (before ++ entryBytes x) xs after (at + 8)
-    (omega (arith, length-append before (entryBytes x), length-number 8 x)) h.1)
+    (first ∙ sym (append_assoc before (entry_bytes x) (entries_bytes xs ++ after)))
+    ∙ entries_behind (before ++ entry_bytes x) xs after (at + 8)
+    (omega (arith, length-append before (entry_bytes x), length_number 8 x)) h.1)
   where
-    first : before ++ ((entryBytes x ++ entriesBytes xs) ++ after)
-        ≡ before ++ (entryBytes x ++ (entriesBytes xs ++ after))
-    first = ap (λ (l : List ℕ). before ++ l) (append_assoc (entryBytes x) (entriesBytes xs) after)
+    first : before ++ ((entry_bytes x ++ entries_bytes xs) ++ after)
+        ≡ before ++ (entry_bytes x ++ (entries_bytes xs ++ after))
+    first = ap (λ (l : List ℕ). before ++ l) (append_assoc (entry_bytes x) (entries_bytes xs) after)
 
-entries-append : (xs ys : List ℕ) → entriesBytes (xs ++ ys) ≡ entriesBytes xs ++ entriesBytes ys
-unfolding entriesBytes
-entries-append [] ys = refl
-entries-append (x ∷ xs) ys =
-    ap (λ (l : List ℕ). entryBytes x ++ l) (entries-append xs ys)
-    ∙ sym (append_assoc (entryBytes x) (entriesBytes xs) (entriesBytes ys))
+entries_append : (xs ys : List ℕ) → entries_bytes (xs ++ ys) ≡ entries_bytes xs ++ entries_bytes ys
+unfolding entries_bytes
+entries_append [] ys = refl
+entries_append (x ∷ xs) ys =
+    ap (λ (l : List ℕ). entry_bytes x ++ l) (entries_append xs ys)
+    ∙ sym (append_assoc (entry_bytes x) (entries_bytes xs) (entries_bytes ys))
 
-one_entry : (x : ℕ) → entriesBytes (x ∷ []) ≡ entryBytes x
-unfolding entriesBytes
-one_entry x = append-nil (entryBytes x)
+one_entry : (x : ℕ) → entries_bytes (x ∷ []) ≡ entry_bytes x
+unfolding entries_bytes
+one_entry x = append-nil (entry_bytes x)
 
 -- one entry more
 pub entries_next : (entries : List ℕ) (i : ℕ) → i < length entries
-    → entriesBytes (take i entries) ++ entryBytes (get_or entries i 0) ≡ entriesBytes (take (suc i) entries)
+    → entries_bytes (take i entries) ++ entry_bytes (get_or entries i 0) ≡ entries_bytes (take (suc i) entries)
 entries_next entries i h =
-    ap (λ (l : List ℕ). entriesBytes (take i entries) ++ l) (sym (one_entry (get_or entries i 0)))
-    ∙ sym (entries-append (take i entries) (get_or entries i 0 ∷ [])) ∙ ap entriesBytes (sym (take-suc entries i 0 h))
+    ap (λ (l : List ℕ). entries_bytes (take i entries) ++ l) (sym (one_entry (get_or entries i 0)))
+    ∙ sym (entries_append (take i entries) (get_or entries i 0 ∷ [])) ∙ ap entries_bytes (sym (take-suc entries i 0 h))
 
-pub length-first : (entries : List ℕ) (i : ℕ) → i ≤ length entries → length (entriesBytes (take i entries)) ≡ 8 * i
-length-first entries i h = omega (arith, length-entriesBytes (take i entries), length-take-le i entries h)
+pub length_first : (entries : List ℕ) (i : ℕ) → i ≤ length entries → length (entries_bytes (take i entries)) ≡ 8 * i
+length_first entries i h = omega (arith, length-entries_bytes (take i entries), length-take-le i entries h)
 
 -- ---- sections
 
-pub length-sectionBytes : (entries : List ℕ) → length (sectionBytes entries) ≡ 4 + 8 * length entries
-unfolding sectionBytes
-length-sectionBytes entries =
+pub length-section_bytes : (entries : List ℕ) → length (section_bytes entries) ≡ 4 + 8 * length entries
+unfolding section_bytes
+length-section_bytes entries =
     omega (
       arith,
-      length-append (countBytes (length entries)) (entriesBytes entries),
-      length-number 4 (length entries),
-      length-entriesBytes entries,
+      length-append (count_bytes (length entries)) (entries_bytes entries),
+      length_number 4 (length entries),
+      length-entries_bytes entries,
     )
 
-pub section-bytes : (entries : List ℕ) → AreBytes (sectionBytes entries)
-unfolding sectionBytes
+pub section-bytes : (entries : List ℕ) → AreBytes (section_bytes entries)
+unfolding section_bytes
 section-bytes entries =
-    all_append (λ b. b < 2 ^ 8) (countBytes (length entries)) (entriesBytes entries) (number-bytes 4 (length entries))
+    all_append (λ b. b < 2 ^ 8) (count_bytes (length entries)) (entries_bytes entries) (number_bytes 4 (length entries))
     (entries-bytes entries)
 
 -- ---- others have other bytes
 
-pub same_count : (one other : ℕ) → one < 2 ^ 32 → other < 2 ^ 32 → countBytes one ≡ countBytes other → one ≡ other
-same_count one other h g e = sym (number_read 4 one h) ∙ ap littleEndian e ∙ number_read 4 other g
+pub same_count : (one other : ℕ) → one < 2 ^ 32 → other < 2 ^ 32 → count_bytes one ≡ count_bytes other → one ≡ other
+same_count one other h g e = sym (number_read 4 one h) ∙ ap little_endian e ∙ number_read 4 other g
 
-read-entries : (entries : List ℕ) → All IsElement entries
-    → entries_at (entriesBytes entries ++ []) 0 (length entries) ≡ entries
-read-entries entries h = entries-behind [] entries [] 0 refl h
+read_entries : (entries : List ℕ) → All IsElement entries
+    → entries_at (entries_bytes entries ++ []) 0 (length entries) ≡ entries
+read_entries entries h = entries_behind [] entries [] 0 refl h
 
 pub same_entries : (one other : List ℕ) → All IsElement one → All IsElement other
-    → entriesBytes one ≡ entriesBytes other → one ≡ other
+    → entries_bytes one ≡ entries_bytes other → one ≡ other
 same_entries one other h g e =
     let lengths : length one ≡ length other =
-    omega (arith, length-entriesBytes one, length-entriesBytes other, ap length e) in
-    sym (read-entries one h)
-    ∙ ap₂ (λ (l : List ℕ) (n : ℕ). entries_at (l ++ []) 0 n) e lengths ∙ read-entries other g
+    omega (arith, length-entries_bytes one, length-entries_bytes other, ap length e) in
+    sym (read_entries one h)
+    ∙ ap₂ (λ (l : List ℕ) (n : ℕ). entries_at (l ++ []) 0 n) e lengths ∙ read_entries other g
 
-pub same-section : (one other : List ℕ) → All IsElement one → All IsElement other
-    → sectionBytes one ≡ sectionBytes other → one ≡ other
-unfolding sectionBytes
-same-section one other h g e = same_entries one other h g (sym (entries-of one) ∙ ap (drop 4) e ∙ entries-of other)
+pub same_section : (one other : List ℕ) → All IsElement one → All IsElement other
+    → section_bytes one ≡ section_bytes other → one ≡ other
+unfolding section_bytes
+same_section one other h g e = same_entries one other h g (sym (entries_of one) ∙ ap (drop 4) e ∙ entries_of other)
   where
-    entries-of : (entries : List ℕ)
-        → drop 4 (countBytes (length entries) ++ entriesBytes entries) ≡ entriesBytes entries
-    entries-of entries =
-        drop_at (countBytes (length entries)) (entriesBytes entries) 4 (length-number 4 (length entries))
+    entries_of : (entries : List ℕ)
+        → drop 4 (count_bytes (length entries) ++ entries_bytes entries) ≡ entries_bytes entries
+    entries_of entries =
+        drop_at (count_bytes (length entries)) (entries_bytes entries) 4 (length_number 4 (length entries))

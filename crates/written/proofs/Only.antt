@@ -8,15 +8,15 @@ use lib.ListN.{length, get_or, take, drop}
 use lib.Seq.{take-length}
 use Rattle.fri.specs.Run.{Run}
 use Rattle.transcript.specs.Numerals.{AreBytes}
-use Rattle.transcript.specs.Sections.{sectionStart, sectionCount, sectionEntries, layerSection, transcriptRounds}
-use Rattle.transcript.specs.Sections.{runIn, queriesIn}
+use Rattle.transcript.specs.Sections.{section_start, section_count, section_entries, layer_section, transcript_rounds}
+use Rattle.transcript.specs.Sections.{run_in, queries_in}
 use Rattle.transcript.specs.Theorems.{Carries}
-use Rattle.transcript.proofs.Numerals.{length-entries}
-use Rattle.transcript.proofs.Sections.{first-start}
-use Rattle.transcript.proofs.Carried.{layer-is}
-use Rattle.written.specs.Bytes.{sectionsBytes}
-use Rattle.written.specs.Transcript.{layersThenLast, lists_of, transcriptOf}
-use Rattle.written.proofs.Sections.{listsFrom, sections-written}
+use Rattle.transcript.proofs.Numerals.{length_entries}
+use Rattle.transcript.proofs.Sections.{first_start}
+use Rattle.transcript.proofs.Carried.{layer_is}
+use Rattle.written.specs.Bytes.{sections_bytes}
+use Rattle.written.specs.Transcript.{layers_then_last, lists_of, transcript_of}
+use Rattle.written.proofs.Sections.{lists_from, sections_written}
 
 three : (l : List ℕ) → length l ≡ 3 → get_or l 0 0 ∷ get_or l 1 0 ∷ get_or l 2 0 ∷ [] ≡ l
 three [] e = absurd (omega arith)
@@ -25,52 +25,52 @@ three (x ∷ y ∷ []) e = absurd (omega arith)
 three (x ∷ y ∷ z ∷ []) e = refl
 three (x ∷ y ∷ z ∷ v ∷ l) e = absurd (omega arith)
 
-one-and-more : (l : List ℕ) → 1 ≤ length l → get_or l 0 0 ∷ drop 1 l ≡ l
-one-and-more [] h = absurd (omega arith)
-one-and-more (x ∷ l) h = refl
+one_and_more : (l : List ℕ) → 1 ≤ length l → get_or l 0 0 ∷ drop 1 l ≡ l
+one_and_more [] h = absurd (omega arith)
+one_and_more (x ∷ l) h = refl
 
 module _ (bytes : List ℕ) (b : AreBytes bytes) (c : Carries bytes) where
   abbrev read : Run
-  read = runIn bytes
+  read = run_in bytes
 
   abbrev r : ℕ
-  r = transcriptRounds bytes
+  r = transcript_rounds bytes
 
-  counted : (s : ℕ) → length (sectionEntries bytes s) ≡ sectionCount bytes s
-  counted s = length-entries bytes (sectionStart bytes s + 4) (sectionCount bytes s)
+  counted : (s : ℕ) → length (section_entries bytes s) ≡ section_count bytes s
+  counted s = length_entries bytes (section_start bytes s + 4) (section_count bytes s)
 
-  layers : (i left : ℕ) → i + left ≡ r → layersThenLast read i left ≡ listsFrom bytes (layerSection i) (suc left)
-  unfolding listsFrom layersThenLast
-  layers i zero e = ap (λ (n : ℕ). sectionEntries bytes (layerSection n) ∷ []) (sym e ∙ add-zero i)
+  layers : (i left : ℕ) → i + left ≡ r → layers_then_last read i left ≡ lists_from bytes (layer_section i) (suc left)
+  unfolding lists_from layers_then_last
+  layers i zero e = ap (λ (n : ℕ). section_entries bytes (layer_section n) ∷ []) (sym e ∙ add-zero i)
   layers i (suc left) e =
-      ap₂ (λ (x : List ℕ) (l : List (List ℕ)). x ∷ l) (layer-is bytes c i (omega arith))
-      (layers (suc i) left (omega arith) ∙ ap (λ (s : ℕ). listsFrom bytes s (suc left)) (add-suc 5 i))
+      ap₂ (λ (x : List ℕ) (l : List (List ℕ)). x ∷ l) (layer_is bytes c i (omega arith))
+      (layers (suc i) left (omega arith) ∙ ap (λ (s : ℕ). lists_from bytes s (suc left)) (add-suc 5 i))
 
   -- 5 + r sections
   abbrev sections : ℕ
   sections = suc (suc (suc (suc (suc r))))
 
-  lists : lists_of read (queriesIn bytes) ≡ listsFrom bytes 1 sections
-  unfolding listsFrom
+  lists : lists_of read (queries_in bytes) ≡ lists_from bytes 1 sections
+  unfolding lists_from
   lists =
       ap₂ (λ (x : List ℕ) (l : List (List ℕ)). x ∷ l)
-      (three (sectionEntries bytes 1) (counted 1 ∙ c.parameters-count))
-      (ap₂ (λ (x : List ℕ) (l : List (List ℕ)). x ∷ sectionEntries bytes 3 ∷ sectionEntries bytes 4 ∷ l)
-      (one-and-more (sectionEntries bytes 2) (omega (arith, counted 2, c.coset-count))) (layers 0 r (omega arith)))
+      (three (section_entries bytes 1) (counted 1 ∙ c.parameters_count))
+      (ap₂ (λ (x : List ℕ) (l : List (List ℕ)). x ∷ section_entries bytes 3 ∷ section_entries bytes 4 ∷ l)
+      (one_and_more (section_entries bytes 2) (omega (arith, counted 2, c.coset_count))) (layers 0 r (omega arith)))
 
-  pub only : transcriptOf read (queriesIn bytes) ≡ bytes
-  unfolding transcriptOf
+  pub only : transcript_of read (queries_in bytes) ≡ bytes
+  unfolding transcript_of
   only =
-      ap sectionsBytes lists
-      ∙ ap (λ (n : ℕ). take n bytes ++ sectionsBytes (listsFrom bytes 1 sections)) (sym (first-start bytes))
-      ∙ sections-written bytes b 1 sections (omega arith) (le_of_eq end)
+      ap sections_bytes lists
+      ∙ ap (λ (n : ℕ). take n bytes ++ sections_bytes (lists_from bytes 1 sections)) (sym (first_start bytes))
+      ∙ sections_written bytes b 1 sections (omega arith) (le_of_eq end)
       ∙ ap (λ (n : ℕ). take n bytes) end ∙ take-length bytes
     where
-      end : sectionStart bytes (1 + sections) ≡ length bytes
+      end : section_start bytes (1 + sections) ≡ length bytes
       end =
-          let same : 1 + sections ≡ suc (layerSection r) = omega arith in
-          ap (sectionStart bytes) same ∙ c.ends
+          let same : 1 + sections ≡ suc (layer_section r) = omega arith in
+          ap (section_start bytes) same ∙ c.ends
 
 pub unique : (one other : List ℕ) → AreBytes one → AreBytes other → Carries one → Carries other
-    → runIn one ≡ runIn other → queriesIn one ≡ queriesIn other → one ≡ other
-unique one other bo bt co ct e q = sym (only one bo co) ∙ ap₂ transcriptOf e q ∙ only other bt ct
+    → run_in one ≡ run_in other → queries_in one ≡ queries_in other → one ≡ other
+unique one other bo bt co ct e q = sym (only one bo co) ∙ ap₂ transcript_of e q ∙ only other bt ct

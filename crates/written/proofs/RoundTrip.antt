@@ -10,52 +10,52 @@ use lib.Seq.{take-add, take_all}
 use Rattle.gf64.specs.Field.{IsElement}
 use Rattle.poly.specs.Polynomial.{All}
 use Rattle.poly.proofs.Entries.{all_take, all_drop}
-use Rattle.fri.specs.Layout.{steps_of, dimension, lastCount, layerStart, storeLength, joinedLayers, storedLayer}
-use Rattle.fri.specs.Run.{Run, stepsIn, roundsIn, layerIn}
+use Rattle.fri.specs.Layout.{steps_of, dimension, last_count, layer_start, store_length, joined_layers, stored_layer}
+use Rattle.fri.specs.Run.{Run, steps_in, rounds_in, layer_in}
 use Rattle.refusal.specs.declared.Cause.TheVariants.{InputTooLong}
 use Rattle.refusal.specs.declared.Outcome.TheVariants.{Done}
 use Rattle.fri.specs.declared.Answer.TheVariants as answers
-use Rattle.fri.specs.Judge.{checksOutcome, verdictOf}
+use Rattle.fri.specs.Judge.{checks_outcome, verdict_of}
 use Rattle.fri.specs.Demand.{ValidParameters}
-use Rattle.fri.proofs.Layouts.{some-round, rounds-few}
+use Rattle.fri.proofs.Layouts.{some_round, rounds_few}
 use Rattle.transcript.specs.Numerals.{AreBytes}
-use Rattle.transcript.specs.Sections.{sectionStart, sectionCount, sectionEntries, layerSection, transcriptK}
-use Rattle.transcript.specs.Sections.{transcriptStep, transcriptSteps, transcriptRounds, runIn, queriesIn}
-use Rattle.transcript.specs.Judge.{transcriptVerdict, inputLimit, inputVerdict}
+use Rattle.transcript.specs.Sections.{section_start, section_count, section_entries, layer_section, transcript_k}
+use Rattle.transcript.specs.Sections.{transcript_step, transcript_steps, transcript_rounds, run_in, queries_in}
+use Rattle.transcript.specs.Judge.{transcript_verdict, input_limit, input_verdict}
 use Rattle.transcript.specs.Theorems.{Carries}
-use Rattle.transcript.proofs.Numerals.{length-entries}
-use Rattle.transcript.proofs.Sections.{first-start}
-use Rattle.transcript.proofs.Theorems.{judging-bytes}
-use Rattle.transcript.proofs.LongInputs.{long-inputs}
-use Rattle.written.specs.Transcript.{layersThenLast, lists_of, transcriptOf}
+use Rattle.transcript.proofs.Numerals.{length_entries}
+use Rattle.transcript.proofs.Sections.{first_start}
+use Rattle.transcript.proofs.Theorems.{judging_bytes}
+use Rattle.transcript.proofs.LongInputs.{long_inputs}
+use Rattle.written.specs.Transcript.{layers_then_last, lists_of, transcript_of}
 use Rattle.written.specs.Theorems.{FitsSections, WrittenTranscripts}
 use Rattle.written.proofs.Only.{only, unique}
-use Rattle.written.proofs.Others.{others-refused}
-use Rattle.written.proofs.Lengths.{layer-length, transcript-size}
-use Rattle.written.proofs.Sections.{Holds, AllRead, sections-bytes, sections-read}
+use Rattle.written.proofs.Others.{others_refused}
+use Rattle.written.proofs.Lengths.{layer_length, transcript_size}
+use Rattle.written.proofs.Sections.{Holds, AllRead, sections-bytes, sections_read}
 
 -- the layers of a store, joined, are the store's first entries
-joined-stored : (k : ℕ) (steps store : List ℕ) (n : ℕ)
-    → joinedLayers (storedLayer k steps store) n ≡ take (layerStart k steps (suc n)) store
-unfolding joinedLayers layerStart storedLayer
-joined-stored k steps store zero = refl
-joined-stored k steps store (suc n) =
-    ap (λ (l : List ℕ). l ++ storedLayer k steps store (suc n)) (joined-stored k steps store n)
-    ∙ sym (take-add (layerStart k steps (suc n)) (2 ^ dimension k steps (suc n)) store)
+joined_stored : (k : ℕ) (steps store : List ℕ) (n : ℕ)
+    → joined_layers (stored_layer k steps store) n ≡ take (layer_start k steps (suc n)) store
+unfolding joined_layers layer_start stored_layer
+joined_stored k steps store zero = refl
+joined_stored k steps store (suc n) =
+    ap (λ (l : List ℕ). l ++ stored_layer k steps store (suc n)) (joined_stored k steps store n)
+    ∙ sym (take-add (layer_start k steps (suc n)) (2 ^ dimension k steps (suc n)) store)
 
-joined_same : (f g : ℕ → List ℕ) (n : ℕ) → ((i : ℕ) → 1 ≤ i → i ≤ n → f i ≡ g i) → joinedLayers f n ≡ joinedLayers g n
-unfolding joinedLayers
+joined_same : (f g : ℕ → List ℕ) (n : ℕ) → ((i : ℕ) → 1 ≤ i → i ≤ n → f i ≡ g i) → joined_layers f n ≡ joined_layers g n
+unfolding joined_layers
 joined_same f g zero h = refl
 joined_same f g (suc n) h =
     ap₂ ◌++◌ (joined_same f g n (λ i l m. h i l (omega arith))) (h (suc n) (omega arith) (omega arith))
 
 -- no layer has more points than the first
-dimension-most : (k : ℕ) (steps : List ℕ) (i : ℕ) → dimension k steps i ≤ k
+dimension_most : (k : ℕ) (steps : List ℕ) (i : ℕ) → dimension k steps i ≤ k
 unfolding dimension
-dimension-most k steps zero = omega arith
-dimension-most k steps (suc i) = omega (arith, dimension-most k steps i)
+dimension_most k steps zero = omega arith
+dimension_most k steps (suc i) = omega (arith, dimension_most k steps i)
 
-same-run : {k k' rate rate' step step' offset offset' : ℕ}
+same_run : {k k' rate rate' step step' offset offset' : ℕ}
     {basis basis' challenges challenges' word word' store store' last last' : List ℕ}
     → k ≡ k' → rate ≡ rate' → step ≡ step' → offset ≡ offset' → basis ≡ basis' → challenges ≡ challenges'
     → word ≡ word' → store ≡ store' → last ≡ last'
@@ -82,225 +82,225 @@ same-run : {k k' rate rate' step step' offset offset' : ℕ}
       store = store';
       last = last';
     })
-same-run a b c d e f g h i = cc
+same_run a b c d e f g h i = cc
 
 module _ (run : Run) where
-  length-layers : (i left : ℕ) → length (layersThenLast run i left) ≡ suc left
-  unfolding layersThenLast
-  length-layers i zero = refl
-  length-layers i (suc left) = ap suc (length-layers (suc i) left)
+  length_layers : (i left : ℕ) → length (layers_then_last run i left) ≡ suc left
+  unfolding layers_then_last
+  length_layers i zero = refl
+  length_layers i (suc left) = ap suc (length_layers (suc i) left)
 
-  layer-of : (i left t : ℕ) → t < left → get_or (layersThenLast run i left) t [] ≡ layerIn run (i + t)
-  unfolding layersThenLast
-  layer-of i zero t h = absurd (omega arith)
-  layer-of i (suc left) zero h = ap (layerIn run) (sym (add-zero i))
-  layer-of i (suc left) (suc t) h =
-      layer-of (suc i) left t (omega arith) ∙ ap (layerIn run) (suc-add i t ∙ sym (add-suc i t))
+  layer_of : (i left t : ℕ) → t < left → get_or (layers_then_last run i left) t [] ≡ layer_in run (i + t)
+  unfolding layers_then_last
+  layer_of i zero t h = absurd (omega arith)
+  layer_of i (suc left) zero h = ap (layer_in run) (sym (add-zero i))
+  layer_of i (suc left) (suc t) h =
+      layer_of (suc i) left t (omega arith) ∙ ap (layer_in run) (suc-add i t ∙ sym (add-suc i t))
 
-  last_of : (i left : ℕ) → get_or (layersThenLast run i left) left [] ≡ run.last
-  unfolding layersThenLast
+  last_of : (i left : ℕ) → get_or (layers_then_last run i left) left [] ≡ run.last
+  unfolding layers_then_last
   last_of i zero = refl
   last_of i (suc left) = last_of (suc i) left
 
 module _ (run : Run) (queries : List ℕ) (w : FitsSections run queries) where
   abbrev bytes : List ℕ
-  bytes = transcriptOf run queries
+  bytes = transcript_of run queries
 
   abbrev n : ℕ
-  n = roundsIn run
+  n = rounds_in run
 
   abbrev steps : List ℕ
-  steps = stepsIn run
+  steps = steps_in run
 
   some : 0 < n
-  some = some-round run.k run.rate run.step w.parameters.step-least w.parameters.k-enough
+  some = some_round run.k run.rate run.step w.parameters.step_least w.parameters.k_enough
 
   few : n ≤ 19
   few =
       let p = w.parameters in
-      rounds-few run.k run.rate run.step p.rate-least p.step-least p.k-most
+      rounds_few run.k run.rate run.step p.rate_least p.step_least p.k_most
 
   -- every list can be held
 
   fits_count : (count m : ℕ) → count ≡ 2 ^ m → m ≤ run.k → count < 2 ^ 32
   fits_count count m e h =
-      let most : 2 ^ m ≤ 2 ^ 20 = pow_mono {i = m} {j = 20} (le_trans h w.parameters.k-most) in omega arith
+      let most : 2 ^ m ≤ 2 ^ 20 = pow_mono {i = m} {j = 20} (le_trans h w.parameters.k_most) in omega arith
 
-  layer-holds : (i : ℕ) → i < n → Holds (layerIn run i)
-  unfolding layerIn storedLayer
-  layer-holds zero h =
+  layer_holds : (i : ℕ) → i < n → Holds (layer_in run i)
+  unfolding layer_in stored_layer
+  layer_holds zero h =
       (fits_count (length run.word) run.k w.lengths.word (omega arith), w.elements.word)
-  layer-holds (suc i) h =
+  layer_holds (suc i) h =
       let m : ℕ = dimension run.k steps (suc i) in
-      let from : ℕ = layerStart run.k steps (suc i) in (
-        fits_count (length (layerIn run (suc i))) m (layer-length run w.parameters w.lengths (suc i) h)
-            (dimension-most run.k steps (suc i)),
+      let from : ℕ = layer_start run.k steps (suc i) in (
+        fits_count (length (layer_in run (suc i))) m (layer_length run w.parameters w.lengths (suc i) h)
+            (dimension_most run.k steps (suc i)),
         all_take IsElement (2 ^ m) (drop from run.store)
             (all_drop IsElement from run.store w.elements.store),
       )
 
-  last-holds : Holds run.last
-  unfolding lastCount
-  last-holds =
+  last_holds : Holds run.last
+  unfolding last_count
+  last_holds =
       let m : ℕ = dimension run.k steps n in (
         fits_count (length run.last) (m - run.rate) w.lengths.last
-            (omega (arith, dimension-most run.k steps n)),
+            (omega (arith, dimension_most run.k steps n)),
         w.elements.last,
       )
 
-  layers-hold : (i left : ℕ) → i + left ≡ n → All Holds (layersThenLast run i left)
-  unfolding layersThenLast
-  layers-hold i zero e = (last-holds, record {})
-  layers-hold i (suc left) e = (layer-holds i (omega arith), layers-hold (suc i) left (omega arith))
+  layers_hold : (i left : ℕ) → i + left ≡ n → All Holds (layers_then_last run i left)
+  unfolding layers_then_last
+  layers_hold i zero e = (last_holds, record {})
+  layers_hold i (suc left) e = (layer_holds i (omega arith), layers_hold (suc i) left (omega arith))
 
-  parameters-hold : Holds (run.k ∷ run.rate ∷ run.step ∷ [])
-  parameters-hold =
+  parameters_hold : Holds (run.k ∷ run.rate ∷ run.step ∷ [])
+  parameters_hold =
       let p = w.parameters in
-      let k-small : IsElement run.k = omega (arith, p.k-most) in
-      let rate-small : IsElement run.rate = omega (arith, p.rate-most) in
-      let step_small : IsElement run.step = omega (arith, p.step-most) in
-      (omega arith, (k-small, (rate-small, (step_small, record {}))))
+      let k_small : IsElement run.k = omega (arith, p.k_most) in
+      let rate_small : IsElement run.rate = omega (arith, p.rate_most) in
+      let step_small : IsElement run.step = omega (arith, p.step_most) in
+      (omega arith, (k_small, (rate_small, (step_small, record {}))))
 
-  coset-holds : Holds (run.offset ∷ run.basis)
-  coset-holds = (omega (arith, w.lengths.basis, w.parameters.k-most), (w.elements.offset, w.elements.basis))
+  coset_holds : Holds (run.offset ∷ run.basis)
+  coset_holds = (omega (arith, w.lengths.basis, w.parameters.k_most), (w.elements.offset, w.elements.basis))
 
-  challenges-hold : Holds run.challenges
-  challenges-hold = (omega (arith, w.lengths.challenges, few), w.elements.challenges)
+  challenges_hold : Holds run.challenges
+  challenges_hold = (omega (arith, w.lengths.challenges, few), w.elements.challenges)
 
-  queries-hold : Holds queries
-  queries-hold = (w.queries-count, w.queries-elements)
+  queries_hold : Holds queries
+  queries_hold = (w.queries_count, w.queries_elements)
 
   hold : All Holds (lists_of run queries)
-  hold = (parameters-hold, (coset-holds, (challenges-hold, (queries-hold, layers-hold 0 n (omega arith)))))
+  hold = (parameters_hold, (coset_holds, (challenges_hold, (queries_hold, layers_hold 0 n (omega arith)))))
 
   all_read : AllRead bytes (lists_of run queries) 1
-  unfolding transcriptOf
-  all_read = sections-read bytes [] (lists_of run queries) 1 (omega arith) (first-start bytes) refl hold
+  unfolding transcript_of
+  all_read = sections_read bytes [] (lists_of run queries) 1 (omega arith) (first_start bytes) refl hold
 
-  how-many : length (lists_of run queries) ≡ 5 + n
-  how-many = omega (arith, length-layers run 0 n)
+  how_many : length (lists_of run queries) ≡ 5 + n
+  how_many = omega (arith, length_layers run 0 n)
 
   -- section by section
 
-  parameters-again : sectionEntries bytes 1 ≡ run.k ∷ run.rate ∷ run.step ∷ []
-  parameters-again = all_read.0 0 (omega (arith, how-many))
+  parameters_again : section_entries bytes 1 ≡ run.k ∷ run.rate ∷ run.step ∷ []
+  parameters_again = all_read.0 0 (omega (arith, how_many))
 
-  coset-again : sectionEntries bytes 2 ≡ run.offset ∷ run.basis
-  coset-again = all_read.0 1 (omega (arith, how-many))
+  coset_again : section_entries bytes 2 ≡ run.offset ∷ run.basis
+  coset_again = all_read.0 1 (omega (arith, how_many))
 
-  challenges-again : sectionEntries bytes 3 ≡ run.challenges
-  challenges-again = all_read.0 2 (omega (arith, how-many))
+  challenges_again : section_entries bytes 3 ≡ run.challenges
+  challenges_again = all_read.0 2 (omega (arith, how_many))
 
-  queries-again : queriesIn bytes ≡ queries
-  queries-again = all_read.0 3 (omega (arith, how-many))
+  queries_again : queries_in bytes ≡ queries
+  queries_again = all_read.0 3 (omega (arith, how_many))
 
-  layer-again : (i : ℕ) → i < n → sectionEntries bytes (layerSection i) ≡ layerIn run i
-  layer-again i h =
-      let place : layerSection i ≡ 1 + suc (suc (suc (suc i))) = omega arith in
-      ap (sectionEntries bytes) place ∙ all_read.0 (suc (suc (suc (suc i)))) (omega (arith, how-many))
-      ∙ layer-of run 0 n i h ∙ ap (layerIn run) (omega arith)
+  layer_again : (i : ℕ) → i < n → section_entries bytes (layer_section i) ≡ layer_in run i
+  layer_again i h =
+      let place : layer_section i ≡ 1 + suc (suc (suc (suc i))) = omega arith in
+      ap (section_entries bytes) place ∙ all_read.0 (suc (suc (suc (suc i)))) (omega (arith, how_many))
+      ∙ layer_of run 0 n i h ∙ ap (layer_in run) (omega arith)
 
-  last-again : sectionEntries bytes (layerSection n) ≡ run.last
-  last-again =
-      let place : layerSection n ≡ 1 + suc (suc (suc (suc n))) = omega arith in
-      ap (sectionEntries bytes) place ∙ all_read.0 (suc (suc (suc (suc n)))) (omega (arith, how-many))
+  last_again : section_entries bytes (layer_section n) ≡ run.last
+  last_again =
+      let place : layer_section n ≡ 1 + suc (suc (suc (suc n))) = omega arith in
+      ap (section_entries bytes) place ∙ all_read.0 (suc (suc (suc (suc n)))) (omega (arith, how_many))
       ∙ last_of run 0 n
 
-  parameter : (i : ℕ) → get_or (sectionEntries bytes 1) i 0 ≡ get_or (run.k ∷ run.rate ∷ run.step ∷ []) i 0
-  parameter i = ap (λ (l : List ℕ). get_or l i 0) parameters-again
+  parameter : (i : ℕ) → get_or (section_entries bytes 1) i 0 ≡ get_or (run.k ∷ run.rate ∷ run.step ∷ []) i 0
+  parameter i = ap (λ (l : List ℕ). get_or l i 0) parameters_again
 
-  steps-again : transcriptSteps bytes ≡ steps
-  steps-again =
-      ap₂ (λ (a b : ℕ). steps_of a b (transcriptStep bytes)) (parameter 0) (parameter 1)
+  steps_again : transcript_steps bytes ≡ steps
+  steps_again =
+      ap₂ (λ (a b : ℕ). steps_of a b (transcript_step bytes)) (parameter 0) (parameter 1)
       ∙ ap (steps_of run.k run.rate) (parameter 2)
 
-  rounds-again : transcriptRounds bytes ≡ n
-  rounds-again = ap length steps-again
+  rounds_again : transcript_rounds bytes ≡ n
+  rounds_again = ap length steps_again
 
-  store-again : joinedLayers (λ i. sectionEntries bytes (layerSection i)) (n - 1) ≡ run.store
-  unfolding storeLength layerIn
-  store-again =
-      joined_same (λ i. sectionEntries bytes (layerSection i)) (storedLayer run.k steps run.store) (n - 1) each
-      ∙ joined-stored run.k steps run.store (n - 1)
-      ∙ ap (λ (m : ℕ). take (layerStart run.k steps m) run.store) whole
-      ∙ take_all (layerStart run.k steps n) run.store (le_of_eq w.lengths.store)
+  store_again : joined_layers (λ i. section_entries bytes (layer_section i)) (n - 1) ≡ run.store
+  unfolding store_length layer_in
+  store_again =
+      joined_same (λ i. section_entries bytes (layer_section i)) (stored_layer run.k steps run.store) (n - 1) each
+      ∙ joined_stored run.k steps run.store (n - 1)
+      ∙ ap (λ (m : ℕ). take (layer_start run.k steps m) run.store) whole
+      ∙ take_all (layer_start run.k steps n) run.store (le_of_eq w.lengths.store)
     where
       whole : suc (n - 1) ≡ n
       whole = omega (arith, some)
 
       each : (i : ℕ) → 1 ≤ i → i ≤ n - 1
-          → sectionEntries bytes (layerSection i) ≡ storedLayer run.k steps run.store i
+          → section_entries bytes (layer_section i) ≡ stored_layer run.k steps run.store i
       each zero l m = absurd (omega arith)
-      each (suc i) l m = layer-again (suc i) (omega (arith, some))
+      each (suc i) l m = layer_again (suc i) (omega (arith, some))
 
-  run-again : runIn bytes ≡ run
-  unfolding layerIn
-  run-again =
-      same-run (parameter 0) (parameter 1) (parameter 2) (ap (λ (l : List ℕ). get_or l 0 0) coset-again)
-      (ap (λ (l : List ℕ). drop 1 l) coset-again) challenges-again (layer-again 0 some)
-      (ap (λ (m : ℕ). joinedLayers (λ i. sectionEntries bytes (layerSection i)) (m - 1)) rounds-again ∙ store-again)
-      (ap (λ (m : ℕ). sectionEntries bytes (layerSection m)) rounds-again ∙ last-again)
+  run_again : run_in bytes ≡ run
+  unfolding layer_in
+  run_again =
+      same_run (parameter 0) (parameter 1) (parameter 2) (ap (λ (l : List ℕ). get_or l 0 0) coset_again)
+      (ap (λ (l : List ℕ). drop 1 l) coset_again) challenges_again (layer_again 0 some)
+      (ap (λ (m : ℕ). joined_layers (λ i. section_entries bytes (layer_section i)) (m - 1)) rounds_again ∙ store_again)
+      (ap (λ (m : ℕ). section_entries bytes (layer_section m)) rounds_again ∙ last_again)
 
-  count-again : {entries : List ℕ} (s : ℕ) → sectionEntries bytes s ≡ entries → sectionCount bytes s ≡ length entries
-  count-again s e = sym (length-entries bytes (sectionStart bytes s + 4) (sectionCount bytes s)) ∙ ap length e
+  count_again : {entries : List ℕ} (s : ℕ) → section_entries bytes s ≡ entries → section_count bytes s ≡ length entries
+  count_again s e = sym (length_entries bytes (section_start bytes s + 4) (section_count bytes s)) ∙ ap length e
 
   carries : Carries bytes
   carries =
       record {
-        parameters-count = count-again 1 parameters-again;
-        parameters = subst (λ (x : Run). ValidParameters x.k x.rate x.step) (sym run-again) w.parameters;
-        coset-count = count-again 2 coset-again ∙ omega (arith, w.lengths.basis, parameter 0);
-        challenges-count = count-again 3 challenges-again ∙ w.lengths.challenges ∙ sym rounds-again;
-        layer-counts = layer-counts;
+        parameters_count = count_again 1 parameters_again;
+        parameters = subst (λ (x : Run). ValidParameters x.k x.rate x.step) (sym run_again) w.parameters;
+        coset_count = count_again 2 coset_again ∙ omega (arith, w.lengths.basis, parameter 0);
+        challenges_count = count_again 3 challenges_again ∙ w.lengths.challenges ∙ sym rounds_again;
+        layer_counts = layer_counts;
         last-count =
-            ap (λ (m : ℕ). sectionCount bytes (layerSection m)) rounds-again ∙ count-again (layerSection n) last-again
-            ∙ w.lengths.last ∙ sym (ap (λ (x : Run). lastCount x.k x.rate (stepsIn x)) run-again);
+            ap (λ (m : ℕ). section_count bytes (layer_section m)) rounds_again ∙ count_again (layer_section n) last_again
+            ∙ w.lengths.last ∙ sym (ap (λ (x : Run). last_count x.k x.rate (steps_in x)) run_again);
         ends = ends;
       }
     where
-      layer-counts : (i : ℕ) → i < transcriptRounds bytes
-          → sectionCount bytes (layerSection i) ≡ 2 ^ dimension (transcriptK bytes) (transcriptSteps bytes) i
-      layer-counts i h =
-          let inside : i < n = subst (λ (m : ℕ). i < m) rounds-again h in
-          count-again (layerSection i) (layer-again i inside) ∙ layer-length run w.parameters w.lengths i inside
-          ∙ sym (ap (λ (x : Run). 2 ^ dimension x.k (stepsIn x) i) run-again)
+      layer_counts : (i : ℕ) → i < transcript_rounds bytes
+          → section_count bytes (layer_section i) ≡ 2 ^ dimension (transcript_k bytes) (transcript_steps bytes) i
+      layer_counts i h =
+          let inside : i < n = subst (λ (m : ℕ). i < m) rounds_again h in
+          count_again (layer_section i) (layer_again i inside) ∙ layer_length run w.parameters w.lengths i inside
+          ∙ sym (ap (λ (x : Run). 2 ^ dimension x.k (steps_in x) i) run_again)
 
-      ends : sectionStart bytes (suc (layerSection (transcriptRounds bytes))) ≡ length bytes
+      ends : section_start bytes (suc (layer_section (transcript_rounds bytes))) ≡ length bytes
       ends =
-          let place : suc (layerSection (transcriptRounds bytes)) ≡ 1 + length (lists_of run queries) =
-          omega (arith, how-many, rounds-again) in
-          ap (sectionStart bytes) place ∙ all_read.1
+          let place : suc (layer_section (transcript_rounds bytes)) ≡ 1 + length (lists_of run queries) =
+          omega (arith, how_many, rounds_again) in
+          ap (section_start bytes) place ∙ all_read.1
 
-  judged : transcriptVerdict bytes ≡ verdictOf run queries
-  judged = judging-bytes.carried bytes carries ∙ ap₂ verdictOf run-again queries-again
+  judged : transcript_verdict bytes ≡ verdict_of run queries
+  judged = judging_bytes.carried bytes carries ∙ ap₂ verdict_of run_again queries_again
 
-  judged-by-program : length bytes ≤ inputLimit → inputVerdict bytes ≡ verdictOf run queries
-  judged-by-program h = judging-bytes.short bytes h ∙ judged
+  judged_by_program : length bytes ≤ input_limit → input_verdict bytes ≡ verdict_of run queries
+  judged_by_program h = judging_bytes.short bytes h ∙ judged
 
-  over-limit : inputLimit < length bytes → checksOutcome run queries ≡ Done
-      → inputVerdict bytes ≡ record { answer = answers.Refused InputTooLong; reads = 0 }
-  over-limit h passed =
-      long-inputs.passed bytes h
-      (long-inputs.carried bytes carries ∙ ap₂ checksOutcome run-again queries-again ∙ passed)
+  over_limit : input_limit < length bytes → checks_outcome run queries ≡ Done
+      → input_verdict bytes ≡ record { answer = answers.Refused InputTooLong; reads = 0 }
+  over_limit h passed =
+      long_inputs.passed bytes h
+      (long_inputs.carried bytes carries ∙ ap₂ checks_outcome run_again queries_again ∙ passed)
 
 -- ---- the theorems
 
-all-bytes : (run : Run) (queries : List ℕ) → AreBytes (transcriptOf run queries)
-unfolding transcriptOf
-all-bytes run queries = sections-bytes (lists_of run queries)
+all_bytes : (run : Run) (queries : List ℕ) → AreBytes (transcript_of run queries)
+unfolding transcript_of
+all_bytes run queries = sections-bytes (lists_of run queries)
 
-pub written-transcripts : WrittenTranscripts
-written-transcripts =
+pub written_transcripts : WrittenTranscripts
+written_transcripts =
     record {
-      are-bytes = all-bytes;
-      size = λ run queries valid fits. transcript-size run valid fits queries;
+      are_bytes = all_bytes;
+      size = λ run queries valid fits. transcript_size run valid fits queries;
       carries = carries;
-      run-again = run-again;
-      queries-again = queries-again;
+      run_again = run_again;
+      queries_again = queries_again;
       only = only;
       unique = unique;
-      others-refused = others-refused;
+      others_refused = others_refused;
       judged = judged;
-      judged-by-program = judged-by-program;
-      over-limit = over-limit;
+      judged_by_program = judged_by_program;
+      over_limit = over_limit;
     }

@@ -12,121 +12,121 @@ use Rattle.refusal.specs.declared.Cause.TheVariants.{WrongLength}
 use Rattle.refusal.specs.declared.Outcome.{Outcome}
 use Rattle.refusal.specs.declared.Outcome.TheVariants.{Done, Refused}
 use Rattle.refusal.specs.Checks.{and_then, afterwards}
-use Rattle.refusal.specs.Numbers.{numberOfOutcome}
-use Rattle.refusal.proofs.Checks.{equal-of-test, passed-by, refused-by, unless-done, then-passed, then-done}
-use Rattle.refusal.proofs.Checks.{then-then, number-unless, number-then}
+use Rattle.refusal.specs.Numbers.{number_of_outcome}
+use Rattle.refusal.proofs.Checks.{equal_of_test, passed_by, refused_by, unless_done, then_passed, then_done}
+use Rattle.refusal.proofs.Checks.{then_then, number_unless, number_then}
 use Rattle.coset.specs.Answers.{basisOutcome}
-use Rattle.coset.proofs.Independence.{basis-number}
-use Rattle.fri.specs.Run.{Run, stepsIn, stepIn}
-use Rattle.fri.specs.Checks.{parametersOutcome, lengthsOutcome, queriesOutcome}
-use Rattle.fri.specs.Judge.{checksOutcome}
+use Rattle.coset.proofs.Independence.{basis_number}
+use Rattle.fri.specs.Run.{Run, steps_in, step_in}
+use Rattle.fri.specs.Checks.{parameters_outcome, lengths_outcome, queries_outcome}
+use Rattle.fri.specs.Judge.{checks_outcome}
 use Rattle.fri.specs.Demand.{ValidParameters}
 use Rattle.fri.specs.Theorems.{Fit}
-use Rattle.fri.proofs.Checks.{parameters-pass, parameters-valid, lengths-pass, lengths-fit}
-use Rattle.fri.proofs.Checks.{run-number, queries-number}
-use Rattle.written.specs.Transcript.{transcriptOf, transcriptLength}
-use Rattle.written.specs.Writer.{sizeOutcome, writeOutcome, bytesAfter}
+use Rattle.fri.proofs.Checks.{parameters_pass, parameters_valid, lengths_pass, lengths_fit}
+use Rattle.fri.proofs.Checks.{run_number, queries_number}
+use Rattle.written.specs.Transcript.{transcript_of, transcript_length}
+use Rattle.written.specs.Writer.{size_outcome, write_outcome, bytes_after}
 use Rattle.written.specs.Theorems.{WriterNumber, WriterRefusals}
-use Rattle.written.proofs.Lengths.{transcript-size}
+use Rattle.written.proofs.Lengths.{transcript_size}
 
 -- ---- three groups of checks
 
 -- what is refused by the first two is refused whatever follows
 cut : (first second after : Outcome) (cause : Cause) → and_then first second ≡ Refused cause
     → and_then first (and_then second after) ≡ Refused cause
-cut first second after cause e = then-then first second after ∙ ap (λ (o : Outcome). and_then o after) e
+cut first second after cause e = then_then first second after ∙ ap (λ (o : Outcome). and_then o after) e
 
-number-before : (P : ℕ → Type 0) (first second third after : Outcome)
-    → P (numberOfOutcome (and_then first (and_then second third))) → P (numberOfOutcome after)
-    → P (numberOfOutcome (and_then first (and_then second after)))
-number-before P Done Done third after h a = a
-number-before P Done (Refused cause) third after h a = h
-number-before P (Refused cause) second third after h a = h
+number_before : (P : ℕ → Type 0) (first second third after : Outcome)
+    → P (number_of_outcome (and_then first (and_then second third))) → P (number_of_outcome after)
+    → P (number_of_outcome (and_then first (and_then second after)))
+number_before P Done Done third after h a = a
+number_before P Done (Refused cause) third after h a = h
+number_before P (Refused cause) second third after h a = h
 
 -- ---- the writer's
 
 module _ (run : Run) (queries : List ℕ) where
   abbrev parameters : Outcome
-  parameters = parametersOutcome run.k run.rate run.step
+  parameters = parameters_outcome run.k run.rate run.step
 
-  abbrev of-basis : Outcome
-  of-basis = basisOutcome run.basis
+  abbrev of_basis : Outcome
+  of_basis = basisOutcome run.basis
 
-  abbrev of-queries : Outcome
-  of-queries = queriesOutcome run.k (stepIn run 0) queries
+  abbrev of_queries : Outcome
+  of_queries = queries_outcome run.k (step_in run 0) queries
 
   abbrev needed : ℕ
-  needed = length (transcriptOf run queries)
+  needed = length (transcript_of run queries)
 
   abbrev sized : ℕ → Outcome
-  sized size = and_then (sizeOutcome run queries size) (and_then of-basis of-queries)
+  sized size = and_then (size_outcome run queries size) (and_then of_basis of_queries)
 
-  as-lists-needed : writeOutcome run queries needed ≡ checksOutcome run queries
-  as-lists-needed =
-      ap (λ (o : Outcome). and_then parameters (and_then (lengthsOutcome run) (and_then o (and_then of-basis of-queries))))
-      (sym (passed-by (eqb needed needed) (WrongLength 8) Done (eq-eqb needed needed refl)))
-      ∙ ap (and_then parameters) (then-then (lengthsOutcome run) of-basis of-queries)
-      ∙ then-then parameters (and_then (lengthsOutcome run) of-basis) of-queries
+  as_lists_needed : write_outcome run queries needed ≡ checks_outcome run queries
+  as_lists_needed =
+      ap (λ (o : Outcome). and_then parameters (and_then (lengths_outcome run) (and_then o (and_then of_basis of_queries))))
+      (sym (passed_by (eqb needed needed) (WrongLength 8) Done (eq-eqb needed needed refl)))
+      ∙ ap (and_then parameters) (then_then (lengths_outcome run) of_basis of_queries)
+      ∙ then_then parameters (and_then (lengths_outcome run) of_basis) of_queries
 
-  earlier : (size : ℕ) (cause : Cause) → and_then parameters (lengthsOutcome run) ≡ Refused cause
-      → writeOutcome run queries size ≡ Refused cause
-  earlier size cause e = cut parameters (lengthsOutcome run) (sized size) cause e
+  earlier : (size : ℕ) (cause : Cause) → and_then parameters (lengths_outcome run) ≡ Refused cause
+      → write_outcome run queries size ≡ Refused cause
+  earlier size cause e = cut parameters (lengths_outcome run) (sized size) cause e
 
   abbrev due : ℕ
-  due = transcriptLength run.k run.rate (stepsIn run) (length queries)
+  due = transcript_length run.k run.rate (steps_in run) (length queries)
 
-  as_lists : writeOutcome run queries due ≡ checksOutcome run queries
-  as_lists = by (and_then parameters (lengthsOutcome run)) refl
+  as_lists : write_outcome run queries due ≡ checks_outcome run queries
+  as_lists = by (and_then parameters (lengths_outcome run)) refl
     where
-      by : (o : Outcome) → and_then parameters (lengthsOutcome run) ≡ o
-          → writeOutcome run queries due ≡ checksOutcome run queries
-      by (Refused cause) e = earlier due cause e ∙ sym (earlier needed cause e) ∙ as-lists-needed
+      by : (o : Outcome) → and_then parameters (lengths_outcome run) ≡ o
+          → write_outcome run queries due ≡ checks_outcome run queries
+      by (Refused cause) e = earlier due cause e ∙ sym (earlier needed cause e) ∙ as_lists_needed
       by Done e =
-          let both = then-done parameters (lengthsOutcome run) e in
-          let valid = parameters-valid run.k run.rate run.step both.0 in
-          ap (writeOutcome run queries) (sym (transcript-size run valid (lengths-fit run both.1) queries))
-          ∙ as-lists-needed
+          let both = then_done parameters (lengths_outcome run) e in
+          let valid = parameters_valid run.k run.rate run.step both.0 in
+          ap (write_outcome run queries) (sym (transcript_size run valid (lengths_fit run both.1) queries))
+          ∙ as_lists_needed
 
-  sized-done : (size : ℕ) → writeOutcome run queries size ≡ Done → size ≡ due
-  sized-done size e =
-      let ranges = then-done parameters (and_then (lengthsOutcome run) (sized size)) e in
-      let lists = then-done (lengthsOutcome run) (sized size) ranges.1 in
-      let fits = then-done (sizeOutcome run queries size) (and_then of-basis of-queries) lists.1 in
-      let valid = parameters-valid run.k run.rate run.step ranges.0 in
-      equal-of-test size needed (unless-done (eqb size needed) (WrongLength 8) Done fits.0).0
-      ∙ transcript-size run valid (lengths-fit run lists.0) queries
+  sized_done : (size : ℕ) → write_outcome run queries size ≡ Done → size ≡ due
+  sized_done size e =
+      let ranges = then_done parameters (and_then (lengths_outcome run) (sized size)) e in
+      let lists = then_done (lengths_outcome run) (sized size) ranges.1 in
+      let fits = then_done (size_outcome run queries size) (and_then of_basis of_queries) lists.1 in
+      let valid = parameters_valid run.k run.rate run.step ranges.0 in
+      equal_of_test size needed (unless_done (eqb size needed) (WrongLength 8) Done fits.0).0
+      ∙ transcript_size run valid (lengths_fit run lists.0) queries
 
-  done : (size : ℕ) → (writeOutcome run queries size ≡ Done) ↔ ((checksOutcome run queries ≡ Done) × (size ≡ due))
+  done : (size : ℕ) → (write_outcome run queries size ≡ Done) ↔ ((checks_outcome run queries ≡ Done) × (size ≡ due))
   done size = (
-    λ e. let same = sized-done size e in (sym as_lists ∙ ap (writeOutcome run queries) (sym same) ∙ e, same),
-    λ both. ap (writeOutcome run queries) both.1 ∙ as_lists ∙ both.0,
+    λ e. let same = sized_done size e in (sym as_lists ∙ ap (write_outcome run queries) (sym same) ∙ e, same),
+    λ both. ap (write_outcome run queries) both.1 ∙ as_lists ∙ both.0,
   )
 
   list8 : (size : ℕ) → ValidParameters run.k run.rate run.step → Fit run
-      → size ≢ transcriptLength run.k run.rate (stepsIn run) (length queries)
-      → writeOutcome run queries size ≡ Refused (WrongLength 8)
+      → size ≢ transcript_length run.k run.rate (steps_in run) (length queries)
+      → write_outcome run queries size ≡ Refused (WrongLength 8)
   list8 size v f n =
-      sym (then-passed parameters (and_then (lengthsOutcome run) (sized size))
-      (parameters-pass run.k run.rate run.step v))
-      ∙ sym (then-passed (lengthsOutcome run) (sized size) (lengths-pass run f))
-      ∙ ap (λ (o : Outcome). and_then o (and_then of-basis of-queries))
-      (sym (refused-by (eqb size needed) (WrongLength 8) Done
-      (ne_eqb size needed (λ e. n (e ∙ transcript-size run v f queries)))))
+      sym (then_passed parameters (and_then (lengths_outcome run) (sized size))
+      (parameters_pass run.k run.rate run.step v))
+      ∙ sym (then_passed (lengths_outcome run) (sized size) (lengths_pass run f))
+      ∙ ap (λ (o : Outcome). and_then o (and_then of_basis of_queries))
+      (sym (refused_by (eqb size needed) (WrongLength 8) Done
+      (ne_eqb size needed (λ e. n (e ∙ transcript_size run v f queries)))))
 
-  left : (held : List ℕ) (cause : Cause) → writeOutcome run queries (length held) ≡ Refused cause
-      → bytesAfter run queries held ≡ held
-  left held cause e = ap (λ (o : Outcome). afterwards o (transcriptOf run queries) held) e
+  left : (held : List ℕ) (cause : Cause) → write_outcome run queries (length held) ≡ Refused cause
+      → bytes_after run queries held ≡ held
+  left held cause e = ap (λ (o : Outcome). afterwards o (transcript_of run queries) held) e
 
-  numbers : (size : ℕ) → WriterNumber (numberOfOutcome (writeOutcome run queries size))
+  numbers : (size : ℕ) → WriterNumber (number_of_outcome (write_outcome run queries size))
   numbers size =
-      number-before WriterNumber parameters (lengthsOutcome run) of-basis (sized size)
-      (run-number WriterNumber none (λ n l u. inr (inl (l, omega arith))) thirteen run)
-      (number-then WriterNumber (sizeOutcome run queries size) (and_then of-basis of-queries)
-      (number-unless WriterNumber (eqb size needed) (WrongLength 8) Done thirteen none)
-      (number-then WriterNumber of-basis of-queries
-      (basis-number WriterNumber none (early 8 (omega arith) (omega arith)) run.basis)
-      (queries-number WriterNumber none (early 9 (omega arith) (omega arith)) (early 10 (omega arith) (omega arith))
-      (inr (inr (inr refl))) run.k (stepIn run 0) queries)))
+      number_before WriterNumber parameters (lengths_outcome run) of_basis (sized size)
+      (run_number WriterNumber none (λ n l u. inr (inl (l, omega arith))) thirteen run)
+      (number_then WriterNumber (size_outcome run queries size) (and_then of_basis of_queries)
+      (number_unless WriterNumber (eqb size needed) (WrongLength 8) Done thirteen none)
+      (number_then WriterNumber of_basis of_queries
+      (basis_number WriterNumber none (early 8 (omega arith) (omega arith)) run.basis)
+      (queries_number WriterNumber none (early 9 (omega arith) (omega arith)) (early 10 (omega arith) (omega arith))
+      (inr (inr (inr refl))) run.k (step_in run 0) queries)))
     where
       none : WriterNumber 0
       none = inl refl
@@ -137,8 +137,8 @@ module _ (run : Run) (queries : List ℕ) where
       thirteen : WriterNumber 13
       thirteen = inr (inr (inl refl))
 
-pub writer-refusals : WriterRefusals
-writer-refusals =
+pub writer_refusals : WriterRefusals
+writer_refusals =
     record {
       as_lists = as_lists;
       done = done;

@@ -3,28 +3,28 @@
 use Rattle.std.specs.Prelude.{List, [], ◌∷◌, ◌++◌, ℕ, zero, suc, ◌/◌, ◌%◌, length}
 
 -- a number, modulo 256^width, in `width` bytes, the lowest first
-unfoldable pub littleEndianBytes : (width n : ℕ) → List ℕ
-littleEndianBytes zero n = []
-littleEndianBytes (suc width) n = n % 256 ∷ littleEndianBytes width (n / 256)
+unfoldable pub little_endian_bytes : (width n : ℕ) → List ℕ
+little_endian_bytes zero n = []
+little_endian_bytes (suc width) n = n % 256 ∷ little_endian_bytes width (n / 256)
 
 -- a count, in 4 bytes
-abbrev pub countBytes : (count : ℕ) → List ℕ
-countBytes count = littleEndianBytes 4 count
+abbrev pub count_bytes : (count : ℕ) → List ℕ
+count_bytes count = little_endian_bytes 4 count
 
 -- an entry, in 8 bytes
-abbrev pub entryBytes : (entry : ℕ) → List ℕ
-entryBytes entry = littleEndianBytes 8 entry
+abbrev pub entry_bytes : (entry : ℕ) → List ℕ
+entry_bytes entry = little_endian_bytes 8 entry
 
 -- entries one after the other
-unfoldable pub entriesBytes : (entries : List ℕ) → List ℕ
-entriesBytes [] = []
-entriesBytes (entry ∷ entries) = entryBytes entry ++ entriesBytes entries
+unfoldable pub entries_bytes : (entries : List ℕ) → List ℕ
+entries_bytes [] = []
+entries_bytes (entry ∷ entries) = entry_bytes entry ++ entries_bytes entries
 
 -- a section: its count, then its entries
-unfoldable pub sectionBytes : (entries : List ℕ) → List ℕ
-sectionBytes entries = countBytes (length entries) ++ entriesBytes entries
+unfoldable pub section_bytes : (entries : List ℕ) → List ℕ
+section_bytes entries = count_bytes (length entries) ++ entries_bytes entries
 
 -- the sections of these lists, one after the other
-unfoldable pub sectionsBytes : (lists : List (List ℕ)) → List ℕ
-sectionsBytes [] = []
-sectionsBytes (entries ∷ lists) = sectionBytes entries ++ sectionsBytes lists
+unfoldable pub sections_bytes : (lists : List (List ℕ)) → List ℕ
+sections_bytes [] = []
+sections_bytes (entries ∷ lists) = section_bytes entries ++ sections_bytes lists

@@ -1,8 +1,8 @@
 -- `byte_judge::verdict` meets its contract. Assumes nothing.
 use mathlib.Core.Path.{◌≡◌, sym, ◌∙◌}
-use Rattle.transcript.specs.Checks.{transcriptOutcome}
-use Rattle.transcript.proofs.Theorems.{judging-bytes, refused-verdict}
-use Rattle.transcript.proofs.Carried.{passed-carries}
+use Rattle.transcript.specs.Checks.{transcript_outcome}
+use Rattle.transcript.proofs.Theorems.{judging_bytes, refused_verdict}
+use Rattle.transcript.proofs.Carried.{passed_carries}
 use Rattle.refusal.specs.declared.Outcome.TheVariants.{Done}
 use borrow.Author.Rules.{rules}
 use Rattle.byte_judge.proofs.verdict.Statement.{statement}
@@ -10,7 +10,7 @@ use Rattle.byte_judge.proofs.verdict.Tie as tie
 
 -- all sections have passed
 abbrev Passed : tie.After-enum-told → Type 0
-Passed c = transcriptOutcome c.before.before.before.before.args.bytes.now ≡ Done
+Passed c = transcript_outcome c.before.before.before.before.args.bytes.now ≡ Done
 
 passed : (c : tie.After-enum-told) → Passed c
 passed c =
@@ -33,7 +33,7 @@ returns : tie.Need-returns
 returns c =
     let told = c.before in
     let bytes = told.before.before.before.before.args.bytes.now in
-    c.judge-checked.ensures ∙ sym (judging-bytes.carried bytes (passed-carries bytes (passed told)))
+    c.judge-checked.ensures ∙ sym (judging_bytes.carried bytes (passed_carries bytes (passed told)))
 
 returns-2 : tie.Need-returns-2
 returns-2 c =
@@ -41,7 +41,7 @@ returns-2 c =
     let checked = refused.before.before in
     let bytes = checked.before.before.args.bytes.now in
     sym
-    (refused-verdict bytes refused.outcome.given.0.0
+    (refused_verdict bytes refused.outcome.given.0.0
     (sym checked.checked.ensures ∙ refused.outcome.given.1))
 
 pub verdict-spec : {M : Type 1} → statement M

@@ -4,8 +4,8 @@ use Prim.Native.Nat.{ℕ, ◌+◌, ◌*◌, ◌^◌, ◌≤◌}
 use lib.Seq.{length-take-le}
 use lib.ListN.{replicate}
 use Rattle.transcript.specs.Numerals.{entries_at}
-use Rattle.round_checks.specs.Rounds.{valueFolded}
-use Rattle.round_checks.proofs.StepSizes.{size_of, beginOf, size_is, size-some, size-eight, begin-is, begin-before}
+use Rattle.round_checks.specs.Rounds.{value_folded}
+use Rattle.round_checks.proofs.StepSizes.{size_of, begin_of, size_is, size_some, size_eight, begin_is, begin_before}
 use borrow.Author.Rules.{rules}
 use native.Mathlib.Omega.{arith}
 use Rattle.byte_rounds.proofs.computed.Statement.{statement}
@@ -15,18 +15,18 @@ use Rattle.byte_rounds.proofs.computed.Tie as tie
 abbrev BeginBefore : tie.After-struct-known → Type 0
 BeginBefore c =
     let a = c.before.before.args in
-    beginOf a.step a.here.index ≤ a.here.index
+    begin_of a.step a.here.index ≤ a.here.index
 
 before-index : (c : tie.After-struct-known) → BeginBefore c
 before-index c =
     let start = c.before.before in
-    begin-before start.args.step start.requires.1 start.args.here.index
+    begin_before start.args.step start.requires.1 start.args.here.index
 
 shl-size : tie.Need-overflow-shl-size
 shl-size c = omega (arith, c.before.requires.1)
 
 div-begin : tie.Need-nonzero-div-begin
-div-begin c = let start = c.before.before in omega (arith, size-some start.args.step start.requires.1)
+div-begin c = let start = c.before.before in omega (arith, size_some start.args.step start.requires.1)
 
 mul-begin : tie.Need-overflow-mul-begin
 mul-begin c = search (rules, before-index c)
@@ -38,13 +38,13 @@ add-folded : tie.Need-overflow-add-folded
 add-folded c = let start = c.before.before in omega (arith, before-index c, start.requires.2, start.requires.3)
 
 array-borrow-prefix-room : tie.Need-array-borrow-prefix-room
-array-borrow-prefix-room c = let start = c.before.before in size-eight start.args.step start.requires.1
+array-borrow-prefix-room c = let start = c.before.before in size_eight start.args.step start.requires.1
 
 slice-aggregate-folded : tie.Need-slice-aggregate-folded
 slice-aggregate-folded c =
     let start = c.before.before.before in
     let step = start.args.step in
-    sym (length-take-le (size_of step) (replicate 8 0) (size-eight step start.requires.1))
+    sym (length-take-le (size_of step) (replicate 8 0) (size_eight step start.requires.1))
 
 folded-requires : tie.Need-folded-requires
 folded-requires c κs =
@@ -52,7 +52,7 @@ folded-requires c κs =
     let step = start.args.step in (
       start.requires.0,
       start.requires.1,
-      length-take-le (size_of step) (replicate 8 0) (size-eight step start.requires.1) ∙ size_is step start.requires.1,
+      length-take-le (size_of step) (replicate 8 0) (size_eight step start.requires.1) ∙ size_is step start.requires.1,
       omega (arith, before-index c.before, start.requires.2, start.requires.3),
     )
 
@@ -62,8 +62,8 @@ returns c =
     let a = start.args in
     c.before.folded.ensures
     ∙ ap
-    (λ (n : ℕ). valueFolded a.step a.round a.here (entries_at a.bytes.now (a.at + 8 * n) (2 ^ a.step)))
-    (begin-is a.step start.requires.1 a.here.index)
+    (λ (n : ℕ). value_folded a.step a.round a.here (entries_at a.bytes.now (a.at + 8 * n) (2 ^ a.step)))
+    (begin_is a.step start.requires.1 a.here.index)
 
 pub computed-spec : {M : Type 1} → statement M
 computed-spec =

@@ -3,9 +3,9 @@ use mathlib.Core.Path.{◌≡◌, ap, ◌∙◌}
 use Prim.Native.Nat.{◌^◌}
 use lib.ListN.{length}
 use Rattle.transcript.specs.Numerals.{entries_at}
-use Rattle.transcript.proofs.Numerals.{length-entries}
-use Rattle.round_checks.specs.Rounds.{valueFolded}
-use Rattle.round_checks.proofs.StepSizes.{size-most}
+use Rattle.transcript.proofs.Numerals.{length_entries}
+use Rattle.round_checks.specs.Rounds.{value_folded}
+use Rattle.round_checks.proofs.StepSizes.{size_most}
 use borrow.Author.Rules.{rules}
 use native.Mathlib.Omega.{arith}
 use Rattle.byte_rounds.proofs.folded.Statement.{statement}
@@ -26,14 +26,14 @@ read c =
 read-requires : tie.Need-read-requires
 read-requires c κs =
     let start = c.before.before.before in
-    omega (arith, start.requires.2, start.requires.3, size-most start.args.step start.requires.1)
+    omega (arith, start.requires.2, start.requires.3, size_most start.args.step start.requires.1)
 
 folded-requires : tie.Need-folded-requires
 folded-requires c κs =
     let entries = c.before.before.before in
     let start = entries.before.before.before.before in
     let a = start.args in
-    (start.requires.0, start.requires.1, ap length (read entries) ∙ length-entries a.bytes.now a.at (2 ^ a.step))
+    (start.requires.0, start.requires.1, ap length (read entries) ∙ length_entries a.bytes.now a.at (2 ^ a.step))
 
 same_length : tie.Need-same-length
 same_length c = search rules
@@ -42,7 +42,7 @@ returns : tie.Need-returns
 returns c =
     let entries = c.before.before.before.before in
     let a = entries.before.before.before.before.args in
-    c.folded.ensures ∙ ap (valueFolded a.step a.round a.here) (read entries)
+    c.folded.ensures ∙ ap (value_folded a.step a.round a.here) (read entries)
 
 pub folded-spec : {M : Type 1} → statement M
 folded-spec = tie.close (tie.spec read-requires folded-requires same_length returns)

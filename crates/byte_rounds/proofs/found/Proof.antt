@@ -1,7 +1,7 @@
 -- `byte_rounds::found` meets its contract. Assumes nothing.
 use mathlib.Core.Path.{sym, ap, ◌∙◌}
 use mathlib.Core.Bool.{Bool}
-use Rattle.byte_rounds.specs.Layers.{valueReadAt}
+use Rattle.byte_rounds.specs.Layers.{value_read_at}
 use borrow.Author.Rules.{rules}
 use native.Mathlib.Omega.{arith}
 use Rattle.byte_rounds.proofs.found.Statement.{statement}
@@ -24,13 +24,13 @@ returns c =
     let a = c.before.before.before.before.before.args in
     c.entry_at.ensures
     ∙ sym
-    (ap (λ (t : Bool). valueReadAt a.bytes.now a.at t a.next a.last.now) c.before.before.if1.true)
+    (ap (λ (t : Bool). value_read_at a.bytes.now a.at t a.next a.last.now) c.before.before.if1.true)
 
 returns-2 : tie.Need-returns-2
 returns-2 c =
     let a = c.before.before.before.before.args in
     c.evaluate.ensures
-    ∙ sym (ap (λ (t : Bool). valueReadAt a.bytes.now a.at t a.next a.last.now) c.before.if1.false)
+    ∙ sym (ap (λ (t : Bool). value_read_at a.bytes.now a.at t a.next a.last.now) c.before.if1.false)
 
 pub found-spec : {M : Type 1} → statement M
 found-spec =

@@ -6,12 +6,12 @@ use mathlib.Core.Logic.{⊎_elim}
 use Prim.Native.Nat.{ℕ, ◌-◌, ◌^◌, ◌<◌}
 use lib.ListN.{length}
 use Rattle.fri.specs.Run.{Run}
-use Rattle.byte_rounds.specs.Layers.{sentIn}
-use Rattle.byte_rounds.proofs.LayerPlaces.{AtLayer, at-few, index-few, next-at-few, next-index-few}
-use Rattle.byte_rounds.proofs.LayerPlaces.{checked-sent, first-layer, read-in-bytes, next-layer}
+use Rattle.byte_rounds.specs.Layers.{sent_in}
+use Rattle.byte_rounds.proofs.LayerPlaces.{AtLayer, at_few, index_few, next_at_few, next_index_few}
+use Rattle.byte_rounds.proofs.LayerPlaces.{checked_sent, first_layer, read_in_bytes, next_layer}
 use Rattle.round_checks.proofs.Runs.{Checked}
 use Rattle.round_checks.proofs.Judged.{BeforeQuery}
-use Rattle.round_checks.proofs.Judged.{queries-most, count-few, cosets-few, first-query, first_round, query-passed}
+use Rattle.round_checks.proofs.Judged.{queries_most, count_few, cosets_few, first_query, first_round, query_passed}
 use Rattle.round_checks.proofs.Judged.{accepted, refused}
 use borrow.Author.Rules.{rules}
 use native.Mathlib.Omega.{arith}
@@ -20,7 +20,7 @@ use Rattle.byte_rounds.proofs.judge_rounds.Tie as tie
 
 abbrev invariant-loop : tie.invariant-loop
 invariant-loop p offset basis challenges queries bytes begin last count table cosets₀ query i₀ here₀ at₀ cosets i here at =
-    AtLayer (sentIn p offset.0 basis challenges bytes last) queries count table bytes begin cosets query i here at
+    AtLayer (sent_in p offset.0 basis challenges bytes last) queries count table bytes begin cosets query i here at
 
 abbrev decreases-loop : tie.decreases-loop
 decreases-loop p offset basis challenges queries bytes begin last count table cosets₀ query i₀ here₀ at₀ cosets i here at =
@@ -28,7 +28,7 @@ decreases-loop p offset basis challenges queries bytes begin last count table co
 
 abbrev invariant-queries : tie.invariant-queries
 invariant-queries p offset basis challenges queries bytes begin last count table cosets₀ query₀ i₀ cosets query i =
-    BeforeQuery (sentIn p offset.0 basis challenges bytes last) queries count table cosets query
+    BeforeQuery (sent_in p offset.0 basis challenges bytes last) queries count table cosets query
 
 abbrev decreases-queries : tie.decreases-queries
 decreases-queries p offset basis challenges queries bytes begin last count table cosets₀ query₀ i₀ cosets query i =
@@ -38,10 +38,10 @@ decreases-queries p offset basis challenges queries bytes begin last count table
 abbrev run : tie.Start invariant-loop decreases-loop invariant-queries decreases-queries → Run
 run start =
     let a = start.args in
-    sentIn a.parameters a.offset.0 a.basis.now a.challenges.now a.bytes.now a.last.now
+    sent_in a.parameters a.offset.0 a.basis.now a.challenges.now a.bytes.now a.last.now
 
-offset-element : (start : tie.Start invariant-loop decreases-loop invariant-queries decreases-queries) → start.args.offset.0 < 2 ^ 64
-offset-element start = search rules
+offset_element : (start : tie.Start invariant-loop decreases-loop invariant-queries decreases-queries) → start.args.offset.0 < 2 ^ 64
+offset_element start = search rules
 
 -- what the checks tell of it
 checked : (c : tie.After-shared-slice-known5 invariant-loop decreases-loop invariant-queries decreases-queries)
@@ -51,8 +51,8 @@ checked c =
     let basis = challenges.before in
     let start = basis.before in
     let a = start.args in
-    checked-sent a.parameters a.offset.0 a.basis.now a.challenges.now a.bytes.now a.last.now
-    a.queries.now start.requires.0 (offset-element start)
+    checked_sent a.parameters a.offset.0 a.basis.now a.challenges.now a.bytes.now a.last.now
+    a.queries.now start.requires.0 (offset_element start)
     (λ i. omega (arith, basis.shared-slice-known.given i))
     (λ i. omega (arith, challenges.shared-slice-known2.given i))
     (λ i. omega (arith, c.before.shared-slice-known4.given i))
@@ -68,11 +68,11 @@ set-up-requires c κs =
 queries-holds : tie.Need-queries-init invariant-loop decreases-loop invariant-queries decreases-queries
 queries-holds c =
     let known = c.before.before in
-    first-query
+    first_query
     (record {
       checks = known.before.before.before.before.before.requires.0;
       ready = checked known;
-      count-is = c.before.rounds.ensures;
+      count_is = c.before.rounds.ensures;
       held = λ i h. c.set-up.ensures i (subst (λ (n : ℕ). i < n) c.before.rounds.ensures h);
     })
 
@@ -89,36 +89,36 @@ loop-holds : tie.Need-loop-init invariant-loop decreases-loop invariant-queries 
 loop-holds c =
     let in-queries = c.before.before in
     let prepared = in-queries.before.before in
-    first-layer prepared.before.before.before.before.before.before.before.requires.1
+    first_layer prepared.before.before.before.before.before.before.before.requires.1
     (first_round in-queries.before.queries.invariant in-queries.queries-test.true c.first.ensures)
 
 mul-round : tie.Need-overflow-mul-round invariant-loop decreases-loop invariant-queries decreases-queries
-mul-round c = omega (arith, count-few c.before.loop.invariant.before-round.before-query.prepared)
+mul-round c = omega (arith, count_few c.before.loop.invariant.before_round.before_query.prepared)
 
 array-copy-out-round : tie.Need-array-copy-out-round invariant-loop decreases-loop invariant-queries decreases-queries
-array-copy-out-round c = omega (arith, count-few c.before.loop.invariant.before-round.before-query.prepared)
+array-copy-out-round c = omega (arith, count_few c.before.loop.invariant.before_round.before_query.prepared)
 
 next-requires : tie.Need-next-requires invariant-loop decreases-loop invariant-queries decreases-queries
 next-requires c κs =
-    c.before.before.loop.invariant.before-round.before-query.prepared.ready.coset.parameters.step-most
+    c.before.before.loop.invariant.before_round.before_query.prepared.ready.coset.parameters.step_most
 
 after-layer-requires : tie.Need-after-layer-requires invariant-loop decreases-loop invariant-queries decreases-queries
 after-layer-requires c κs =
     let in-loop = c.before.before in
     let l = in-loop.before.loop in
-    let prepared = l.invariant.before-round.before-query.prepared in
-    let few = at-few l.invariant.standing in-loop.loop-test.true in
-    (prepared.ready.coset.parameters, omega (arith, prepared.count-is), few)
+    let prepared = l.invariant.before_round.before_query.prepared in
+    let few = at_few l.invariant.standing in-loop.loop-test.true in
+    (prepared.ready.coset.parameters, omega (arith, prepared.count_is), few)
 
 computed-requires : tie.Need-computed-requires invariant-loop decreases-loop invariant-queries decreases-queries
 computed-requires c κs =
     let in-loop = c.before.before.before in
     let l = in-loop.before.loop in
-    let valid = l.invariant.before-round.before-query.prepared.ready.coset.parameters in (
-      valid.step-least,
-      valid.step-most,
-      at-few l.invariant.standing in-loop.loop-test.true,
-      index-few l.invariant.standing in-loop.loop-test.true,
+    let valid = l.invariant.before_round.before_query.prepared.ready.coset.parameters in (
+      valid.step_least,
+      valid.step_most,
+      at_few l.invariant.standing in-loop.loop-test.true,
+      index_few l.invariant.standing in-loop.loop-test.true,
     )
 
 add-found : tie.Need-overflow-add-found invariant-loop decreases-loop invariant-queries decreases-queries
@@ -130,8 +130,8 @@ found-requires c κs =
     let in-loop = after.before.before.before in
     let l = in-loop.before.loop in
     let within = in-loop.loop-test.true in (
-      next-at-few l.invariant.standing within after.before.next.ensures after.after-layer.ensures,
-      next-index-few l.invariant.standing within after.before.next.ensures after.after-layer.ensures,
+      next_at_few l.invariant.standing within after.before.next.ensures after.after-layer.ensures,
+      next_index_few l.invariant.standing within after.before.next.ensures after.after-layer.ensures,
     )
 
 read-until-requires : tie.Need-read-until-requires invariant-loop decreases-loop invariant-queries decreases-queries
@@ -141,7 +141,7 @@ add-cosets : tie.Need-overflow-add-cosets invariant-loop decreases-loop invarian
 add-cosets c =
     let found = c.before.before.before.before in
     let at-loop = found.before.before.before.before.before.before in
-    omega (arith, cosets-few at-loop.loop.invariant.before-round.before-query, c.read-until.ensures)
+    omega (arith, cosets_few at-loop.loop.invariant.before_round.before_query, c.read_until.ensures)
 
 add-i : tie.Need-overflow-add-i invariant-loop decreases-loop invariant-queries decreases-queries
 add-i c = search rules
@@ -155,27 +155,27 @@ loop-again c =
     let after = found.before.before in
     let next = after.before in
     let in-loop = next.before.before in
-    next-layer in-loop.before.loop.invariant in-loop.loop-test.true next.next.ensures
+    next_layer in-loop.before.loop.invariant in-loop.loop-test.true next.next.ensures
     after.after-layer.ensures
     found.before.computed.ensures found.found.ensures c.if1.false
 
 add-cosets-2 : tie.Need-overflow-add-cosets-2 invariant-loop decreases-loop invariant-queries decreases-queries
-add-cosets-2 c = omega (arith, cosets-few c.before.loop.invariant.before-round.before-query)
+add-cosets-2 c = omega (arith, cosets_few c.before.loop.invariant.before_round.before_query)
 
 add-query : tie.Need-overflow-add-query invariant-loop decreases-loop invariant-queries decreases-queries
 add-query c =
-    let round = c.before.loop.invariant.before-round in
-    omega (arith, round.query-within, queries-most round.before-query.prepared)
+    let round = c.before.loop.invariant.before_round in
+    omega (arith, round.query_within, queries_most round.before_query.prepared)
 
 queries-less : tie.Need-queries-smaller invariant-loop decreases-loop invariant-queries decreases-queries
 queries-less c = omega arith
 
-queries-again : tie.Need-queries-preserved invariant-loop decreases-loop invariant-queries decreases-queries
-queries-again c = query-passed c.before.loop.invariant.before-round (omega arith)
+queries_again : tie.Need-queries-preserved invariant-loop decreases-loop invariant-queries decreases-queries
+queries_again c = query_passed c.before.loop.invariant.before_round (omega arith)
 
 shl-reads : tie.Need-overflow-shl-reads invariant-loop decreases-loop invariant-queries decreases-queries
 shl-reads c =
-    let most = c.before.before.before.queries.invariant.prepared.ready.coset.parameters.step-most in
+    let most = c.before.before.before.queries.invariant.prepared.ready.coset.parameters.step_most in
     omega (arith, most)
 
 returns : tie.Need-returns invariant-loop decreases-loop invariant-queries decreases-queries
@@ -184,7 +184,7 @@ returns c =
     (λ t. absurd (omega (arith, t.0.left, c.if2.true)))
     (λ t.
     refused
-    (read-in-bytes t.3.inv t.4.taken t.6.ensures t.7.ensures t.8.ensures t.9.ensures)
+    (read_in_bytes t.3.inv t.4.taken t.6.ensures t.7.ensures t.8.ensures t.9.ensures)
     t.12.taken t.15 t.14 t.13.ensures)
     c.before.before.before.queries-test.branch
 
@@ -225,7 +225,7 @@ judge-rounds-spec =
     add-cosets-2
     add-query
     queries-less
-    queries-again
+    queries_again
     shl-reads
     returns
     returns-2)

@@ -5,7 +5,7 @@ use native.Mathlib.Omega.{arith}
 use borrow.Author.Rules.{rules}
 use Rattle.gf64.specs.Field.{inverse}
 use Rattle.c_answers.specs.Answers.{answerOfValue, numbersOf}
-use Rattle.c_answers.proofs.Five.{answered-five, answered-other}
+use Rattle.c_answers.proofs.Five.{answered_five, answered_other}
 use Rattle.c_field.proofs.rz_inverse.Statement.{statement}
 use Rattle.c_field.proofs.rz_inverse.Tie as tie
 
@@ -14,7 +14,7 @@ abbrev answer_at : tie.Start → Answer
 answer_at c = answerOfValue 0 (inverse c.args.a)
 
 returns : tie.Need-returns
-returns c = let start = c.before.before in answered-other (answer_at start) start.args.answer.now c.if1.true
+returns c = let start = c.before.before in answered_other (answer_at start) start.args.answer.now c.if1.true
 
 inverse-requires : tie.Need-inverse-requires
 inverse-requires c κs = search rules
@@ -35,7 +35,7 @@ returns-2 c =
     let inverse = c.before.before.before.before.before in
     let start = inverse.before.before.before in
     write.ensures ∙ ap numbersOf (told.ensures ∙ ap (answerOfValue 0) inverse.inverse.ensures.0)
-    ∙ answered-five (answer_at start) start.args.answer.now (omega arith)
+    ∙ answered_five (answer_at start) start.args.answer.now (omega arith)
 
 pub rz-inverse-spec : {M : Type 1} → statement M
 rz-inverse-spec =

@@ -1,9 +1,9 @@
 -- `c_fold::rz_fold` meets its contract: where the answer's list has another length nothing is done. Assumes nothing.
 use lib.ListN.{length}
 use mathlib.Core.Path.{◌≡◌, ap, ◌∙◌}
-use Rattle.lone_fold.specs.Calls.{FoldCall, answerOfCall, valuesAfterCall, nextAfterCall}
+use Rattle.lone_fold.specs.Calls.{FoldCall, answer_of_call, values_after_call, next_after_call}
 use Rattle.c_answers.specs.Answers.{answerOfFolded}
-use Rattle.c_answers.proofs.Five.{whereAnswered-five, whereAnswered-other, left_alone, written}
+use Rattle.c_answers.proofs.Five.{where_answered_five, where_answered_other, left_alone, written}
 use borrow.Author.Rules.{rules}
 use native.Mathlib.Omega.{arith}
 use Rattle.c_fold.proofs.rz_fold.Statement.{statement}
@@ -32,12 +32,12 @@ returns c =
     let lent = (start_of c.before).args.answer.now in
     let call = call_at c.before in
     let first =
-    left_alone (answerOfFolded (answerOfCall call)) lent (valuesAfterCall call) call.values c.if1.true
+    left_alone (answerOfFolded (answer_of_call call)) lent (values_after_call call) call.values c.if1.true
     in
     record {
       answer = first.0;
       output = first.1;
-      next = whereAnswered-other lent (nextAfterCall call) call.next c.if1.true;
+      next = where_answered_other lent (next_after_call call) call.next c.if1.true;
     }
 
 fold-requires : tie.Need-fold-requires
@@ -69,14 +69,14 @@ returns-2 c =
     let call = call_at known in
     let five : length lent ≡ 5 = omega arith in
     let first =
-    written (answerOfFolded (answerOfCall call)) told.result lent (valuesAfterCall call) call.values
+    written (answerOfFolded (answer_of_call call)) told.result lent (values_after_call call) call.values
     write.new.1.0 f.new.1.1.1.1.1.1.0 five write.ensures
     (told.ensures ∙ ap answerOfFolded f.ensures.answer) f.ensures.output
     in
     record {
       answer = first.0;
       output = first.1;
-      next = f.ensures.next ∙ whereAnswered-five lent (nextAfterCall call) call.next five;
+      next = f.ensures.next ∙ where_answered_five lent (next_after_call call) call.next five;
     }
 
 pub rz-fold-spec : {M : Type 1} → statement M

@@ -1,8 +1,8 @@
 -- `c_judge::rz_judge` meets its contract: a list of another length is left as it was. Assumes nothing.
-use Rattle.c_answers.proofs.Five.{answered-five, answered-other}
+use Rattle.c_answers.proofs.Five.{answered_five, answered_other}
 use Rattle.c_answers.specs.Answers.{answerOfVerdict, numbersOf}
 use Rattle.layout.specs.Parameters.{run_of}
-use Rattle.fri.specs.Judge.{verdictOf}
+use Rattle.fri.specs.Judge.{verdict_of}
 use Rattle.fri.specs.Run.{Run}
 use Rattle.c_answers.specs.declared.Answer.{Answer}
 use mathlib.Core.Path.{ap, ◌∙◌}
@@ -23,10 +23,10 @@ run_at c =
 
 -- the verdict in C's numbers
 abbrev answer_at : tie.After-slice-known → Answer
-answer_at c = answerOfVerdict (verdictOf (run_at c) (start_of c).args.queries.now)
+answer_at c = answerOfVerdict (verdict_of (run_at c) (start_of c).args.queries.now)
 
 returns : tie.Need-returns
-returns c = answered-other (answer_at c.before) (start_of c.before).args.answer.now c.if1.true
+returns c = answered_other (answer_at c.before) (start_of c.before).args.answer.now c.if1.true
 
 judge-requires : tie.Need-judge-requires
 judge-requires c κs = search rules
@@ -43,11 +43,11 @@ same_length c = search rules
 returns-2 : tie.Need-returns-2
 returns-2 c =
     let write = c.before.before.write in
-    let told = c.before.before.before.before.of-verdict in
+    let told = c.before.before.before.before.of_verdict in
     let judged = c.before.before.before.before.before in
     let known = judged.before.before in
     write.ensures ∙ ap numbersOf (told.ensures ∙ ap answerOfVerdict judged.judge.ensures)
-    ∙ answered-five (answer_at known) (start_of known).args.answer.now (omega arith)
+    ∙ answered_five (answer_at known) (start_of known).args.answer.now (omega arith)
 
 pub rz-judge-spec : {M : Type 1} → statement M
 rz-judge-spec =

@@ -1,9 +1,9 @@
 -- `c_judge::rz_judge_transcript` meets its contract: a list of another length is left as it was. Assumes nothing.
 use Rattle.c_answers.specs.declared.Answer.{Answer}
 use mathlib.Core.Path.{ap, ◌∙◌}
-use Rattle.transcript.specs.Judge.{transcriptVerdict}
+use Rattle.transcript.specs.Judge.{transcript_verdict}
 use Rattle.c_answers.specs.Answers.{answerOfVerdict, numbersOf}
-use Rattle.c_answers.proofs.Five.{answered-five, answered-other}
+use Rattle.c_answers.proofs.Five.{answered_five, answered_other}
 use borrow.Author.Rules.{rules}
 use native.Mathlib.Omega.{arith}
 use Rattle.c_judge.proofs.rz_judge_transcript.Statement.{statement}
@@ -11,11 +11,11 @@ use Rattle.c_judge.proofs.rz_judge_transcript.Tie as tie
 
 -- the verdict in C's numbers
 abbrev answer_at : tie.Start → Answer
-answer_at c = answerOfVerdict (transcriptVerdict c.args.bytes.now)
+answer_at c = answerOfVerdict (transcript_verdict c.args.bytes.now)
 
 returns : tie.Need-returns
 returns c =
-    let start = c.before.before.before in answered-other (answer_at start) start.args.answer.now c.if1.true
+    let start = c.before.before.before in answered_other (answer_at start) start.args.answer.now c.if1.true
 
 judge-requires : tie.Need-judge-requires
 judge-requires c κs = search rules
@@ -32,11 +32,11 @@ same_length c = search rules
 returns-2 : tie.Need-returns-2
 returns-2 c =
     let write = c.before.before.write in
-    let told = c.before.before.before.before.of-verdict in
+    let told = c.before.before.before.before.of_verdict in
     let judged = c.before.before.before.before.before in
     let start = judged.before.before.before.before in
     write.ensures ∙ ap numbersOf (told.ensures ∙ ap answerOfVerdict judged.judge.ensures)
-    ∙ answered-five (answer_at start) start.args.answer.now (omega arith)
+    ∙ answered_five (answer_at start) start.args.answer.now (omega arith)
 
 pub rz-judge-transcript-spec : {M : Type 1} → statement M
 rz-judge-transcript-spec =

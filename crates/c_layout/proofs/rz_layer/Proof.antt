@@ -1,5 +1,5 @@
 -- `c_layout::rz_layer` meets its contract: a list of another length is left as it was. Assumes nothing.
-use Rattle.c_answers.proofs.Five.{answered-five, answered-other}
+use Rattle.c_answers.proofs.Five.{answered_five, answered_other}
 use Rattle.c_answers.specs.Answers.{answerOfPart, numbersOf}
 use Rattle.layout.specs.Parts.{part_of}
 use lib.ListN.{length}
@@ -18,7 +18,7 @@ answer_at c =
 
 returns : tie.Need-returns
 returns c =
-    let start = c.before.before.before in answered-other (answer_at start) start.args.answer.now c.if1.true
+    let start = c.before.before.before in answered_other (answer_at start) start.args.answer.now c.if1.true
 
 part-requires : tie.Need-part-requires
 part-requires c κs = search rules
@@ -39,7 +39,7 @@ returns-2 c =
     let found = c.before.before.before.before.before in
     let start = found.before.before.before.before in
     write.ensures ∙ ap numbersOf (told.ensures ∙ ap answerOfPart found.part.ensures)
-    ∙ answered-five (answer_at start) start.args.answer.now (omega arith)
+    ∙ answered_five (answer_at start) start.args.answer.now (omega arith)
 
 pub rz-layer-spec : {M : Type 1} → statement M
 rz-layer-spec =

@@ -1,8 +1,8 @@
 -- `c_prover::rz_prove` meets its contract: where the answer's list has another length nothing is done. Assumes nothing.
-use Rattle.c_answers.proofs.Five.{whereAnswered-five, whereAnswered-other, left_alone, written}
+use Rattle.c_answers.proofs.Five.{where_answered_five, where_answered_other, left_alone, written}
 use Rattle.c_answers.specs.Answers.{answerOfProved}
 use Rattle.layout.specs.Parameters.{run_of}
-use Rattle.fri.specs.Prover.{proveOutcome, storeAfter, lastAfter}
+use Rattle.fri.specs.Prover.{prove_outcome, store_after, last_after}
 use Rattle.fri.specs.Run.{Run}
 use lib.ListN.{length}
 use mathlib.Core.Path.{◌≡◌, ap, ◌∙◌}
@@ -25,11 +25,11 @@ returns : tie.Need-returns
 returns c =
     let lent = (start_of c.before).args.answer.now in
     let run = run_at c.before in
-    let first = left_alone (answerOfProved (proveOutcome run)) lent (storeAfter run) run.store c.if1.true in
+    let first = left_alone (answerOfProved (prove_outcome run)) lent (store_after run) run.store c.if1.true in
     record {
       answer = first.0;
       store = first.1;
-      last = whereAnswered-other lent (lastAfter run) run.last c.if1.true;
+      last = where_answered_other lent (last_after run) run.last c.if1.true;
     }
 
 prove-requires : tie.Need-prove-requires
@@ -61,14 +61,14 @@ returns-2 c =
     let run = run_at known in
     let five : length lent ≡ 5 = omega arith in
     let first =
-    written (answerOfProved (proveOutcome run)) told.result lent (storeAfter run) run.store write.new.1.0
+    written (answerOfProved (prove_outcome run)) told.result lent (store_after run) run.store write.new.1.0
     f.new.1.1.1.1.1.0 five write.ensures (told.ensures ∙ ap answerOfProved f.ensures.answer)
     f.ensures.store
     in
     record {
       answer = first.0;
       store = first.1;
-      last = f.ensures.last ∙ whereAnswered-five lent (lastAfter run) run.last five;
+      last = f.ensures.last ∙ where_answered_five lent (last_after run) run.last five;
     }
 
 pub rz-prove-spec : {M : Type 1} → statement M

@@ -8,7 +8,7 @@ use lib.ListN.{length}
 use borrow.Author.Rules.{rules}
 use Rattle.fri.specs.Run.{Run}
 use Rattle.layout.specs.Parameters.{run_of}
-use Rattle.written.specs.Writer.{writeOutcome, bytesAfter}
+use Rattle.written.specs.Writer.{write_outcome, bytes_after}
 use Rattle.c_answers.specs.declared.Answer.{Answer}
 use Rattle.c_answers.specs.Answers.{answerOfOutcome}
 use Rattle.c_answers.proofs.Five.{left_alone, written}
@@ -29,10 +29,10 @@ run_at c =
 abbrev answer_at : tie.After-slice-known2 → Answer
 answer_at c =
     let a = (start_of c).args in
-    answerOfOutcome (writeOutcome (run_at c) a.queries.now (length a.bytes.now))
+    answerOfOutcome (write_outcome (run_at c) a.queries.now (length a.bytes.now))
 
 abbrev left_at : tie.After-slice-known2 → List ℕ
-left_at c = let a = (start_of c).args in bytesAfter (run_at c) a.queries.now a.bytes.now
+left_at c = let a = (start_of c).args in bytes_after (run_at c) a.queries.now a.bytes.now
 
 returns : tie.Need-returns
 returns c =

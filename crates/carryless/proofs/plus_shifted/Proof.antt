@@ -4,7 +4,7 @@ use mathlib.Core.Path.{ap, ◌∙◌}
 use Prim.Native.Nat.{ℕ, ◌+◌, ◌*◌, ◌%◌, ◌^◌}
 use lib.Bits.{bit_xor}
 use borrow.Author.Rules.{rules}
-use Rattle.carryless.proofs.WideSums.{wide-sum, shifted-out}
+use Rattle.carryless.proofs.WideSums.{wide_sum, shifted_out}
 use Rattle.carryless.proofs.plus_shifted.Statement.{statement}
 use Rattle.carryless.proofs.plus_shifted.Tie as tie
 
@@ -23,8 +23,8 @@ returns c =
     let a = c.before.before.args.a in
     let i = c.before.before.args.i in
     ap (λ (x : ℕ). bit_xor w.high x * 2 ^ 64 + bit_xor w.low (a * 2 ^ i % 2 ^ 64))
-    (shifted-out a i c.before.before.requires)
-    ∙ wide-sum w.high w.low (a * 2 ^ i) (search rules)
+    (shifted_out a i c.before.before.requires)
+    ∙ wide_sum w.high w.low (a * 2 ^ i) (search rules)
 
 pub plus-shifted-spec : {M : Type 1} → statement M
 plus-shifted-spec = tie.close (tie.spec sub-t5 shr-t6 shl-t8 returns)

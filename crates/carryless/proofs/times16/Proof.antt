@@ -1,7 +1,7 @@
 -- `carryless::times16` meets its contract: the parts' products make the whole. Assumes nothing.
 use native.Mathlib.Omega.{arith}
 use borrow.Author.Rules.{rules}
-use Rattle.carryless.proofs.Schoolbook.{sums-joined}
+use Rattle.carryless.proofs.Schoolbook.{sums_joined}
 use Rattle.carryless.proofs.times16.Statement.{statement}
 use Rattle.carryless.proofs.times16.Tie as tie
 
@@ -16,7 +16,7 @@ joined-requires c κs = search rules
 
 returns : tie.Need-returns
 returns c a₀ a₁ m₀ m₁ =
-    sums-joined 8 8 a₀ a₁ _ _ _ _ _ m₀.short m₁.short (search rules) (search rules) (omega arith)
+    sums_joined 8 8 a₀ a₁ _ _ _ _ _ m₀.short m₁.short (search rules) (search rules) (omega arith)
     (c.before.before.times8.ensures a₀ a₁ m₀ m₁) (c.before.times82.ensures a₀ a₁ m₀ m₁) c.joined.ensures
 
 pub times16-spec : {M : Type 1} → statement M

@@ -6,7 +6,7 @@ use native.Mathlib.Omega.{arith}
 use lib.ListN.{length, get_or, length-set, replicate}
 use borrow.Author.Rules.{rules}
 use Rattle.gf64.specs.Polynomial.{carryless}
-use Rattle.carryless.proofs.Multiples.{first-multiple, next_multiple, half-multiple-lt}
+use Rattle.carryless.proofs.Multiples.{first_multiple, next_multiple, half_multiple_lt}
 use Rattle.carryless.proofs.window.Statement.{statement}
 use Rattle.carryless.proofs.window.Tie as tie
 
@@ -17,7 +17,7 @@ abbrev decreases-loop : tie.decreases-loop
 decreases-loop a t₀ n₀ t n = 16 - n
 
 loop-holds : tie.Need-loop-init invariant-loop decreases-loop
-loop-holds c = (search rules, search rules, search rules, first-multiple c.args.a (replicate 16 0) refl)
+loop-holds c = (search rules, search rules, search rules, first_multiple c.args.a (replicate 16 0) refl)
 
 mul-multiple : tie.Need-overflow-mul-multiple invariant-loop decreases-loop
 mul-multiple c = search rules
@@ -27,7 +27,7 @@ array-read-multiple c = search rules
 
 multiple-requires : tie.Need-multiple-requires invariant-loop decreases-loop
 multiple-requires c κs =
-    half-multiple-lt _ _ _ c.before.before.requires (omega arith)
+    half_multiple_lt _ _ _ c.before.before.requires (omega arith)
     (c.before.loop.invariant.3 (c.before.loop.n / 2) (omega arith))
 
 mul-t : tie.Need-overflow-mul-t invariant-loop decreases-loop

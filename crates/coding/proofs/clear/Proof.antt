@@ -4,8 +4,8 @@ use mathlib.Core.Path.{◌≡◌, refl, sym, ap, ◌∙◌}
 use mathlib.Core.List.{List}
 use Prim.Native.Nat.{ℕ, ◌-◌, ◌≤◌}
 use lib.ListN.{length, set, replicate, length-set, length-replicate}
-use Rattle.poly.proofs.Entries.{getD-replicated}
-use Rattle.poly.proofs.Filling.{filled, filled-start, filled_next, filled-all}
+use Rattle.poly.proofs.Entries.{get_or_replicated}
+use Rattle.poly.proofs.Filling.{filled, filled_start, filled_next, filled_all}
 use borrow.Author.Rules.{rules}
 use native.Mathlib.Omega.{arith}
 use Rattle.coding.proofs.clear.Statement.{statement}
@@ -20,7 +20,7 @@ decreases-loop part₀ i₀ part i = length part₀ - i
 
 loop-holds : tie.Need-loop-init invariant-loop decreases-loop
 loop-holds c =
-    let s = c.args.part.now in (omega arith, filled-start (replicate (length s) 0) s, refl)
+    let s = c.args.part.now in (omega arith, filled_start (replicate (length s) 0) s, refl)
 
 mul-part : tie.Need-overflow-mul-part invariant-loop decreases-loop
 mul-part c = search rules
@@ -41,7 +41,7 @@ loop-again c =
       omega arith,
       ap (λ (held : List ℕ). set held l.i 0) l.invariant.1
           ∙ filled_next (replicate (length s) 0) s l.i 0 (omega (arith, l.invariant.2)) (length-replicate (length s) 0)
-          (sym (getD-replicated (length s) l.i 0)),
+          (sym (get_or_replicated (length s) l.i 0)),
       length-set l.part l.i 0 ∙ l.invariant.2,
     )
 
@@ -52,7 +52,7 @@ returns : tie.Need-returns invariant-loop decreases-loop
 returns c =
     let s = c.before.before.args.part.now in
     let l = c.before.loop in
-    l.invariant.1 ∙ filled-all (replicate (length s) 0) s l.i (omega (arith, l.invariant.2)) (length-replicate (length s) 0)
+    l.invariant.1 ∙ filled_all (replicate (length s) 0) s l.i (omega (arith, l.invariant.2)) (length-replicate (length s) 0)
 
 pub clear_spec : {M : Type 1} → statement M
 clear_spec =

@@ -9,15 +9,15 @@ use lib.ListN.{length}
 use lib.Dec.{leb, eqb}
 use Rattle.refusal.specs.declared.Outcome.{Outcome}
 use Rattle.refusal.specs.declared.Outcome.TheVariants.{Done}
-use Rattle.refusal.proofs.Checks.{equal-of-test, le-of-test}
+use Rattle.refusal.proofs.Checks.{equal_of_test, le_of_test}
 use Rattle.reed_solomon.specs.Codes.{encoded}
 use Rattle.reed_solomon.specs.Answers.{encodeOutcome}
-use Rattle.reed_solomon.proofs.Checks.{Passed, passed, answered-by-size, done-both, refused-both}
+use Rattle.reed_solomon.proofs.Checks.{Passed, passed, answered_by_size, done_both, refused_both}
 use Rattle.reed_solomon.proofs.Theorems.{encoding}
 use Rattle.poly.specs.Carrier.{gf64}
 use Rattle.poly.specs.Polynomial.{DegreeBelow, padded}
 use Rattle.poly.proofs.Evaluation.{length-padded}
-use Rattle.coding.proofs.Used.{used-within, zeros-behind}
+use Rattle.coding.proofs.Used.{used_within, zeros_behind}
 use borrow.Author.Rules.{rules}
 use Rattle.coding.proofs.encode.Statement.{statement}
 use Rattle.coding.proofs.encode.Tie as tie
@@ -35,7 +35,7 @@ wanted c = encoded c.args.offset.0 c.args.basis.now c.args.coefficients.now
 answered : (c : tie.After-checked) → due (start_of c) ≡ c.checked.result
 answered c =
     let a = (start_of c).args in
-    answered-by-size a.basis.now (leb (length a.coefficients.now)) (eqb (length a.values.now))
+    answered_by_size a.basis.now (leb (length a.coefficients.now)) (eqb (length a.values.now))
     c.before.type_size.result c.checked.result c.before.type_size.ensures c.checked.ensures
 
 -- where all checks pass
@@ -51,10 +51,10 @@ module _ (c : tie.After-checked) (done : c.checked.result ≡ Done) where
       (answered c ∙ done)
 
   enough : length (start_of c).args.coefficients.now ≤ size
-  enough = le-of-test (length (start_of c).args.coefficients.now) size all.list3
+  enough = le_of_test (length (start_of c).args.coefficients.now) size all.list3
 
   whole : length (start_of c).args.values.now ≡ size
-  whole = equal-of-test (length (start_of c).args.values.now) size all.list6
+  whole = equal_of_test (length (start_of c).args.values.now) size all.list6
 
   -- the coefficients with zeros behind them
   filled : {held : List ℕ}
@@ -93,11 +93,11 @@ evaluate-in-place-requires c κs =
     let used = c.before.dimension-of in (
       (all checks done).small,
       (all checks done).independent,
-      used-within used.result (length a.basis.now) (length a.coefficients.now) used.ensures.1
+      used_within used.result (length a.basis.now) (length a.coefficients.now) used.ensures.1
           (enough checks done),
       ap length held ∙ length-padded gf64 (size checks done) a.coefficients.now (enough checks done),
       subst (DegreeBelow gf64 (2 ^ used.result)) (sym held)
-          (zeros-behind (2 ^ used.result) (size checks done) a.coefficients.now used.ensures.0),
+          (zeros_behind (2 ^ used.result) (size checks done) a.coefficients.now used.ensures.0),
     )
 
 enum-known-outcome : tie.Need-enum-known-outcome
@@ -113,18 +113,18 @@ returns c =
     let start = start_of checks in
     let a = start.args in
     let evaluated = c.before.before.evaluate-in-place in
-    done-both (due start) (wanted start) a.values.now evaluated.new.1.1.1.0 (answered checks ∙ done)
+    done_both (due start) (wanted start) a.values.now evaluated.new.1.1.1.0 (answered checks ∙ done)
     (evaluated.ensures
     ∙ ap (encoded a.offset.0 a.basis.now) (filled checks done
     c.before.before.before.before.before.before.before.fill.ensures)
-    ∙ encoding.left-off a.offset.0 a.basis.now a.coefficients.now)
+    ∙ encoding.left_off a.offset.0 a.basis.now a.coefficients.now)
 
 returns-2 : tie.Need-returns-2
 returns-2 c =
     let checks = c.before.before.before in
     let start = start_of checks in
     let refused = c.before.outcome.given in
-    refused-both (due start) refused.0.0 (wanted start) start.args.values.now (answered checks ∙ refused.1)
+    refused_both (due start) refused.0.0 (wanted start) start.args.values.now (answered checks ∙ refused.1)
 
 pub encode-spec : {M : Type 1} → statement M
 encode-spec =

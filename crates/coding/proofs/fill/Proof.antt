@@ -5,7 +5,7 @@ use Prim.Native.Nat.{ℕ, ◌-◌}
 use lib.ListN.{length, drop, replicate, length-drop}
 use borrow.Rule.Slice.PartMut.{mid_of, put_mid}
 use Rattle.poly.specs.Polynomial.{padded}
-use Rattle.transform.proofs.Recursion.{back-half, put_back}
+use Rattle.transform.proofs.Recursion.{back_half, put_back}
 use borrow.Author.Rules.{rules}
 use Rattle.coding.proofs.fill.Statement.{statement}
 use Rattle.coding.proofs.fill.Tie as tie
@@ -47,7 +47,7 @@ returns c =
     (cleared.clear.ensures
     ∙ ap (λ (m : ℕ). replicate m 0)
     (ap (λ (l : List ℕ). length (mid_of n (length l - n) l)) copied.copy.ensures
-    ∙ ap length (back-half n from (drop n to) refl) ∙ length-drop n to))
+    ∙ ap length (back_half n from (drop n to) refl) ∙ length-drop n to))
 
 pub fill_spec : {M : Type 1} → statement M
 fill_spec =

@@ -8,11 +8,11 @@ use lib.Dec.{eqb}
 use lib.ListN.{length, drop}
 use Rattle.refusal.specs.declared.Outcome.{Outcome}
 use Rattle.refusal.specs.declared.Outcome.TheVariants.{Done}
-use Rattle.refusal.proofs.Checks.{equal-of-test}
-use Rattle.poly.proofs.Filling.{front-whole}
+use Rattle.refusal.proofs.Checks.{equal_of_test}
+use Rattle.poly.proofs.Filling.{front_whole}
 use Rattle.reed_solomon.specs.Answers.{interpolateOutcome}
 use Rattle.reed_solomon.specs.Codes.{interpolated}
-use Rattle.reed_solomon.proofs.Checks.{Passed, passed, answered-by-size, done-both, refused-both}
+use Rattle.reed_solomon.proofs.Checks.{Passed, passed, answered_by_size, done_both, refused_both}
 use borrow.Author.Rules.{rules}
 use Rattle.coding.proofs.interpolate.Statement.{statement}
 use Rattle.coding.proofs.interpolate.Tie as tie
@@ -30,7 +30,7 @@ wanted c = interpolated c.args.offset.0 c.args.basis.now c.args.word.now
 answered : (c : tie.After-checked) → due (start_of c) ≡ c.checked.result
 answered c =
     let a = (start_of c).args in
-    answered-by-size a.basis.now (eqb (length a.word.now)) (eqb (length a.coefficients.now))
+    answered_by_size a.basis.now (eqb (length a.word.now)) (eqb (length a.coefficients.now))
     c.before.type_size.result c.checked.result c.before.type_size.ensures c.checked.ensures
 
 -- where all checks pass
@@ -46,10 +46,10 @@ module _ (c : tie.After-checked) (done : c.checked.result ≡ Done) where
       (answered c ∙ done)
 
   whole : length (start_of c).args.word.now ≡ size
-  whole = equal-of-test (length (start_of c).args.word.now) size all.list3
+  whole = equal_of_test (length (start_of c).args.word.now) size all.list3
 
   as_long : length (start_of c).args.word.now ≡ length (start_of c).args.coefficients.now
-  as_long = whole ∙ sym (equal-of-test (length (start_of c).args.coefficients.now) size all.list6)
+  as_long = whole ∙ sym (equal_of_test (length (start_of c).args.coefficients.now) size all.list6)
 
   -- the word takes up the whole list
   copied : {held : List ℕ}
@@ -57,7 +57,7 @@ module _ (c : tie.After-checked) (done : c.checked.result ≡ Done) where
       (start_of c).args.coefficients.now
       → held ≡ (start_of c).args.word.now
   copied e =
-      e ∙ front-whole (start_of c).args.word.now (start_of c).args.coefficients.now (le_of_eq (sym as_long))
+      e ∙ front_whole (start_of c).args.word.now (start_of c).args.coefficients.now (le_of_eq (sym as_long))
 
 size-of-requires : tie.Need-size-of-requires
 size-of-requires c κs = search rules
@@ -99,7 +99,7 @@ returns c =
     let start = start_of checks in
     let a = start.args in
     let filled = c.before.before.interpolate-in-place in
-    done-both (due start) (wanted start) a.coefficients.now filled.new.1.1.0 (answered checks ∙ done)
+    done_both (due start) (wanted start) a.coefficients.now filled.new.1.1.0 (answered checks ∙ done)
     (filled.ensures ∙ ap (interpolated a.offset.0 a.basis.now) (copied checks done copy.copy.ensures))
 
 returns-2 : tie.Need-returns-2
@@ -107,7 +107,7 @@ returns-2 c =
     let checks = c.before.before.before in
     let start = start_of checks in
     let refused = c.before.outcome.given in
-    refused-both (due start) refused.0.0 (wanted start) start.args.coefficients.now
+    refused_both (due start) refused.0.0 (wanted start) start.args.coefficients.now
     (answered checks ∙ refused.1)
 
 pub interpolate-spec : {M : Type 1} → statement M

@@ -2,7 +2,7 @@
 use mathlib.Core.Path.{sym, ap, ◌∙◌}
 use mathlib.Core.Bool.{Bool, cond}
 use Prim.Native.Nat.{◌^◌}
-use Rattle.coset.proofs.Sizes.{size-shifted}
+use Rattle.coset.proofs.Sizes.{size_shifted}
 use borrow.Author.Tests.{le-leb, lt-leb}
 use borrow.Author.Rules.{rules}
 use native.Mathlib.Omega.{arith}
@@ -14,7 +14,7 @@ shl-result c = search rules
 
 returns : tie.Need-returns
 returns c =
-    size-shifted c.before.args.k (omega arith)
+    size_shifted c.before.args.k (omega arith)
     ∙ sym (ap (λ (b : Bool). cond b (2 ^ c.before.args.k) 0) (le-leb c.before.args.k 20 c.if1.true))
 
 returns-2 : tie.Need-returns-2

@@ -6,8 +6,8 @@ use Prim.Native.Nat.{◌+◌, ◌-◌, ◌/◌}
 use lib.ListN.{length, take, drop, length-drop}
 use lib.Seq.{length-take-le}
 use Rattle.transform.specs.Transform.{quarters, regrouped}
-use Rattle.transform.proofs.Recursion.{back-half, halves-changed, regrouped-few, four-divides, half_length}
-use Rattle.transform.proofs.Recursion.{even-length, regrouped-next}
+use Rattle.transform.proofs.Recursion.{back_half, halves_changed, regrouped_few, four_divides, half_length}
+use Rattle.transform.proofs.Recursion.{even_length, regrouped_next}
 use borrow.Author.Rules.{rules}
 use native.Mathlib.Omega.{arith}
 use Prim.Native.Nat.{ℕ, ◌<◌}
@@ -36,7 +36,7 @@ regroup-returns : (t : ℕ) → regroup-lts.Need-returns (
   regroup.Post,
 ) (regroup-at t) regroup.Post
 regroup-returns t c = let a = c.before.before.args in
-    regrouped-few a.lower a.upper a.slice.now (omega arith)
+    regrouped_few a.lower a.upper a.slice.now (omega arith)
 
 regroup-quarters-requires : (t : ℕ) → regroup-lts.Need-quarters-requires (
   quarters-reads.Asked,
@@ -46,7 +46,7 @@ regroup-quarters-requires : (t : ℕ) → regroup-lts.Need-quarters-requires (
 ) (regroup-at t) regroup.Post
 regroup-quarters-requires t c κs =
     let start = c.before.before.before in
-    four-divides start.args.lower start.args.upper (length start.args.slice.now) (omega arith)
+    four_divides start.args.lower start.args.upper (length start.args.slice.now) (omega arith)
     start.requires.1
 
 regroup-sub-regroup : (t : ℕ) → regroup-lts.Need-overflow-sub-regroup (
@@ -148,12 +148,12 @@ regroup-regroup-requires-2 t c κs =
     let counted : length front ≡ length s / 2 =
     first.regroup.auto.1.1.0 ∙ length-take-le (length s / 2) t₁ (omega (arith, stepped.quarters.auto.0)) in (
       omega (arith, start.requires.0),
-      ap length (back-half (length s / 2) front (drop (length s / 2) t₁) counted)
+      ap length (back_half (length s / 2) front (drop (length s / 2) t₁) counted)
           ∙ length-drop (length s / 2) t₁
           ∙ omega (
             arith,
             stepped.quarters.auto.0,
-            even-length start.args.lower start.args.upper (length s) (omega arith) start.requires.1,
+            even_length start.args.lower start.args.upper (length s) (omega arith) start.requires.1,
             half_length start.args.lower start.args.upper (length s) (omega arith) start.requires.1,
           ),
     )
@@ -184,10 +184,10 @@ regroup-returns-2 t c =
     let counted : length front ≡ half =
     first.regroup.auto.1.1.0 ∙ length-take-le half t₁ (omega (arith, stepped.quarters.auto.0)) in
     let again = regrouped start.args.lower (start.args.upper - 1) in
-    halves-changed half t₁ front second.regroup2.new.1.1.0 again again counted first.regroup.ensures
+    halves_changed half t₁ front second.regroup2.new.1.1.0 again again counted first.regroup.ensures
     second.regroup2.ensures
     ∙ ap (λ (l : List ℕ). again (take half l) ++ again (drop half l)) stepped.quarters.ensures
-    ∙ regrouped-next start.args.lower start.args.upper s (omega arith) start.requires.1
+    ∙ regrouped_next start.args.lower start.args.upper s (omega arith) start.requires.1
 
 pub +regroup-spec : {M : Type 1} → statement M
 +regroup-spec = close μ-regroup λ t. regroup-lts.spec (

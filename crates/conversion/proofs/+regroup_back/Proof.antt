@@ -5,9 +5,9 @@ use mathlib.Core.List.{List}
 use Prim.Native.Nat.{◌-◌, ◌/◌, ◌%◌}
 use lib.ListN.{length}
 use lib.Seq.{length-take-le}
-use Rattle.transform.specs.Transform.{quartersBack, regroupedBack}
-use Rattle.transform.proofs.Recursion.{halves-changed, regrouped-back-few, four-divides, half_length}
-use Rattle.transform.proofs.Recursion.{even-length, regrouped-back-next, halves-length, second-length}
+use Rattle.transform.specs.Transform.{quarters_back, regrouped_back}
+use Rattle.transform.proofs.Recursion.{halves_changed, regrouped_back_few, four_divides, half_length}
+use Rattle.transform.proofs.Recursion.{even_length, regrouped_back_next, halves_length, second_length}
 use borrow.Author.Rules.{rules}
 use native.Mathlib.Omega.{arith}
 use Prim.Native.Nat.{ℕ, ◌<◌}
@@ -42,7 +42,7 @@ regroup-back-returns : (t : ℕ) → regroup-back-lts.Need-returns (
   quarters-back-reads.Learnt,
 ) (regroup-back-at t) regroup-back.Post
 regroup-back-returns t c = let a = c.before.before.args in
-    regrouped-back-few a.lower a.upper a.slice.now (omega arith)
+    regrouped_back_few a.lower a.upper a.slice.now (omega arith)
 
 regroup-back-sub-regroup-back : (t : ℕ) → regroup-back-lts.Need-overflow-sub-regroup-back (
   regroup-back-below t,
@@ -139,8 +139,8 @@ regroup-back-regroup-back-requires-2 t c κs =
     let counted : length first.regroup-back.new.1.1.0 ≡ length s / 2 =
     first.regroup-back.auto.1.1.0 ∙ length-take-le (length s / 2) s (omega arith) in (
       omega (arith, start.requires.0),
-      second-length (length s / 2) s first.regroup-back.new.1.1.0 counted
-          (even-length start.args.lower start.args.upper (length s) (omega arith) start.requires.1)
+      second_length (length s / 2) s first.regroup-back.new.1.1.0 counted
+          (even_length start.args.lower start.args.upper (length s) (omega arith) start.requires.1)
           ∙ half_length start.args.lower start.args.upper (length s) (omega arith) start.requires.1,
     )
 
@@ -158,11 +158,11 @@ regroup-back-quarters-back-requires t c κs =
     let counted : length first.regroup-back.new.1.1.0 ≡ length s / 2 =
     first.regroup-back.auto.1.1.0 ∙ length-take-le (length s / 2) s (omega arith) in
     ap (λ (n : ℕ). n % 4)
-    (halves-length (length s / 2) s first.regroup-back.new.1.1.0
+    (halves_length (length s / 2) s first.regroup-back.new.1.1.0
     second.regroup-back2.new.1.1.0 counted
-    (even-length start.args.lower start.args.upper (length s) (omega arith) start.requires.1)
+    (even_length start.args.lower start.args.upper (length s) (omega arith) start.requires.1)
     second.regroup-back2.auto.1.1.0)
-    ∙ four-divides start.args.lower start.args.upper (length s) (omega arith) start.requires.1
+    ∙ four_divides start.args.lower start.args.upper (length s) (omega arith) start.requires.1
 
 regroup-back-same-length : (t : ℕ) → regroup-back-lts.Need-same-length (
   regroup-back-below t,
@@ -188,15 +188,15 @@ regroup-back-returns-2 t c =
     let front = first.regroup-back.new.1.1.0 in
     let changed = second.regroup-back2.new.1.1.0 in
     let counted : length front ≡ half = first.regroup-back.auto.1.1.0 ∙ length-take-le half s (omega arith) in
-    let again = regroupedBack start.args.lower (start.args.upper - 1) in
+    let again = regrouped_back start.args.lower (start.args.upper - 1) in
     joined.quarters-back.ensures
-    ∙ ap₂ (λ (n : ℕ) (l : List ℕ). quartersBack (n / 4) l)
-    (halves-length half s front changed counted
-    (even-length start.args.lower start.args.upper (length s) (omega arith) start.requires.1)
+    ∙ ap₂ (λ (n : ℕ) (l : List ℕ). quarters_back (n / 4) l)
+    (halves_length half s front changed counted
+    (even_length start.args.lower start.args.upper (length s) (omega arith) start.requires.1)
     second.regroup-back2.auto.1.1.0)
-    (halves-changed half s front changed again again counted first.regroup-back.ensures
+    (halves_changed half s front changed again again counted first.regroup-back.ensures
     second.regroup-back2.ensures)
-    ∙ regrouped-back-next start.args.lower start.args.upper s (omega arith) start.requires.1
+    ∙ regrouped_back_next start.args.lower start.args.upper s (omega arith) start.requires.1
 
 pub +regroup-back-spec : {M : Type 1} → statement M
 +regroup-back-spec = close μ-regroup-back λ t. regroup-back-lts.spec (

@@ -3,8 +3,8 @@
 use mathlib.Core.Path.{◌≡◌, refl, sym, ap, ◌∙◌}
 use Prim.Native.Nat.{ℕ, ◌+◌, ◌-◌, ◌≤◌}
 use lib.ListN.{length}
-use Rattle.transform.specs.Transform.{scaledRuns, regrouped, converted, ratioOf}
-use Rattle.transform.proofs.InPlace.{converted-start, converted-next, converted-end, level-length}
+use Rattle.transform.specs.Transform.{scaled_runs, regrouped, converted, ratio_of}
+use Rattle.transform.proofs.InPlace.{converted_start, converted_next, converted_end, level_length}
 use borrow.Author.Rules.{rules}
 use native.Mathlib.Omega.{arith}
 use Rattle.conversion.proofs.convert.Statement.{statement}
@@ -12,8 +12,8 @@ use Rattle.conversion.proofs.convert.Tie as tie
 
 abbrev invariant-loop : tie.invariant-loop
 invariant-loop levels elements inverses slice₀ j₀ slice j =
-    (j ≤ levels) × (converted (ratioOf elements inverses) j (levels - j) slice
-    ≡ converted (ratioOf elements inverses) 0 levels slice₀) × (length slice ≡ length slice₀)
+    (j ≤ levels) × (converted (ratio_of elements inverses) j (levels - j) slice
+    ≡ converted (ratio_of elements inverses) 0 levels slice₀) × (length slice ≡ length slice₀)
 
 abbrev decreases-loop : tie.decreases-loop
 decreases-loop levels elements inverses slice₀ j₀ slice j = levels - j
@@ -21,7 +21,7 @@ decreases-loop levels elements inverses slice₀ j₀ slice j = levels - j
 loop-holds : tie.Need-loop-init invariant-loop decreases-loop
 loop-holds c =
     let a = c.before.before.before.args in
-    (omega arith, converted-start (ratioOf a.elements.now a.inverses.now) a.levels a.slice.now, refl)
+    (omega arith, converted_start (ratio_of a.elements.now a.inverses.now) a.levels a.slice.now, refl)
 
 sub-scale-runs : tie.Need-overflow-sub-scale-runs invariant-loop decreases-loop
 sub-scale-runs c = search rules
@@ -39,7 +39,7 @@ scale-runs-requires c κs =
     let start = c.before.before.before.before.before.before.before in
     let l = c.before.before.before.loop in (
       omega (arith, start.requires.2),
-      level-length l.j start.args.levels (length l.slice) l.invariant.0 (l.invariant.2 ∙ start.requires.3),
+      level_length l.j start.args.levels (length l.slice) l.invariant.0 (l.invariant.2 ∙ start.requires.3),
     )
 
 sub-regroup : tie.Need-overflow-sub-regroup invariant-loop decreases-loop
@@ -49,7 +49,7 @@ regroup-requires : tie.Need-regroup-requires invariant-loop decreases-loop
 regroup-requires c κs =
     let start = c.before.before.before.before.before.before.before.before.before.before.before in
     let l = c.before.before.before.before.before.before.before.loop in
-    level-length l.j start.args.levels (length
+    level_length l.j start.args.levels (length
     c.before.before.before.scale-runs.new.1.1.1.0) l.invariant.0
     (c.before.before.before.scale-runs.auto.1.1.1.0 ∙ l.invariant.2 ∙ start.requires.3)
 
@@ -65,14 +65,14 @@ loop-again c =
     let scaled = grouped.before.before.before.before in
     let l = c.before.before.before.before.before.before.before.before.before.before.loop in
     let a = c.before.before.before.before.before.before.before.before.before.before.before.before.before.before.args in
-    let ratio = ratioOf a.elements.now a.inverses.now in (
+    let ratio = ratio_of a.elements.now a.inverses.now in (
       omega arith,
       ap (converted ratio (l.j + 1) (a.levels - (l.j + 1)))
           (grouped.regroup.ensures
           ∙ ap (regrouped l.j (a.levels - l.j))
           (scaled.scale-runs.ensures
-          ∙ ap (λ (r : ℕ). scaledRuns l.j r l.slice) scaled.before.before.ratio.ensures))
-          ∙ converted-next ratio l.j a.levels l.slice (omega arith) ∙ l.invariant.1,
+          ∙ ap (λ (r : ℕ). scaled_runs l.j r l.slice) scaled.before.before.ratio.ensures))
+          ∙ converted_next ratio l.j a.levels l.slice (omega arith) ∙ l.invariant.1,
       grouped.regroup.auto.1.1.0 ∙ scaled.scale-runs.auto.1.1.1.0 ∙ l.invariant.2,
     )
 
@@ -83,7 +83,7 @@ returns : tie.Need-returns invariant-loop decreases-loop
 returns c =
     let a = c.before.before.before.before.before.args in
     let l = c.before.loop in
-    sym (converted-end (ratioOf a.elements.now a.inverses.now) l.j a.levels l.slice (omega arith))
+    sym (converted_end (ratio_of a.elements.now a.inverses.now) l.j a.levels l.slice (omega arith))
     ∙ l.invariant.1
 
 pub convert-spec : {M : Type 1} → statement M

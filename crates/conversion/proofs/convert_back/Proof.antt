@@ -4,8 +4,8 @@ use mathlib.Core.Path.{◌≡◌, refl, ap, ap₂, ◌∙◌}
 use mathlib.Core.List.{List}
 use Prim.Native.Nat.{ℕ, ◌-◌, ◌≤◌}
 use lib.ListN.{length}
-use Rattle.transform.specs.Transform.{scaledRuns, regroupedBack, convertedBack, ratioOf}
-use Rattle.transform.proofs.InPlace.{converted-back-start, converted-back-next, converted-back-end, level-length}
+use Rattle.transform.specs.Transform.{scaled_runs, regrouped_back, converted_back, ratio_of}
+use Rattle.transform.proofs.InPlace.{converted_back_start, converted_back_next, converted_back_end, level_length}
 use borrow.Author.Rules.{rules}
 use native.Mathlib.Omega.{arith}
 use Rattle.conversion.proofs.convert_back.Statement.{statement}
@@ -13,7 +13,7 @@ use Rattle.conversion.proofs.convert_back.Tie as tie
 
 abbrev invariant-loop : tie.invariant-loop
 invariant-loop levels elements inverses slice₀ j₀ slice j =
-    (j ≤ levels) × (slice ≡ convertedBack (ratioOf inverses elements) j (levels - j) slice₀)
+    (j ≤ levels) × (slice ≡ converted_back (ratio_of inverses elements) j (levels - j) slice₀)
     × (length slice ≡ length slice₀)
 
 abbrev decreases-loop : tie.decreases-loop
@@ -23,7 +23,7 @@ loop-holds : tie.Need-loop-init invariant-loop decreases-loop
 loop-holds c =
     let a = c.before.before.before.args in (
       omega arith,
-      converted-back-start (ratioOf a.inverses.now a.elements.now) a.levels
+      converted_back_start (ratio_of a.inverses.now a.elements.now) a.levels
           a.slice.now,
       refl,
     )
@@ -38,7 +38,7 @@ regroup-back-requires : tie.Need-regroup-back-requires invariant-loop decreases-
 regroup-back-requires c κs =
     let start = c.before.before.before.before.before.before in
     let l = c.before.before.loop in
-    level-length (l.j - 1) start.args.levels (length l.slice) (omega arith) (l.invariant.2 ∙ start.requires.3)
+    level_length (l.j - 1) start.args.levels (length l.slice) (omega arith) (l.invariant.2 ∙ start.requires.3)
 
 sub-scale-runs : tie.Need-overflow-sub-scale-runs invariant-loop decreases-loop
 sub-scale-runs c = search rules
@@ -57,7 +57,7 @@ scale-runs-requires c κs =
     let l = c.before.before.before.before.before.before.before.loop in
     let grouped = c.before.before.before.before in (
       omega (arith, start.requires.2),
-      level-length (l.j - 1) start.args.levels (length grouped.regroup-back.new.1.1.0) (omega arith)
+      level_length (l.j - 1) start.args.levels (length grouped.regroup-back.new.1.1.0) (omega arith)
           (grouped.regroup-back.auto.1.1.0 ∙ l.invariant.2 ∙ start.requires.3),
     )
 
@@ -70,12 +70,12 @@ loop-again c =
     let grouped = scaled.before.before.before.before.before in
     let l = c.before.before.before.before.before.before.before.before.before.before.loop in
     let a = c.before.before.before.before.before.before.before.before.before.before.before.before.before.before.args in
-    let ratio = ratioOf a.inverses.now a.elements.now in (
+    let ratio = ratio_of a.inverses.now a.elements.now in (
       omega arith,
       scaled.scale-runs.ensures
-          ∙ ap₂ (λ (r : ℕ) (h : List ℕ). scaledRuns (l.j - 1) r h) scaled.before.before.ratio.ensures
-          (grouped.regroup-back.ensures ∙ ap (regroupedBack (l.j - 1) (a.levels - (l.j - 1))) l.invariant.1)
-          ∙ converted-back-next ratio l.j a.levels a.slice.now (omega arith) l.invariant.0,
+          ∙ ap₂ (λ (r : ℕ) (h : List ℕ). scaled_runs (l.j - 1) r h) scaled.before.before.ratio.ensures
+          (grouped.regroup-back.ensures ∙ ap (regrouped_back (l.j - 1) (a.levels - (l.j - 1))) l.invariant.1)
+          ∙ converted_back_next ratio l.j a.levels a.slice.now (omega arith) l.invariant.0,
       scaled.scale-runs.auto.1.1.1.0 ∙ grouped.regroup-back.auto.1.1.0 ∙ l.invariant.2,
     )
 
@@ -86,7 +86,7 @@ returns : tie.Need-returns invariant-loop decreases-loop
 returns c =
     let a = c.before.before.before.before.before.args in
     let l = c.before.loop in
-    converted-back-end (ratioOf a.inverses.now a.elements.now) l.j a.levels a.slice.now l.slice
+    converted_back_end (ratio_of a.inverses.now a.elements.now) l.j a.levels a.slice.now l.slice
     (omega arith) l.invariant.1
 
 pub convert-back-spec : {M : Type 1} → statement M

@@ -3,8 +3,8 @@ use mathlib.Core.Path.{◌≡◌, ap, ◌∙◌}
 use Prim.Native.Nat.{◌+◌, ◌-◌, ◌/◌}
 use lib.ListN.{length}
 use borrow.Rule.Slice.PartMut.{put_mid, same_len_mid}
-use Rattle.transform.specs.Transform.{onPart, secondAdded, quartersBack}
-use Rattle.transform.proofs.Recursion.{part-put}
+use Rattle.transform.specs.Transform.{on_part, second_added, quarters_back}
+use Rattle.transform.proofs.Recursion.{part_put}
 use borrow.Author.Rules.{rules}
 use native.Mathlib.Omega.{arith}
 use Rattle.conversion.proofs.quarters_back.Statement.{statement}
@@ -50,7 +50,7 @@ same_length : tie.Need-same-length
 same_length c = search rules
 
 returns : tie.Need-returns
-unfolding quartersBack
+unfolding quarters_back
 returns c =
     let second = c.before.before in
     let first = second.before.before.before.before in
@@ -58,14 +58,14 @@ returns c =
     let q = length s / 4 in
     let u = put_mid q (q + (q + q) - q) s first.add-second.new.0 in
     let divided = first.before.before.before.requires in
-    let middle : u ≡ onPart q (q + q) (secondAdded 1 q) s =
-    part-put q q (q + (q + q) - q) s first.add-second.new.0 (omega arith) (omega (arith, divided))
+    let middle : u ≡ on_part q (q + q) (second_added 1 q) s =
+    part_put q q (q + (q + q) - q) s first.add-second.new.0 (omega arith) (omega (arith, divided))
     first.add-second.ensures in
     let counted : length u ≡ length s =
     same_len_mid q (q + (q + q) - q) s first.add-second.new.0 first.add-second.auto.0 in
-    part-put (q + q) q (length u - (q + q)) u second.add-second2.new.0 (omega (arith, counted, divided))
+    part_put (q + q) q (length u - (q + q)) u second.add-second2.new.0 (omega (arith, counted, divided))
     (omega (arith, counted, divided)) second.add-second2.ensures
-    ∙ ap (onPart (q + q) (q + q) (secondAdded 1 q)) middle
+    ∙ ap (on_part (q + q) (q + q) (second_added 1 q)) middle
 
 pub quarters-back-spec : {M : Type 1} → statement M
 quarters-back-spec =

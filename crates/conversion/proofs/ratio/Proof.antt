@@ -2,7 +2,7 @@
 use mathlib.Core.Path.{ap, ◌∙◌}
 use lib.ListN.{get_or}
 use Rattle.gf64.specs.Field.{product}
-use Rattle.transform.proofs.InPlace.{ratio-first, ratio-later}
+use Rattle.transform.proofs.InPlace.{ratio_first, ratio_later}
 use borrow.Author.Rules.{rules}
 use native.Mathlib.Omega.{arith}
 use Rattle.conversion.proofs.ratio.Statement.{statement}
@@ -17,7 +17,7 @@ shared-slice-read-e c = search rules
 returns : tie.Need-returns
 returns c =
     let a = c.before.before.before.before.args in
-    ratio-first a.elements.now a.inverses.now a.j (omega arith)
+    ratio_first a.elements.now a.inverses.now a.j (omega arith)
 
 sub-d : tie.Need-overflow-sub-d
 sub-d c = search rules
@@ -38,7 +38,7 @@ returns-2 : tie.Need-returns-2
 returns-2 c =
     let a = c.before.before.before.before.before.before.before.args in
     c.product2.ensures.0 ∙ ap (product (get_or a.elements.now a.j 0)) c.before.product.ensures.0
-    ∙ ratio-later a.elements.now a.inverses.now a.j c.before.before.before.if1.false
+    ∙ ratio_later a.elements.now a.inverses.now a.j c.before.before.before.if1.false
 
 pub ratio-spec : {M : Type 1} → statement M
 ratio-spec =

@@ -5,11 +5,11 @@ use Prim.Native.Nat.{ℕ, ◌+◌, ◌-◌, ◌/◌, ◌%◌, ◌^◌, ◌≤◌
 use lib.ListN.{length}
 use Rattle.gf64.specs.Field.{product, power}
 use Rattle.poly.specs.Carrier.{gf64}
-use Rattle.poly.proofs.Filling.{filled, filled-start, length-filled}
-use Rattle.transform.specs.Transform.{scaledRuns}
+use Rattle.poly.proofs.Filling.{filled, filled_start, length_filled}
+use Rattle.transform.specs.Transform.{scaled_runs}
 use native.Mathlib.Nat.{zero-mod, zero-div}
 use Rattle.gf64.proofs.Power.{power_zero}
-use Rattle.transform.proofs.Scaling.{runs-next, runs-end, power-next, whole-next, run_fits, scaled-block}
+use Rattle.transform.proofs.Scaling.{runs_next, runs_end, power_next, whole_next, run_fits, scaled_block}
 use Rattle.poly.specs.Polynomial.{scale}
 use borrow.Rule.Slice.PartMut.{mid_of}
 use lib.Pow.{pow_pos}
@@ -21,7 +21,7 @@ use Rattle.conversion.proofs.scale_runs.Tie as tie
 abbrev invariant-loop : tie.invariant-loop
 invariant-loop lower upper r slice₀ run power₀ at₀ slice factor at =
     (at ≤ length slice₀) × (at % 2 ^ lower ≡ 0) × (factor.0 ≡ power r.0 (at / 2 ^ lower))
-    × (slice ≡ filled (scaledRuns lower r.0 slice₀) slice₀ at) × (length slice ≡ length slice₀) × (run ≡ 2 ^ lower)
+    × (slice ≡ filled (scaled_runs lower r.0 slice₀) slice₀ at) × (length slice ≡ length slice₀) × (run ≡ 2 ^ lower)
 
 abbrev decreases-loop : tie.decreases-loop
 decreases-loop lower upper r slice₀ run power₀ at₀ slice factor at = length slice₀ - at
@@ -35,7 +35,7 @@ loop-holds c =
       search rules,
       zero-mod (2 ^ a.lower),
       sym (ap (power a.r.0) (zero-div (2 ^ a.lower)) ∙ power_zero a.r.0),
-      filled-start (scaledRuns a.lower a.r.0 a.slice.now) a.slice.now,
+      filled_start (scaled_runs a.lower a.r.0 a.slice.now) a.slice.now,
       refl,
       c.power-of-two.ensures,
     )
@@ -97,15 +97,15 @@ loop-again c =
     let s = a.slice.now in
     let end = l.at + run in
     let here : end ≡ l.at + 2 ^ a.lower = ap (λ (n : ℕ). l.at + n) l.invariant.5 in
-    let now = runs-next a.lower a.r.0 s l.slice c.before.before.before.scale.new.1.0 l.at end
+    let now = runs_next a.lower a.r.0 s l.slice c.before.before.before.scale.new.1.0 l.at end
     (end - l.at) here (omega (arith, l.invariant.5)) l.invariant.1 fits l.invariant.3
     (c.before.before.before.scale.ensures ∙ ap (λ (f : ℕ). scale gf64 f (mid_of l.at (end - l.at)
     l.slice)) l.invariant.2) in (
       fits,
-      whole-next a.lower l.at end here l.invariant.1,
-      c.product.ensures.0 ∙ power-next a.lower a.r.0 l.power.0 l.at end here l.invariant.2,
+      whole_next a.lower l.at end here l.invariant.1,
+      c.product.ensures.0 ∙ power_next a.lower a.r.0 l.power.0 l.at end here l.invariant.2,
       now,
-      ap length now ∙ length-filled (scaledRuns a.lower a.r.0 s) s end (scaled-block a.lower
+      ap length now ∙ length_filled (scaled_runs a.lower a.r.0 s) s end (scaled_block a.lower
           a.r.0 (length s) s refl).0,
       l.invariant.5,
     )
@@ -117,7 +117,7 @@ returns : tie.Need-returns invariant-loop decreases-loop
 returns c =
     let a = c.before.before.before.before.args in
     let l = c.before.loop in
-    runs-end a.lower a.r.0 a.slice.now l.slice l.at (omega (arith, l.invariant.4)) l.invariant.3
+    runs_end a.lower a.r.0 a.slice.now l.slice l.at (omega (arith, l.invariant.4)) l.invariant.3
 
 pub scale-runs-spec : {M : Type 1} → statement M
 scale-runs-spec =

@@ -6,9 +6,9 @@ use Prim.Native.Nat.{◌+◌, ◌-◌, ◌/◌, ◌^◌}
 use lib.ListN.{length, take, drop}
 use lib.Seq.{length-take-le}
 use Rattle.gf64.specs.Field.{sum}
-use Rattle.transform.specs.Transform.{firstAdded, secondAdded, joinedFromHalves, normalisedAt}
-use Rattle.transform.proofs.Recursion.{halves-changed, halves-length, second-length, half-power, two-of-power}
-use Rattle.transform.proofs.Recursion.{join-none, join-next}
+use Rattle.transform.specs.Transform.{first_added, second_added, joined_from_halves, normalised_at}
+use Rattle.transform.proofs.Recursion.{halves_changed, halves_length, second_length, half_power, two_of_power}
+use Rattle.transform.proofs.Recursion.{join_none, join_next}
 use borrow.Author.Rules.{rules}
 use native.Mathlib.Omega.{arith}
 use Prim.Native.Nat.{ℕ, ◌<◌}
@@ -41,7 +41,7 @@ join-returns : (t : ℕ) → join-lts.Need-returns (
 ) (join-at t) join.Post
 join-returns t c =
     let a = c.before.before.before.before.before.args in
-    join-none (normalisedAt a.elements.now a.inverses.now) a.basis.now a.n a.offset.0
+    join_none (normalised_at a.elements.now a.inverses.now) a.basis.now a.n a.offset.0
     a.slice.now
     (omega arith)
 
@@ -110,11 +110,11 @@ join-join-requires t c κs =
     let a = start.args in
     let s = a.slice.now in
     let half = length s / 2 in
-    let at = half-power a.n (length s) (omega arith) start.requires.1.3 in
+    let at = half_power a.n (length s) (omega arith) start.requires.1.3 in
     let even : length s ≡ half + half = omega (
       arith,
       at,
-      two-of-power a.n (length s) (omega arith)
+      two_of_power a.n (length s) (omega arith)
           start.requires.1.3,
     ) in (
       omega (arith, start.requires.0),
@@ -190,11 +190,11 @@ join-join-requires-2 t c κs =
     let a = start.args in
     let s = a.slice.now in
     let half = length s / 2 in
-    let at = half-power a.n (length s) (omega arith) start.requires.1.3 in
+    let at = half_power a.n (length s) (omega arith) start.requires.1.3 in
     let even : length s ≡ half + half = omega (
       arith,
       at,
-      two-of-power a.n (length s) (omega arith)
+      two_of_power a.n (length s) (omega arith)
           start.requires.1.3,
     ) in
     let counted : length first.join.new.1.1.1.1.1.0 ≡ half =
@@ -204,7 +204,7 @@ join-join-requires-2 t c κs =
         omega (arith, start.requires.1.0),
         start.requires.1.1,
         start.requires.1.2,
-        second-length half s first.join.new.1.1.1.1.1.0 counted even ∙ at,
+        second_length half s first.join.new.1.1.1.1.1.0 counted even ∙ at,
       ),
     )
 
@@ -223,20 +223,20 @@ join-step-back-requires t c κs =
     let a = start.args in
     let s = a.slice.now in
     let half = length s / 2 in
-    let at = half-power a.n (length s) (omega arith) start.requires.1.3 in
+    let at = half_power a.n (length s) (omega arith) start.requires.1.3 in
     let even : length s ≡ half + half = omega (
       arith,
       at,
-      two-of-power a.n (length s) (omega arith)
+      two_of_power a.n (length s) (omega arith)
           start.requires.1.3,
     ) in
     let counted : length first.join.new.1.1.1.1.1.0 ≡ half =
     first.join.auto.1.1.1.1.1.0 ∙ length-take-le half s (omega arith) in (
       omega (arith, start.requires.1.0, start.requires.1.1),
       omega (arith, start.requires.1.0, start.requires.1.2),
-      halves-length half s first.join.new.1.1.1.1.1.0 second.join2.new.1.1.1.1.1.0 counted even
+      halves_length half s first.join.new.1.1.1.1.1.0 second.join2.new.1.1.1.1.1.0 counted even
           second.join2.auto.1.1.1.1.1.0
-          ∙ two-of-power a.n (length s) (omega arith) start.requires.1.3,
+          ∙ two_of_power a.n (length s) (omega arith) start.requires.1.3,
     )
 
 join-same-length : (t : ℕ) → join-lts.Need-same-length (
@@ -265,26 +265,26 @@ join-returns-2 t c =
     let a = start.args in
     let s = a.slice.now in
     let half = length s / 2 in
-    let at = half-power a.n (length s) (omega arith) start.requires.1.3 in
+    let at = half_power a.n (length s) (omega arith) start.requires.1.3 in
     let even : length s ≡ half + half = omega (
       arith,
       at,
-      two-of-power a.n (length s) (omega arith)
+      two_of_power a.n (length s) (omega arith)
           start.requires.1.3,
     ) in
-    let z = normalisedAt a.elements.now a.inverses.now in
+    let z = normalised_at a.elements.now a.inverses.now in
     let front = first.join.new.1.1.1.1.1.0 in
     let counted : length front ≡ half = first.join.auto.1.1.1.1.1.0 ∙ length-take-le half s (omega arith) in
     let offset' = second.before.before.sum.result.0 in
-    let f = joinedFromHalves z a.basis.now (a.n - 1) a.offset.0 in
-    let g = joinedFromHalves z a.basis.now (a.n - 1) offset' in
+    let f = joined_from_halves z a.basis.now (a.n - 1) a.offset.0 in
+    let g = joined_from_halves z a.basis.now (a.n - 1) offset' in
     joined.step_back.ensures
-    ∙ ap (λ (l : List ℕ). secondAdded (z (a.n - 1) a.offset.0) (2 ^ (a.n - 1)) (firstAdded (2 ^ (a.n - 1)) l))
-    (halves-changed half s front second.join2.new.1.1.1.1.1.0 f g counted first.join.ensures
+    ∙ ap (λ (l : List ℕ). second_added (z (a.n - 1) a.offset.0) (2 ^ (a.n - 1)) (first_added (2 ^ (a.n - 1)) l))
+    (halves_changed half s front second.join2.new.1.1.1.1.1.0 f g counted first.join.ensures
     second.join2.ensures
-    ∙ ap (λ (o : ℕ). f (take half s) ++ joinedFromHalves z a.basis.now (a.n - 1) o (drop half s))
+    ∙ ap (λ (o : ℕ). f (take half s) ++ joined_from_halves z a.basis.now (a.n - 1) o (drop half s))
     second.before.before.sum.ensures)
-    ∙ join-next z a.basis.now a.n a.offset.0 half s (omega arith) at
+    ∙ join_next z a.basis.now a.n a.offset.0 half s (omega arith) at
 
 pub +join-spec : {M : Type 1} → statement M
 +join-spec = close μ-join λ t. join-lts.spec (

@@ -6,9 +6,9 @@ use Prim.Native.Nat.{◌+◌, ◌-◌, ◌/◌, ◌^◌}
 use lib.ListN.{length, take, drop}
 use lib.Seq.{length-take-le}
 use Rattle.gf64.specs.Field.{sum}
-use Rattle.transform.specs.Transform.{splitInHalves, normalisedAt}
-use Rattle.transform.proofs.Recursion.{halves-changed, second-length, back-half, half-power, two-of-power}
-use Rattle.transform.proofs.Recursion.{split-none, split-next, first_below, second_below}
+use Rattle.transform.specs.Transform.{split_in_halves, normalised_at}
+use Rattle.transform.proofs.Recursion.{halves_changed, second_length, back_half, half_power, two_of_power}
+use Rattle.transform.proofs.Recursion.{split_none, split_next, first_below, second_below}
 use Rattle.poly.specs.Carrier.{gf64}
 use Rattle.poly.specs.Polynomial.{DegreeBelow}
 use borrow.Author.Rules.{rules}
@@ -43,7 +43,7 @@ split-returns : (t : ℕ) → split-lts.Need-returns (
 ) (split_at t) split.Post
 split-returns t c =
     let a = c.before.before.before.before.before.args in
-    split-none (normalisedAt a.elements.now a.inverses.now) a.basis.now a.n a.offset.0
+    split_none (normalised_at a.elements.now a.inverses.now) a.basis.now a.n a.offset.0
     a.slice.now
     (omega arith)
 
@@ -70,7 +70,7 @@ split-step-requires t c κs =
     let a = start.args in (
       omega (arith, start.requires.1.0, start.requires.1.1),
       omega (arith, start.requires.1.0, start.requires.1.2),
-      two-of-power a.n (length a.slice.now) (omega arith) start.requires.1.3,
+      two_of_power a.n (length a.slice.now) (omega arith) start.requires.1.3,
       start.requires.1.4,
     )
 
@@ -145,9 +145,9 @@ split-split-requires t c κs =
     let half = length s / 2 in
     let t₁ = step.step.new.1.1.1.1.1.0 in
     let same = step.step.auto.1.1.1.1.1.0 in
-    let at = half-power a.n (length s) (omega arith) start.requires.1.3 in
-    let two = two-of-power a.n (length s) (omega arith) start.requires.1.3 in
-    let z = normalisedAt a.elements.now a.inverses.now in (
+    let at = half_power a.n (length s) (omega arith) start.requires.1.3 in
+    let two = two_of_power a.n (length s) (omega arith) start.requires.1.3 in
+    let z = normalised_at a.elements.now a.inverses.now in (
       omega (arith, start.requires.0),
       (
         omega (arith, start.requires.1.0),
@@ -216,9 +216,9 @@ split-split-requires-2 t c κs =
     let half = length s / 2 in
     let t₁ = step.step.new.1.1.1.1.1.0 in
     let same = step.step.auto.1.1.1.1.1.0 in
-    let at = half-power a.n (length s) (omega arith) start.requires.1.3 in
-    let two = two-of-power a.n (length s) (omega arith) start.requires.1.3 in
-    let z = normalisedAt a.elements.now a.inverses.now in
+    let at = half_power a.n (length s) (omega arith) start.requires.1.3 in
+    let two = two_of_power a.n (length s) (omega arith) start.requires.1.3 in
+    let z = normalised_at a.elements.now a.inverses.now in
     let front = first.split.new.1.1.1.1.1.1.0 in
     let counted : length front ≡ half =
     first.split.auto.1.1.1.1.1.1.0 ∙ length-take-le half t₁ (omega (arith, same)) in
@@ -228,8 +228,8 @@ split-split-requires-2 t c κs =
         omega (arith, start.requires.1.0),
         start.requires.1.1,
         start.requires.1.2,
-        second-length half t₁ front counted even ∙ at,
-        subst (DegreeBelow gf64 (2 ^ a.used)) (sym (back-half half front (drop half t₁) counted))
+        second_length half t₁ front counted even ∙ at,
+        subst (DegreeBelow gf64 (2 ^ a.used)) (sym (back_half half front (drop half t₁) counted))
             (second_below a.used (a.n - 1) (z (a.n - 1) a.offset.0) half s t₁ at two start.requires.1.4
             step.step.ensures same),
       ),
@@ -263,20 +263,20 @@ split-returns-2 t c =
     let half = length s / 2 in
     let t₁ = step.step.new.1.1.1.1.1.0 in
     let same = step.step.auto.1.1.1.1.1.0 in
-    let at = half-power a.n (length s) (omega arith) start.requires.1.3 in
-    let two = two-of-power a.n (length s) (omega arith) start.requires.1.3 in
-    let z = normalisedAt a.elements.now a.inverses.now in
+    let at = half_power a.n (length s) (omega arith) start.requires.1.3 in
+    let two = two_of_power a.n (length s) (omega arith) start.requires.1.3 in
+    let z = normalised_at a.elements.now a.inverses.now in
     let front = first.split.new.1.1.1.1.1.1.0 in
     let counted : length front ≡ half =
     first.split.auto.1.1.1.1.1.1.0 ∙ length-take-le half t₁ (omega (arith, same)) in
     let offset' = first.before.before.sum.result.0 in
-    let f = splitInHalves z a.basis.now (a.n - 1) a.offset.0 in
-    let g = splitInHalves z a.basis.now (a.n - 1) offset' in
-    halves-changed half t₁ front second.split2.new.1.1.1.1.1.1.0 f g counted first.split.ensures
+    let f = split_in_halves z a.basis.now (a.n - 1) a.offset.0 in
+    let g = split_in_halves z a.basis.now (a.n - 1) offset' in
+    halves_changed half t₁ front second.split2.new.1.1.1.1.1.1.0 f g counted first.split.ensures
     second.split2.ensures
-    ∙ ap₂ (λ (l : List ℕ) (o : ℕ). f (take half l) ++ splitInHalves z a.basis.now (a.n - 1) o (drop half l))
+    ∙ ap₂ (λ (l : List ℕ) (o : ℕ). f (take half l) ++ split_in_halves z a.basis.now (a.n - 1) o (drop half l))
     step.step.ensures first.before.before.sum.ensures
-    ∙ split-next z a.basis.now a.n a.offset.0 half s (omega arith) at
+    ∙ split_next z a.basis.now a.n a.offset.0 half s (omega arith) at
 
 pub +split-spec : {M : Type 1} → statement M
 +split-spec = close μ-split λ t. split-lts.spec (

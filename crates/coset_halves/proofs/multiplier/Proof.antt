@@ -4,7 +4,7 @@ use Prim.Native.Nat.{ℕ}
 use lib.ListN.{get_or}
 use lib.Seq.{length-take-le}
 use Rattle.gf64.specs.Field.{product}
-use Rattle.transform.specs.Transform.{normalisedAt}
+use Rattle.transform.specs.Transform.{normalised_at}
 use borrow.Author.Rules.{rules}
 use native.Mathlib.Omega.{arith}
 use Rattle.coset_halves.proofs.multiplier.Statement.{statement}
@@ -28,7 +28,7 @@ product-requires : tie.Need-product-requires
 product-requires c κs = search rules
 
 returns : tie.Need-returns
-unfolding normalisedAt
+unfolding normalised_at
 returns c =
     let a = c.before.before.before.before.before.before.args in
     c.product.ensures.0 ∙ ap (λ (v : ℕ). product v (get_or a.inverses.now a.n 0))

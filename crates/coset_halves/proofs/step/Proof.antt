@@ -4,7 +4,7 @@ use mathlib.Core.Path.{◌≡◌, sym, ap, ap₂, ◌∙◌}
 use mathlib.Core.List.{List}
 use Prim.Native.Nat.{ℕ, ◌/◌, ◌^◌}
 use lib.ListN.{length}
-use Rattle.transform.specs.Transform.{firstAdded, secondAdded, normalisedAt}
+use Rattle.transform.specs.Transform.{first_added, second_added, normalised_at}
 use Rattle.transform.proofs.Recursion.{second_none}
 use borrow.Author.Rules.{rules}
 use native.Mathlib.Omega.{arith}
@@ -23,9 +23,9 @@ returns c =
     let start = first.before.before.before.before.before.before in
     let a = start.args in
     let half : length a.slice.now / 2 ≡ 2 ^ a.n = omega (arith, start.requires.2) in
-    let z = normalisedAt a.elements.now a.inverses.now a.n a.offset.0 in
-    first.add-first.ensures ∙ ap (λ (h : ℕ). firstAdded h a.slice.now) half
-    ∙ ap (firstAdded (2 ^ a.n)) (sym (second_none a.used a.n z a.slice.now (omega arith)
+    let z = normalised_at a.elements.now a.inverses.now a.n a.offset.0 in
+    first.add-first.ensures ∙ ap (λ (h : ℕ). first_added h a.slice.now) half
+    ∙ ap (first_added (2 ^ a.n)) (sym (second_none a.used a.n z a.slice.now (omega arith)
     start.requires.3 start.requires.2))
 
 multiplier-requires : tie.Need-multiplier-requires
@@ -49,10 +49,10 @@ returns-2 c =
     let half : length a.slice.now / 2 ≡ 2 ^ a.n = omega (arith, start.requires.2) in
     let m = multiplied.add-multiples.new.1.0 in
     first.add-first2.ensures
-    ∙ ap₂ (λ (h : ℕ) (l : List ℕ). firstAdded h l) (ap (λ (n : ℕ). n / 2)
+    ∙ ap₂ (λ (h : ℕ) (l : List ℕ). first_added h l) (ap (λ (n : ℕ). n / 2)
     multiplied.add-multiples.auto.1.0 ∙ half)
     (multiplied.add-multiples.ensures
-    ∙ ap₂ (λ (z h : ℕ). secondAdded z h a.slice.now) multiplied.before.before.multiplier.ensures half)
+    ∙ ap₂ (λ (z h : ℕ). second_added z h a.slice.now) multiplied.before.before.multiplier.ensures half)
 
 pub step_spec : {M : Type 1} → statement M
 step_spec =

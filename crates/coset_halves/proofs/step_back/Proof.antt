@@ -3,7 +3,7 @@ use mathlib.Core.Path.{◌≡◌, ap, ap₂, ◌∙◌}
 use mathlib.Core.List.{List}
 use Prim.Native.Nat.{ℕ, ◌/◌, ◌^◌}
 use lib.ListN.{length}
-use Rattle.transform.specs.Transform.{firstAdded, secondAdded, normalisedAt}
+use Rattle.transform.specs.Transform.{first_added, second_added, normalised_at}
 use borrow.Author.Rules.{rules}
 use native.Mathlib.Omega.{arith}
 use Rattle.coset_halves.proofs.step_back.Statement.{statement}
@@ -29,11 +29,11 @@ returns c =
     let a = start.args in
     let half : length a.slice.now / 2 ≡ 2 ^ a.n = omega (arith, start.requires.2) in
     let f = first.add-first.new.0 in
-    let z = normalisedAt a.elements.now a.inverses.now a.n a.offset.0 in
+    let z = normalised_at a.elements.now a.inverses.now a.n a.offset.0 in
     multiplied.add-multiples.ensures
-    ∙ ap (λ (m : ℕ). secondAdded m (length f / 2) f) first.before.before.multiplier.ensures
-    ∙ ap₂ (λ (h : ℕ) (l : List ℕ). secondAdded z h l) (ap (λ (n : ℕ). n / 2) first.add-first.auto.0 ∙ half)
-    (first.add-first.ensures ∙ ap (λ (h : ℕ). firstAdded h a.slice.now) half)
+    ∙ ap (λ (m : ℕ). second_added m (length f / 2) f) first.before.before.multiplier.ensures
+    ∙ ap₂ (λ (h : ℕ) (l : List ℕ). second_added z h l) (ap (λ (n : ℕ). n / 2) first.add-first.auto.0 ∙ half)
+    (first.add-first.ensures ∙ ap (λ (h : ℕ). first_added h a.slice.now) half)
 
 pub step-back-spec : {M : Type 1} → statement M
 step-back-spec =

@@ -2,7 +2,7 @@
 -- Assumes nothing.
 use mathlib.Core.Path.{sym}
 use lib.ListN.{length, take}
-use Rattle.transform.proofs.InPlace.{elements-counted, inverses-counted, elements-held, inverses-held}
+use Rattle.transform.proofs.InPlace.{elements_counted, inverses_counted, elements_held, inverses_held}
 use borrow.Author.Rules.{rules}
 use Rattle.coset_transform.proofs.evaluate_in_place.Statement.{statement}
 use Rattle.coset_transform.proofs.evaluate_in_place.Tie as tie
@@ -18,15 +18,15 @@ slice-aggregate-inverses-of c =
     let start = c.before.before.before.before in
     let basis = start.args.basis.now in
     let made = c.before.step-elements in
-    let held = elements-held 20 basis made.result made.ensures in
-    sym (elements-counted basis (take (length basis) made.result) held)
+    let held = elements_held 20 basis made.result made.ensures in
+    sym (elements_counted basis (take (length basis) made.result) held)
 
 inverses-of-requires : tie.Need-inverses-of-requires
 inverses-of-requires c κs =
     let start = c.before.before.before.before in
     let basis = start.args.basis.now in
     let made = c.before.step-elements in
-    let held = elements-held 20 basis made.result made.ensures in
+    let held = elements_held 20 basis made.result made.ensures in
     (start.requires.0, start.requires.1, held)
 
 array-share-prefix-elements-2 : tie.Need-array-share-prefix-elements-2
@@ -37,8 +37,8 @@ slice-aggregate-evaluate-with c =
     let start = c.before.before.before.before.before.before in
     let basis = start.args.basis.now in
     let made = c.before.before.before.step-elements in
-    let held = elements-held 20 basis made.result made.ensures in
-    sym (elements-counted basis (take (length basis) made.result) held)
+    let held = elements_held 20 basis made.result made.ensures in
+    sym (elements_counted basis (take (length basis) made.result) held)
 
 array-share-prefix-inverses : tie.Need-array-share-prefix-inverses
 array-share-prefix-inverses c = search rules
@@ -48,21 +48,21 @@ slice-aggregate-evaluate-with-2 c =
     let start = c.before.before.before.before.before.before.before in
     let basis = start.args.basis.now in
     let made = c.before.before.before.before.step-elements in
-    let held = elements-held 20 basis made.result made.ensures in
+    let held = elements_held 20 basis made.result made.ensures in
     let inverted = c.before.before.inverses-of in
     let front = take (length basis) made.result in
-    let back = inverses-held 20 basis front inverted.result held inverted.ensures in
-    sym (inverses-counted basis front (take (length basis) inverted.result) held back)
+    let back = inverses_held 20 basis front inverted.result held inverted.ensures in
+    sym (inverses_counted basis front (take (length basis) inverted.result) held back)
 
 evaluate-with-requires : tie.Need-evaluate-with-requires
 evaluate-with-requires c κs =
     let start = c.before.before.before.before.before.before.before.before in
     let basis = start.args.basis.now in
     let made = c.before.before.before.before.before.step-elements in
-    let held = elements-held 20 basis made.result made.ensures in
+    let held = elements_held 20 basis made.result made.ensures in
     let inverted = c.before.before.before.inverses-of in
     let front = take (length basis) made.result in
-    let back = inverses-held 20 basis front inverted.result held inverted.ensures in
+    let back = inverses_held 20 basis front inverted.result held inverted.ensures in
     (start.requires.0, start.requires.1, start.requires.2, start.requires.3, start.requires.4, held, back)
 
 same_length : tie.Need-same-length

@@ -8,8 +8,8 @@ use lib.ListN.{length, drop, length-map, length-append, length-drop}
 use lib.Seq.{length-take-le}
 use Rattle.gf64.specs.Field.{inverse}
 use Rattle.coset.proofs.Steps.{length-elements}
-use Rattle.transform.specs.Transform.{normalisedAt, splitInHalves}
-use Rattle.transform.proofs.InPlace.{evaluated-with, size_fits, zeros-behind}
+use Rattle.transform.specs.Transform.{normalised_at, split_in_halves}
+use Rattle.transform.proofs.InPlace.{evaluated_with, size_fits, zeros_behind}
 use borrow.Author.Rules.{rules}
 use native.Mathlib.Omega.{arith}
 use Rattle.coset_transform.proofs.evaluate_with.Statement.{statement}
@@ -71,7 +71,7 @@ split-requires c κs =
       inverses,
       length-append front (drop sized.result a.slice.now)
           ∙ omega (arith, counted, fits, length-drop sized.result a.slice.now, start.requires.3),
-      zeros-behind a.used sized.result a.slice.now front sized.ensures counted start.requires.4,
+      zeros_behind a.used sized.result a.slice.now front sized.ensures counted start.requires.4,
     )
 
 same_length : tie.Need-same-length
@@ -82,11 +82,11 @@ returns c =
     let start = c.before.before.before.before.before.before.before.before.before.before.before.before.before in
     let a = start.args in
     let sized = c.before.before.before.before.before.before.before.before.power-of-two in
-    let z = normalisedAt a.elements.now a.inverses.now in
+    let z = normalised_at a.elements.now a.inverses.now in
     c.before.before.split.ensures
-    ∙ ap (λ (l : List ℕ). splitInHalves z a.basis.now (length a.basis.now) a.offset.0
+    ∙ ap (λ (l : List ℕ). split_in_halves z a.basis.now (length a.basis.now) a.offset.0
     (l ++ drop sized.result a.slice.now)) c.before.before.before.before.before.before.convert.ensures
-    ∙ evaluated-with a.offset.0 a.basis.now a.slice.now a.elements.now a.inverses.now a.used
+    ∙ evaluated_with a.offset.0 a.basis.now a.slice.now a.elements.now a.inverses.now a.used
     sized.result (search rules) (λ i. omega (
       arith,
       c.before.before.before.before.before.before.before.before.before.before.before.before.shared-slice-known.given i,

@@ -3,8 +3,8 @@
 use mathlib.Core.Path.{ap, ◌∙◌}
 use native.Mathlib.Nat.{le_refl}
 use lib.ListN.{length}
-use Rattle.transform.specs.Transform.{convertedBack, ratioOf}
-use Rattle.transform.proofs.InPlace.{elements-counted, inverses-counted, interpolated-with}
+use Rattle.transform.specs.Transform.{converted_back, ratio_of}
+use Rattle.transform.proofs.InPlace.{elements_counted, inverses_counted, interpolated_with}
 use borrow.Author.Rules.{rules}
 use native.Mathlib.Omega.{arith}
 use Rattle.coset_transform.proofs.interpolate_with.Statement.{statement}
@@ -14,8 +14,8 @@ join-requires : tie.Need-join-requires
 join-requires c κs =
     let start = c.before.before.before.before.before in
     let a = start.args in
-    let elements = elements-counted a.basis.now a.elements.now start.requires.3 in
-    let inverses = inverses-counted a.basis.now a.elements.now a.inverses.now start.requires.3
+    let elements = elements_counted a.basis.now a.elements.now start.requires.3 in
+    let inverses = inverses_counted a.basis.now a.elements.now a.inverses.now start.requires.3
     start.requires.4 in
     (le_refl (length a.basis.now), elements, inverses, start.requires.2)
 
@@ -23,8 +23,8 @@ convert-back-requires : tie.Need-convert-back-requires
 convert-back-requires c κs =
     let start = c.before.before.before.before.before.before.before.before.before in
     let a = start.args in
-    let elements = elements-counted a.basis.now a.elements.now start.requires.3 in
-    let inverses = inverses-counted a.basis.now a.elements.now a.inverses.now start.requires.3
+    let elements = elements_counted a.basis.now a.elements.now start.requires.3 in
+    let inverses = inverses_counted a.basis.now a.elements.now a.inverses.now start.requires.3
     start.requires.4 in (
       omega (arith, elements),
       omega (arith, inverses),
@@ -40,9 +40,9 @@ returns c =
     let start = c.before.before.before.before.before.before.before.before.before.before.before.before in
     let a = start.args in
     c.before.before.convert-back.ensures
-    ∙ ap (convertedBack (ratioOf a.inverses.now a.elements.now) 0 (length a.basis.now))
+    ∙ ap (converted_back (ratio_of a.inverses.now a.elements.now) 0 (length a.basis.now))
     c.before.before.before.before.before.before.join.ensures
-    ∙ interpolated-with a.offset.0 a.basis.now a.slice.now a.elements.now a.inverses.now
+    ∙ interpolated_with a.offset.0 a.basis.now a.slice.now a.elements.now a.inverses.now
     (search rules)
     (λ i. omega (
       arith,

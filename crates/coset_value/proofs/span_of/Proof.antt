@@ -7,10 +7,10 @@ use lib.Pow.{pow_mono}
 use lib.ListN.{length, set, replicate}
 use Rattle.poly.specs.Carrier.{gf64}
 use Rattle.poly.specs.Polynomial.{padded}
-use Rattle.poly.proofs.Filling.{filled, filled-start, padded-next, filled-padded}
+use Rattle.poly.proofs.Filling.{filled, filled_start, padded_next, filled_padded}
 use Rattle.coset.specs.Coset.{points}
-use Rattle.coset.proofs.Points.{length-points, getD-points}
-use Rattle.coset.proofs.Sizes.{size-shifted}
+use Rattle.coset.proofs.Points.{length-points, get_or-points}
+use Rattle.coset.proofs.Sizes.{size_shifted}
 use borrow.Author.Rules.{rules}
 use native.Mathlib.Omega.{arith}
 use Rattle.coset_value.proofs.span_of.Statement.{statement}
@@ -31,11 +31,11 @@ loop-holds : tie.Need-loop-init invariant-loop decreases-loop
 loop-holds c =
     let start = c.before in
     let basis = start.args.basis.now in
-    let shifted = size-shifted (length basis) (omega (arith, start.requires)) in (
+    let shifted = size_shifted (length basis) (omega (arith, start.requires)) in (
       search rules,
       omega (arith, shifted, pow_mono {i = length basis} {j = 3} start.requires),
       shifted,
-      filled-start (padded gf64 8 (points 0 basis)) (replicate 8 0),
+      filled_start (padded gf64 8 (points 0 basis)) (replicate 8 0),
     )
 
 point-requires : tie.Need-point-requires invariant-loop decreases-loop
@@ -64,9 +64,9 @@ loop-again c =
       l.invariant.1,
       l.invariant.2,
       ap (λ (held : List ℕ). set held l.i value) l.invariant.3
-          ∙ padded-next 8 (points 0 basis) l.i value (omega (arith, count, l.invariant.2))
+          ∙ padded_next 8 (points 0 basis) l.i value (omega (arith, count, l.invariant.2))
           (omega (arith, count, pow_mono {i = length basis} {j = 3} start.requires))
-          (c.point.ensures ∙ sym (getD-points 0 basis l.i (omega (arith, l.invariant.2)))),
+          (c.point.ensures ∙ sym (get_or-points 0 basis l.i (omega (arith, l.invariant.2)))),
     )
 
 returns : tie.Need-returns invariant-loop decreases-loop
@@ -76,7 +76,7 @@ returns c =
     let l = c.before.loop in
     let count = length-points 0 basis in
     l.invariant.3
-    ∙ filled-padded 8 (points 0 basis) l.i (omega (arith, count, l.invariant.2))
+    ∙ filled_padded 8 (points 0 basis) l.i (omega (arith, count, l.invariant.2))
     (omega (arith, count, pow_mono {i = length basis} {j = 3} start.requires))
 
 pub span-of-spec : {M : Type 1} → statement M

@@ -1,5 +1,5 @@
 -- `end_to_end::prove_and_judge` meets its contract. Assumes nothing.
-use Rattle.end_to_end.proofs.Theorems.{proved-is-accepted}
+use Rattle.end_to_end.proofs.Theorems.{proved_is_accepted}
 use Rattle.layout.specs.Parameters.{run_of}
 use borrow.Author.Rules.{rules}
 use Rattle.end_to_end.proofs.prove_and_judge.Statement.{statement}
@@ -33,7 +33,7 @@ returns c =
       verdict = c.judge.ensures;
       accepts =
           λ h.
-          proved-is-accepted run a.queries.now f.result store last c.judge.result h f.ensures
+          proved_is_accepted run a.queries.now f.result store last c.judge.result h f.ensures
           c.judge.ensures;
     }
 

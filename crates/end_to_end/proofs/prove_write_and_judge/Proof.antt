@@ -1,5 +1,5 @@
 -- `end_to_end::prove_write_and_judge` meets its contract. Assumes nothing.
-use Rattle.end_to_end.proofs.Theorems.{written-is-accepted}
+use Rattle.end_to_end.proofs.Theorems.{written_is_accepted}
 use Rattle.layout.specs.Parameters.{run_of}
 use borrow.Author.Rules.{rules}
 use Rattle.end_to_end.proofs.prove_write_and_judge.Statement.{statement}
@@ -38,7 +38,7 @@ returns c =
       verdict = c.judge.ensures;
       accepts =
           λ h size.
-          written-is-accepted run a.queries.now a.bytes.now _ _ _ _ _ _ h size proved.prove.ensures
+          written_is_accepted run a.queries.now a.bytes.now _ _ _ _ _ _ h size proved.prove.ensures
           written.write.ensures c.judge.ensures;
     }
 

@@ -2,16 +2,16 @@
 use mathlib.Core.Path.{◌≡◌, ◌∙◌}
 use mathlib.Core.List.{List}
 use Prim.Native.Nat.{ℕ, ◌+◌, ◌*◌, ◌^◌}
-use Rattle.transcript.specs.Numerals.{countAt, entryAt}
-use Rattle.transcript.proofs.Numerals.{entry-counts}
+use Rattle.transcript.specs.Numerals.{count_at, entry_at}
+use Rattle.transcript.proofs.Numerals.{entry_counts}
 use borrow.Author.Rules.{rules}
 use native.Mathlib.Omega.{arith}
 use Rattle.entries.proofs.entry_at.Statement.{statement}
 use Rattle.entries.proofs.entry_at.Tie as tie
 
-counts-are-entry : (bytes : List ℕ) (at low high : ℕ) → low ≡ countAt bytes at → high ≡ countAt bytes (at + 4)
-    → low + 2 ^ 32 * high ≡ entryAt bytes at
-counts-are-entry bytes at low high l h = omega (arith, entry-counts bytes at)
+counts-are-entry : (bytes : List ℕ) (at low high : ℕ) → low ≡ count_at bytes at → high ≡ count_at bytes (at + 4)
+    → low + 2 ^ 32 * high ≡ entry_at bytes at
+counts-are-entry bytes at low high l h = omega (arith, entry_counts bytes at)
 
 add-if1 : tie.Need-overflow-add-if1
 add-if1 c = search rules

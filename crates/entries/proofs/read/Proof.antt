@@ -5,8 +5,8 @@ use mathlib.Core.List.{List}
 use Prim.Native.Nat.{ℕ, ◌-◌, ◌≤◌}
 use lib.ListN.{length, set, length-set}
 use Rattle.transcript.specs.Numerals.{entries_at}
-use Rattle.transcript.proofs.Numerals.{length-entries, entry_of}
-use Rattle.poly.proofs.Filling.{filled, filled-start, filled_next, filled-all}
+use Rattle.transcript.proofs.Numerals.{length_entries, entry_of}
+use Rattle.poly.proofs.Filling.{filled, filled_start, filled_next, filled_all}
 use borrow.Author.Rules.{rules}
 use native.Mathlib.Omega.{arith}
 use Rattle.entries.proofs.read.Statement.{statement}
@@ -22,7 +22,7 @@ decreases-loop bytes at out₀ i₀ out i = length out₀ - i
 loop-holds : tie.Need-loop-init invariant-loop decreases-loop
 loop-holds c =
     let a = c.before.before.args in
-    (omega arith, refl, filled-start (entries_at a.bytes.now a.at (length a.out.now)) a.out.now)
+    (omega arith, refl, filled_start (entries_at a.bytes.now a.at (length a.out.now)) a.out.now)
 
 mul-entry-at : tie.Need-overflow-mul-entry-at invariant-loop decreases-loop
 mul-entry-at c = omega (arith, c.before.loop.invariant.1, c.before.before.before.before.requires)
@@ -55,7 +55,7 @@ loop-again c =
       length-set l.out l.i c.entry_at.result ∙ l.invariant.1,
       ap (λ (held : List ℕ). set held l.i c.entry_at.result) l.invariant.2
           ∙ filled_next (entries_at a.bytes.now a.at n) a.out.now l.i c.entry_at.result
-          (omega (arith, l.invariant.1)) (length-entries a.bytes.now a.at n) (c.entry_at.ensures ∙ sym entry),
+          (omega (arith, l.invariant.1)) (length_entries a.bytes.now a.at n) (c.entry_at.ensures ∙ sym entry),
     )
 
 same_length : tie.Need-same-length invariant-loop decreases-loop
@@ -67,8 +67,8 @@ returns c =
     let l = c.before.loop in
     let n = length a.out.now in
     l.invariant.2
-    ∙ filled-all (entries_at a.bytes.now a.at n) a.out.now l.i (omega (arith, l.invariant.1))
-    (length-entries a.bytes.now a.at n)
+    ∙ filled_all (entries_at a.bytes.now a.at n) a.out.now l.i (omega (arith, l.invariant.1))
+    (length_entries a.bytes.now a.at n)
 
 pub read_spec : {M : Type 1} → statement M
 read_spec =

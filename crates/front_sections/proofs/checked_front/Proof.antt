@@ -1,9 +1,9 @@
 -- `front_sections::checked_front` meets its contract. Assumes nothing.
 use mathlib.Core.Path.{◌≡◌, sym, ◌∙◌, subst}
-use Rattle.transcript.specs.Checks.{parametersSection, listsOutcome}
-use Rattle.transcript.proofs.Checks.{parameters-done}
+use Rattle.transcript.specs.Checks.{parameters_section, lists_outcome}
+use Rattle.transcript.proofs.Checks.{parameters_done}
 use Rattle.refusal.specs.declared.Outcome.TheVariants.{Done}
-use Rattle.refusal.proofs.Checks.{then-passed, then-refused}
+use Rattle.refusal.proofs.Checks.{then_passed, then_refused}
 use Rattle.layout.specs.Parameters.{Valid}
 use borrow.Author.Rules.{rules}
 use Rattle.front_sections.proofs.checked_front.Statement.{statement}
@@ -11,7 +11,7 @@ use Rattle.front_sections.proofs.checked_front.Tie as tie
 
 -- section 1 has passed
 abbrev Passed : tie.After-enum-told → Type 0
-Passed c = parametersSection c.before.before.before.before.args.bytes.now ≡ Done
+Passed c = parameters_section c.before.before.before.before.args.bytes.now ≡ Done
 
 passed : (c : tie.After-enum-told) → Passed c
 passed c =
@@ -25,13 +25,13 @@ enum_told : tie.Need-enum-told
 enum_told c = search rules
 
 parameters-requires : tie.Need-parameters-requires
-parameters-requires c κs = (parameters-done c.before.before.before.before.args.bytes.now (passed c)).0
+parameters-requires c κs = (parameters_done c.before.before.before.before.args.bytes.now (passed c)).0
 
 checked-lists-requires : tie.Need-checked-lists-requires
 checked-lists-requires c κs =
     let start = c.before.before.before.before.before in
     let read = c.parameters.ensures in
-    let valid = (parameters-done start.args.bytes.now (passed c.before)).1 in
+    let valid = (parameters_done start.args.bytes.now (passed c.before)).1 in
     (start.requires, record { read = read; valid = subst Valid (sym read) valid })
 
 enum-known-first : tie.Need-enum-known-first
@@ -41,14 +41,14 @@ returns : tie.Need-returns
 returns c =
     let told = c.before.before in
     let bytes = told.before.before.before.before.args.bytes.now in
-    c.checked-lists.ensures ∙ then-passed (parametersSection bytes) (listsOutcome bytes) (passed told)
+    c.checked-lists.ensures ∙ then_passed (parameters_section bytes) (lists_outcome bytes) (passed told)
 
 returns-2 : tie.Need-returns-2
 returns-2 c =
     let refused = c.before in
     let checked = refused.before.before in
     let bytes = checked.before.before.args.bytes.now in
-    then-refused (parametersSection bytes) (listsOutcome bytes) refused.first.given.0.0
+    then_refused (parameters_section bytes) (lists_outcome bytes) refused.first.given.0.0
     (sym checked.checked-parameters.ensures ∙ refused.first.given.1)
 
 pub checked-front-spec : {M : Type 1} → statement M

@@ -1,6 +1,6 @@
 -- `front_sections::checked_indices` meets its contract. Assumes nothing.
 use mathlib.Core.Path.{ap, ◌∙◌}
-use Rattle.fri.specs.Checks.{indicesOutcome}
+use Rattle.fri.specs.Checks.{indices_outcome}
 use borrow.Author.Rules.{rules}
 use native.Mathlib.Omega.{arith}
 use Rattle.front_sections.proofs.checked_indices.Statement.{statement}
@@ -12,7 +12,7 @@ read-requires c κs = let start = c.before.before.before in omega (arith, start.
 checked-indices-requires : tie.Need-checked-indices-requires
 checked-indices-requires c κs =
     let start = c.before.before.before.before.before.before.before in
-    (start.requires.0.k-most, omega (arith, start.requires.0.step-most))
+    (start.requires.0.k_most, omega (arith, start.requires.0.step_most))
 
 same_length : tie.Need-same-length
 same_length c = search rules
@@ -21,7 +21,7 @@ returns : tie.Need-returns
 returns c =
     let read = c.before.before.before.before in
     let p = read.before.before.before.before.args.parameters in
-    c.checked-indices.ensures ∙ ap (indicesOutcome p.k p.step) read.read.ensures
+    c.checked-indices.ensures ∙ ap (indices_outcome p.k p.step) read.read.ensures
 
 pub checked-indices-spec : {M : Type 1} → statement M
 checked-indices-spec = tie.close (tie.spec read-requires checked-indices-requires same_length returns)

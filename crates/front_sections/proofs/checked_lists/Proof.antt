@@ -1,11 +1,11 @@
 -- `front_sections::checked_lists` meets its contract. Assumes nothing.
 use mathlib.Core.Path.{◌≡◌, sym, ap, ◌∙◌}
 use lib.ListN.{length}
-use Rattle.transcript.specs.Checks.{dueOutcome, cosetSection, challengesSection, queriesSection}
+use Rattle.transcript.specs.Checks.{due_outcome, coset_section, challenges_section, queries_section}
 use Rattle.refusal.specs.declared.Outcome.TheVariants.{Done}
 use Rattle.refusal.specs.Checks.{and_then}
-use Rattle.refusal.proofs.Checks.{then-passed, then-refused}
-use Rattle.layout.specs.Parameters.{stepsBy}
+use Rattle.refusal.proofs.Checks.{then_passed, then_refused}
+use Rattle.layout.specs.Parameters.{steps_by}
 use Rattle.layout.specs.declared.Parameters.{Parameters}
 use Rattle.sections.specs.declared.Sections.{Sections}
 use borrow.Author.Rules.{rules}
@@ -15,7 +15,7 @@ use Rattle.front_sections.proofs.checked_lists.Tie as tie
 
 -- section 2 has passed
 abbrev CosetPassed : tie.After-enum-told → Type 0
-CosetPassed c = cosetSection c.before.before.before.before.args.bytes.now ≡ Done
+CosetPassed c = coset_section c.before.before.before.before.args.bytes.now ≡ Done
 
 coset-passed : (c : tie.After-enum-told) → CosetPassed c
 coset-passed c =
@@ -26,13 +26,13 @@ coset-passed c =
 abbrev Challenges : tie.After-checked-due → Type 0
 Challenges c =
     let start = c.before.before.before.before.before.before in
-    c.checked-due.result ≡ challengesSection start.args.bytes.now
+    c.checked-due.result ≡ challenges_section start.args.bytes.now
 
 challenges-said : (c : tie.After-checked-due) → Challenges c
 challenges-said c =
     let start = c.before.before.before.before.before.before in
-    let rounds = ap (λ (p : Parameters). length (stepsBy p)) start.requires.1.read in
-    c.checked-due.ensures ∙ ap (dueOutcome start.args.bytes.now 3) (c.before.rounds.ensures ∙ rounds)
+    let rounds = ap (λ (p : Parameters). length (steps_by p)) start.requires.1.read in
+    c.checked-due.ensures ∙ ap (due_outcome start.args.bytes.now 3) (c.before.rounds.ensures ∙ rounds)
 
 checked-coset-requires : tie.Need-checked-coset-requires
 checked-coset-requires c κs = (ap (λ (s : Sections). s.coset) c.before.requires.0, c.before.requires.1)
@@ -69,8 +69,8 @@ returns c =
     let bytes = told.before.before.before.before.args.bytes.now in
     let done : due.checked-due.result ≡ Done = search rules in
     c.checked-queries.ensures
-    ∙ then-passed (challengesSection bytes) (queriesSection bytes) (sym (challenges-said due) ∙ done)
-    ∙ then-passed (cosetSection bytes) (and_then (challengesSection bytes) (queriesSection bytes)) (coset-passed told)
+    ∙ then_passed (challenges_section bytes) (queries_section bytes) (sym (challenges-said due) ∙ done)
+    ∙ then_passed (coset_section bytes) (and_then (challenges_section bytes) (queries_section bytes)) (coset-passed told)
 
 returns-2 : tie.Need-returns-2
 returns-2 c =
@@ -78,16 +78,16 @@ returns-2 c =
     let due = refused.before.before in
     let told = due.before.before in
     let bytes = told.before.before.before.before.args.bytes.now in
-    then-refused (challengesSection bytes) (queriesSection bytes) refused.challenges.given.0.0
+    then_refused (challenges_section bytes) (queries_section bytes) refused.challenges.given.0.0
     (sym (challenges-said due) ∙ refused.challenges.given.1)
-    ∙ then-passed (cosetSection bytes) (and_then (challengesSection bytes) (queriesSection bytes)) (coset-passed told)
+    ∙ then_passed (coset_section bytes) (and_then (challenges_section bytes) (queries_section bytes)) (coset-passed told)
 
 returns-3 : tie.Need-returns-3
 returns-3 c =
     let refused = c.before in
     let coset = refused.before.before in
     let bytes = coset.before.before.args.bytes.now in
-    then-refused (cosetSection bytes) (and_then (challengesSection bytes) (queriesSection bytes))
+    then_refused (coset_section bytes) (and_then (challenges_section bytes) (queries_section bytes))
     refused.coset.given.0.0 (sym coset.checked-coset.ensures ∙ refused.coset.given.1)
 
 pub checked-lists-spec : {M : Type 1} → statement M

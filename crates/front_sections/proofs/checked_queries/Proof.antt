@@ -6,21 +6,21 @@ use Prim.Native.Nat.{ℕ, ◌+◌, ◌≤◌, ◌^◌}
 use lib.Seq.{length-take-le}
 use lib.ListN.{replicate}
 use lib.Dec.{leb}
-use Rattle.transcript.specs.Sections.{sectionCount, transcriptK, transcriptSteps, queriesIn}
-use Rattle.transcript.specs.Numerals.{countAt, entries_at}
-use Rattle.transcript.specs.Checks.{sectionOutcome}
-use Rattle.transcript.proofs.Checks.{section-done}
-use Rattle.transcript.proofs.Numerals.{are-bytes}
+use Rattle.transcript.specs.Sections.{section_count, transcript_k, transcript_steps, queries_in}
+use Rattle.transcript.specs.Numerals.{count_at, entries_at}
+use Rattle.transcript.specs.Checks.{section_outcome}
+use Rattle.transcript.proofs.Checks.{section_done}
+use Rattle.transcript.proofs.Numerals.{are_bytes}
 use Rattle.refusal.specs.declared.Outcome.{Outcome}
 use Rattle.refusal.specs.declared.Outcome.TheVariants.{Done}
 use Rattle.refusal.specs.declared.Cause.TheVariants.{QueryCountOutOfRange}
-use Rattle.refusal.proofs.Checks.{then-passed, then-refused, within_of}
-use Rattle.fri.specs.Layout.{stepAt}
-use Rattle.fri.specs.Checks.{indicesOutcome}
+use Rattle.refusal.proofs.Checks.{then_passed, then_refused, within_of}
+use Rattle.fri.specs.Layout.{step_at}
+use Rattle.fri.specs.Checks.{indices_outcome}
 use Rattle.fri.proofs.Layouts.{first_step}
-use Rattle.layout.specs.Parameters.{stepsBy}
+use Rattle.layout.specs.Parameters.{steps_by}
 use Rattle.layout.specs.declared.Parameters.{Parameters}
-use Rattle.sections.proofs.Places.{start-near}
+use Rattle.sections.proofs.Places.{start_near}
 use borrow.Author.Rules.{rules}
 use native.Mathlib.Omega.{arith}
 use Rattle.front_sections.proofs.checked_queries.Statement.{statement}
@@ -29,10 +29,10 @@ use Rattle.front_sections.proofs.checked_queries.Tie as tie
 -- what is due of section 4, and what is said of the indices in it
 abbrev counted : (bytes : List ℕ) → Outcome
 counted bytes =
-    sectionOutcome bytes 4 (leb 1 (sectionCount bytes 4) && leb (sectionCount bytes 4) 256) QueryCountOutOfRange
+    section_outcome bytes 4 (leb 1 (section_count bytes 4) && leb (section_count bytes 4) 256) QueryCountOutOfRange
 
 abbrev indices : (bytes : List ℕ) → Outcome
-indices bytes = indicesOutcome (transcriptK bytes) (stepAt (transcriptSteps bytes) 0) (queriesIn bytes)
+indices bytes = indices_outcome (transcript_k bytes) (step_at (transcript_steps bytes) 0) (queries_in bytes)
 
 -- the section begins before 2^40
 abbrev Near : tie.After-shared-slice-known → Type 0
@@ -41,17 +41,17 @@ Near c = c.before.args.at + 12 ≤ 2 ^ 40
 near : (c : tie.After-shared-slice-known) → Near c
 near c =
     let a = c.before.args in
-    let known = are-bytes a.bytes.now (λ i. omega (arith, c.shared-slice-known.given i)) in
-    start-near a.bytes.now known 4 a.at (omega arith) c.before.requires.0
+    let known = are_bytes a.bytes.now (λ i. omega (arith, c.shared-slice-known.given i)) in
+    start_near a.bytes.now known 4 a.at (omega arith) c.before.requires.0
 
 -- the count that is read is the section's
 abbrev Counts : tie.After-count-at → Type 0
-Counts c = c.count_at.result ≡ sectionCount c.before.before.args.bytes.now 4
+Counts c = c.count_at.result ≡ section_count c.before.before.args.bytes.now 4
 
 counts : (c : tie.After-count-at) → Counts c
 counts c =
     let start = c.before.before in
-    c.count_at.ensures.0 ∙ ap (countAt start.args.bytes.now) start.requires.0
+    c.count_at.ensures.0 ∙ ap (count_at start.args.bytes.now) start.requires.0
 
 -- what is said of the count and the bytes
 abbrev Tested : tie.After-checked-section → Type 0
@@ -61,7 +61,7 @@ tested : (c : tie.After-checked-section) → Tested c
 tested c =
     let bytes = c.before.before.before.before.args.bytes.now in
     let test = c.before.is-query-count.ensures ∙ ap (λ (n : ℕ). leb 1 n && leb n 256) (counts c.before.before) in
-    c.checked-section.ensures ∙ ap (λ (t : Bool). sectionOutcome bytes 4 t QueryCountOutOfRange) test
+    c.checked-section.ensures ∙ ap (λ (t : Bool). section_outcome bytes 4 t QueryCountOutOfRange) test
 
 -- they have passed
 abbrev Passed : tie.After-enum-told → Type 0
@@ -80,8 +80,8 @@ few : (c : tie.After-enum-told) → Few c
 few c =
     let count = c.before.before.before.before in
     let bytes = count.before.before.args.bytes.now in
-    let n = sectionCount bytes 4 in
-    let test = (section-done bytes 4 (leb 1 n && leb n 256) QueryCountOutOfRange (passed c)).0 in
+    let n = section_count bytes 4 in
+    let test = (section_done bytes 4 (leb 1 n && leb n 256) QueryCountOutOfRange (passed c)).0 in
     omega (arith, counts count, (within_of 1 256 n test).1)
 
 count-at-requires : tie.Need-count-at-requires
@@ -127,19 +127,19 @@ returns c =
     let bytes = start.args.bytes.now in
     let p = start.args.parameters in
     let valid = start.requires.1.valid in
-    let step = first_step p.k p.rate p.step valid.step-least valid.k-enough in
+    let step = first_step p.k p.rate p.step valid.step_least valid.k_enough in
     let at = ap (λ (n : ℕ). n + 4) start.requires.0 in
     let size = length-take-le {A = ℕ} count.count_at.result (replicate 256 0) (few told) ∙ counts count in
     c.before.checked-indices.ensures
-    ∙ ap₂ (indicesOutcome p.k) (sym step) (ap₂ (entries_at bytes) at size)
-    ∙ ap (λ (q : Parameters). indicesOutcome q.k (stepAt (stepsBy q) 0) (queriesIn bytes)) start.requires.1.read
-    ∙ then-passed (counted bytes) (indices bytes) (passed told)
+    ∙ ap₂ (indices_outcome p.k) (sym step) (ap₂ (entries_at bytes) at size)
+    ∙ ap (λ (q : Parameters). indices_outcome q.k (step_at (steps_by q) 0) (queries_in bytes)) start.requires.1.read
+    ∙ then_passed (counted bytes) (indices bytes) (passed told)
 
 returns-2 : tie.Need-returns-2
 returns-2 c =
     let whole = c.before in
     let bytes = whole.before.before.before.before.before.before.args.bytes.now in
-    then-refused (counted bytes) (indices bytes) whole.whole.given.0.0
+    then_refused (counted bytes) (indices bytes) whole.whole.given.0.0
     (sym (tested whole.before.before) ∙ whole.whole.given.1)
 
 pub checked-queries-spec : {M : Type 1} → statement M

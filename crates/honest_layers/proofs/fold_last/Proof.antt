@@ -3,13 +3,13 @@ use mathlib.Core.Path.{◌≡◌, sym, ap, ◌∙◌}
 use mathlib.Core.List.{List}
 use Prim.Native.Nat.{ℕ, suc, ◌-◌, ◌^◌, ◌≤◌}
 use lib.ListN.{length}
-use Rattle.fri.specs.Layout.{dimension, layerStart}
-use Rattle.layout.specs.Parameters.{stepsBy}
-use Rattle.layout.proofs.Sizes.{one-round}
-use Rattle.honest_layers.specs.Input.{layerFrom}
-use Rattle.honest_layers.specs.Folds.{foldOver, Foldable}
-use Rattle.honest_layers.proofs.Folds.{layer-foldable, next-size}
-use Rattle.honest_layers.proofs.Stored.{LastPart, last-part, dimension-first, layer-first}
+use Rattle.fri.specs.Layout.{dimension, layer_start}
+use Rattle.layout.specs.Parameters.{steps_by}
+use Rattle.layout.proofs.Sizes.{one_round}
+use Rattle.honest_layers.specs.Input.{layer_from}
+use Rattle.honest_layers.specs.Folds.{fold_over, Foldable}
+use Rattle.honest_layers.proofs.Folds.{layer_foldable, next_size}
+use Rattle.honest_layers.proofs.Stored.{LastPart, last_part, dimension_first, layer_first}
 use borrow.Author.Rules.{rules}
 use native.Mathlib.Omega.{arith}
 use Rattle.honest_layers.proofs.fold_last.Statement.{statement}
@@ -17,10 +17,10 @@ use Rattle.honest_layers.proofs.fold_last.Tie as tie
 
 -- r - 1 and one more are r
 abbrev RoundsWhole : tie.Start → Type 0
-RoundsWhole c = let r = length (stepsBy c.args.parameters) in suc (r - 1) ≡ r
+RoundsWhole c = let r = length (steps_by c.args.parameters) in suc (r - 1) ≡ r
 
 rounds-whole : (c : tie.Start) → RoundsWhole c
-rounds-whole c = omega (arith, one-round c.args.parameters c.requires.layer.parameters)
+rounds-whole c = omega (arith, one_round c.args.parameters c.requires.layer.parameters)
 
 -- layer r - 1 can be folded into the list for layer r
 abbrev FoldableAt : tie.Start → Type 0
@@ -29,7 +29,7 @@ FoldableAt c = Foldable c.args.parameters.step c.args.coset
 foldable : (c : tie.Start) → FoldableAt c
 foldable c =
     let a = c.args in
-    layer-foldable a.parameters a.coset (length (stepsBy a.parameters) - 1) a.word.now a.store.now
+    layer_foldable a.parameters a.coset (length (steps_by a.parameters) - 1) a.word.now a.store.now
     c.requires.layer (omega (arith, rounds-whole c))
 
 abbrev NextFits : tie.Start → Type 0
@@ -39,8 +39,8 @@ next_fits : (c : tie.Start) → NextFits c
 next_fits c =
     let a = c.args in
     let p = a.parameters in
-    c.requires.next_fits ∙ ap (λ (r : ℕ). 2 ^ dimension p.k (stepsBy p) r) (sym (rounds-whole c))
-    ∙ next-size p a.coset (length (stepsBy p) - 1) a.word.now a.store.now c.requires.layer
+    c.requires.next_fits ∙ ap (λ (r : ℕ). 2 ^ dimension p.k (steps_by p) r) (sym (rounds-whole c))
+    ∙ next_size p a.coset (length (steps_by p) - 1) a.word.now a.store.now c.requires.layer
     (omega (arith, rounds-whole c))
 
 -- layer r - 1 is the last part of the store
@@ -48,7 +48,7 @@ abbrev LastAt : tie.After-layer-start → Type 0
 LastAt c =
     let a = c.before.before.before.before.before.before.args in
     let p = a.parameters in
-    LastPart p a.word.now a.store.now (length (stepsBy p) - 1) c.layer-start.result
+    LastPart p a.word.now a.store.now (length (steps_by p) - 1) c.layer-start.result
 
 last-at : (c : tie.After-layer-start) → LastAt c
 last-at c =
@@ -56,16 +56,16 @@ last-at c =
     let start = rounds.before.before.before.before in
     let a = start.args in
     let p = a.parameters in
-    let some : 1 ≤ length (stepsBy p) - 1 = omega (arith, rounds.rounds.ensures, c.before.if1.false) in
+    let some : 1 ≤ length (steps_by p) - 1 = omega (arith, rounds.rounds.ensures, c.before.if1.false) in
     let begins =
-    c.layer-start.ensures ∙ ap (λ (n : ℕ). layerStart p.k (stepsBy p) (n - 1)) rounds.rounds.ensures
+    c.layer-start.ensures ∙ ap (λ (n : ℕ). layer_start p.k (steps_by p) (n - 1)) rounds.rounds.ensures
     in
-    last-part p a.word.now a.store.now (length (stepsBy p) - 1) c.layer-start.result some
-    (rounds-whole start) begins start.requires.layer.store-fits
+    last_part p a.word.now a.store.now (length (steps_by p) - 1) c.layer-start.result some
+    (rounds-whole start) begins start.requires.layer.store_fits
 
 -- layer r - 1 is the word
 abbrev OneRound : tie.Then1 → Type 0
-OneRound c = length (stepsBy c.before.before.before.before.before.args.parameters) - 1 ≡ 0
+OneRound c = length (steps_by c.before.before.before.before.before.args.parameters) - 1 ≡ 0
 
 one-round-only : (c : tie.Then1) → OneRound c
 one-round-only c = omega (arith, c.before.rounds.ensures, c.if1.true)
@@ -76,14 +76,14 @@ rounds-requires c κs = search rules
 sub-before : tie.Need-overflow-sub-before
 sub-before c =
     let start = c.before.before.before.before in
-    omega (arith, c.rounds.ensures, one-round start.args.parameters start.requires.layer.parameters)
+    omega (arith, c.rounds.ensures, one_round start.args.parameters start.requires.layer.parameters)
 
 fold-layer-requires : tie.Need-fold-layer-requires
 fold-layer-requires c κs =
     let start = c.before.before.before.before.before.before in
     let p = start.args.parameters in
     let first : start.args.coset.dimension ≡ p.k =
-    start.requires.layer.dimension-is ∙ ap (dimension p.k (stepsBy p)) (one-round-only c.before) ∙ dimension-first p
+    start.requires.layer.dimension_is ∙ ap (dimension p.k (steps_by p)) (one-round-only c.before) ∙ dimension_first p
     in
     record {
       foldable = foldable start;
@@ -99,10 +99,10 @@ returns c =
     let then1 = c.before.before.before.before in
     let a = then1.before.before.before.before.before.args in
     let p = a.parameters in
-    let word = layer-first p a.word.now a.store.now in
+    let word = layer_first p a.word.now a.store.now in
     c.before.before.fold-layer.ensures
-    ∙ ap (λ (layer : List ℕ). foldOver p.step a.coset layer a.challenge.0)
-    (word ∙ ap (layerFrom p a.word.now a.store.now) (sym (one-round-only then1)))
+    ∙ ap (λ (layer : List ℕ). fold_over p.step a.coset layer a.challenge.0)
+    (word ∙ ap (layer_from p a.word.now a.store.now) (sym (one-round-only then1)))
 
 layer-start-requires : tie.Need-layer-start-requires
 layer-start-requires c κs =
@@ -131,7 +131,7 @@ fold-layer-requires-2 c κs =
     let start = part.before.before.before.before.before.before in
     record {
       foldable = foldable start;
-      layer_fits = (last-at part).count ∙ ap (λ (n : ℕ). 2 ^ n) (sym start.requires.layer.dimension-is);
+      layer_fits = (last-at part).count ∙ ap (λ (n : ℕ). 2 ^ n) (sym start.requires.layer.dimension_is);
       next_fits = next_fits start;
     }
 
@@ -143,7 +143,7 @@ returns-2 c =
     let part = c.before.before.before.before.before in
     let a = part.before.before.before.before.before.before.args in
     c.before.before.fold-layer2.ensures
-    ∙ ap (λ (layer : List ℕ). foldOver a.parameters.step a.coset layer a.challenge.0) (last-at part).is
+    ∙ ap (λ (layer : List ℕ). fold_over a.parameters.step a.coset layer a.challenge.0) (last-at part).is
 
 pub fold-last-spec : {M : Type 1} → statement M
 fold-last-spec =

@@ -3,10 +3,10 @@ use mathlib.Core.Path.{◌≡◌, sym, ap, ap₂, ◌∙◌}
 use Prim.Native.Nat.{ℕ, ◌-◌, ◌^◌, ◌≤◌}
 use lib.ListN.{length, take}
 use lib.Seq.{length-take-le}
-use Rattle.coset.proofs.Subspace.{elements-taken}
-use Rattle.coset.specs.Steps.{stepElements}
-use Rattle.layer_cosets.specs.Cosets.{basisOf}
-use Rattle.honest_layers.specs.Folds.{foldOver}
+use Rattle.coset.proofs.Subspace.{elements_taken}
+use Rattle.coset.specs.Steps.{step_elements}
+use Rattle.layer_cosets.specs.Cosets.{basis_of}
+use Rattle.honest_layers.specs.Folds.{fold_over}
 use borrow.Author.Rules.{rules}
 use native.Mathlib.Omega.{arith}
 use Rattle.honest_layers.proofs.fold_layer.Statement.{statement}
@@ -19,10 +19,10 @@ Fits c = c.args.coset.dimension ≤ length c.args.coset.basis
 fits : (c : tie.Start) → Fits c
 fits c =
     let twenty : length c.args.coset.basis ≡ 20 = search rules in
-    omega (arith, twenty, c.requires.foldable.dimension-most)
+    omega (arith, twenty, c.requires.foldable.dimension_most)
 
 abbrev Whole : tie.Start → Type 0
-Whole c = length (basisOf c.args.coset) ≡ c.args.coset.dimension
+Whole c = length (basis_of c.args.coset) ≡ c.args.coset.dimension
 
 whole : (c : tie.Start) → Whole c
 whole c = length-take-le c.args.coset.dimension c.args.coset.basis (fits c)
@@ -40,26 +40,26 @@ counted c =
     let start = start_of c in
     let three : length c.step-elements.result ≡ 3 = search rules in
     length-take-le start.args.step c.step-elements.result
-    (omega (arith, three, start.pre.foldable.step-most))
+    (omega (arith, three, start.pre.foldable.step_most))
 
 abbrev Taken : tie.After-step-elements → Type 0
 Taken c =
     let a = (start_of c).args in
     let elements = take a.step c.step-elements.result in
-    elements ≡ stepElements (length elements) (basisOf a.coset)
+    elements ≡ step_elements (length elements) (basis_of a.coset)
 
 taken : (c : tie.After-step-elements) → Taken c
 taken c =
     let start = start_of c in
-    let basis = basisOf start.args.coset in
+    let basis = basis_of start.args.coset in
     let fit : start.args.step ≤ length basis = omega (arith, whole start, start.pre.foldable.step_fits) in
-    elements-taken start.args.step basis c.step-elements.result fit c.step-elements.ensures
-    ∙ ap (λ (n : ℕ). stepElements n basis) (sym (counted c))
+    elements_taken start.args.step basis c.step-elements.result fit c.step-elements.ensures
+    ∙ ap (λ (n : ℕ). step_elements n basis) (sym (counted c))
 
 step-elements-requires : tie.Need-step-elements-requires
 step-elements-requires c κs =
     let f = c.before.before.requires.foldable in
-    (f.step-most, f.step_fits, f.dimension-most)
+    (f.step_most, f.step_fits, f.dimension_most)
 
 array-share-prefix-elements : tie.Need-array-share-prefix-elements
 array-share-prefix-elements c = search rules
@@ -83,15 +83,15 @@ fill-values-requires c κs =
     record {
       step =
           record {
-            some = omega (arith, count, f.step-least);
-            few = omega (arith, count, f.step-most);
+            some = omega (arith, count, f.step_least);
+            few = omega (arith, count, f.step_most);
             fits = omega (arith, count, all, f.step_fits);
-            basis-fits = omega (arith, all, f.dimension-most);
-            elements-are = taken elements;
+            basis_fits = omega (arith, all, f.dimension_most);
+            elements_are = taken elements;
             independent = f.independent;
           };
       word_fits = start.pre.layer_fits ∙ ap (λ (n : ℕ). 2 ^ n) (sym all);
-      values-fit = start.pre.next_fits ∙ ap₂ (λ (m n : ℕ). 2 ^ (m - n)) (sym all) (sym count);
+      values_fit = start.pre.next_fits ∙ ap₂ (λ (m n : ℕ). 2 ^ (m - n)) (sym all) (sym count);
     }
 
 same_length : tie.Need-same-length
@@ -102,7 +102,7 @@ returns c =
     let elements = c.before.before.before.before.before.before.before in
     let a = (start_of elements).args in
     c.before.before.fill-values.ensures
-    ∙ ap (λ (n : ℕ). foldOver n a.coset a.layer.now a.challenge.0) (counted elements)
+    ∙ ap (λ (n : ℕ). fold_over n a.coset a.layer.now a.challenge.0) (counted elements)
 
 pub fold-layer-spec : {M : Type 1} → statement M
 fold-layer-spec =

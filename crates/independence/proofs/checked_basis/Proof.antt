@@ -17,12 +17,12 @@ enum_told c = search rules
 
 returns : tie.Need-returns
 returns c = ap outcomeOfBasis
-    (sym c.before.dependent.given.1 ∙ c.before.before.before.first-dependent.ensures)
+    (sym c.before.dependent.given.1 ∙ c.before.before.before.first_dependent.ensures)
 
 returns-2 : tie.Need-returns-2
 returns-2 c =
-    let absent : c.before.before.first-dependent.result ≡ Absent = search rules in
-    ap outcomeOfBasis (sym absent ∙ c.before.before.first-dependent.ensures)
+    let absent : c.before.before.first_dependent.result ≡ Absent = search rules in
+    ap outcomeOfBasis (sym absent ∙ c.before.before.first_dependent.ensures)
 
 pub checked-basis-spec : {M : Type 1} → statement M
 checked-basis-spec =

@@ -7,7 +7,7 @@ use native.Mathlib.Nat.{le_refl}
 use lib.ListN.{length, length-map, length-set, get_or, set}
 use borrow.Author.Rules.{rules}
 use native.Mathlib.Omega.{arith}
-use Rattle.poly.proofs.Filling.{filled, filled-start, filled_next, filled-all, filled-rest, get_d_map}
+use Rattle.poly.proofs.Filling.{filled, filled_start, filled_next, filled_all, filled_rest, get_d_map}
 use Rattle.coset.specs.Elimination.{cleared}
 use Rattle.independence.proofs.clear.Statement.{statement}
 use Rattle.independence.proofs.clear.Tie as tie
@@ -22,7 +22,7 @@ decreases-loop rows₀ row i₀ rows i = length rows₀ - i
 loop-holds : tie.Need-loop-init invariant-loop decreases-loop
 loop-holds c = (
   search rules,
-  filled-start (map (cleared c.before.args.row) c.before.args.rows.now)
+  filled_start (map (cleared c.before.args.row) c.before.args.rows.now)
       c.before.args.rows.now,
   refl,
 )
@@ -59,7 +59,7 @@ loop-again c =
           ∙ filled_next (map (cleared row) rows) rows l.i c.cleared.result inside (length-map rows (cleared row))
           (c.cleared.ensures ∙ ap (cleared row)
           (ap (λ (held : List ℕ). get_or held l.i 0) l.invariant.1
-          ∙ filled-rest (map (cleared row) rows) rows l.i l.i (le_refl l.i) (length-map rows (cleared row)))
+          ∙ filled_rest (map (cleared row) rows) rows l.i l.i (le_refl l.i) (length-map rows (cleared row)))
           ∙ sym (get_d_map (cleared row) rows l.i inside)),
       length-set l.rows l.i c.cleared.result ∙ l.invariant.2,
     )
@@ -72,7 +72,7 @@ returns c =
     let rows = c.before.before.before.args.rows.now in
     let row = c.before.before.before.args.row in
     let l = c.before.loop in
-    l.invariant.1 ∙ filled-all (map (cleared row) rows) rows l.i (omega (arith, l.invariant.2))
+    l.invariant.1 ∙ filled_all (map (cleared row) rows) rows l.i (omega (arith, l.invariant.2))
     (length-map rows (cleared row))
 
 pub clear_spec : {M : Type 1} → statement M

@@ -9,7 +9,7 @@ use borrow.Author.Rules.{rules}
 use native.Mathlib.Omega.{arith}
 use Rattle.poly.specs.Carrier.{gf64}
 use Rattle.poly.specs.Polynomial.{padded}
-use Rattle.poly.proofs.Filling.{filled, filled-start, padded-next, filled-padded}
+use Rattle.poly.proofs.Filling.{filled, filled_start, padded_next, filled_padded}
 use Rattle.independence.proofs.first_64.Statement.{statement}
 use Rattle.independence.proofs.first_64.Tie as tie
 
@@ -27,7 +27,7 @@ loop-holds : tie.Need-loop-init invariant-loop decreases-loop
 loop-holds c = (
   search rules,
   c.lesser.ensures,
-  filled-start (padded gf64 64 (take 64 c.before.before.args.basis.now))
+  filled_start (padded gf64 64 (take 64 c.before.before.args.basis.now))
       (replicate 64 0),
 )
 
@@ -56,7 +56,7 @@ loop-again c =
       search rules,
       l.invariant.1,
       ap (λ (held : List ℕ). set held l.i (get_or basis l.i 0)) l.invariant.2
-          ∙ padded-next 64 (take 64 basis) l.i (get_or basis l.i 0)
+          ∙ padded_next 64 (take 64 basis) l.i (get_or basis l.i 0)
           (omega (arith, length-take 64 basis, l.invariant.1)) (omega (arith, length-take 64 basis))
           (sym (get_or-take 64 basis l.i 0 (omega arith))),
     )
@@ -66,7 +66,7 @@ returns c =
     let basis = c.before.before.before.before.args.basis.now in
     let l = c.before.loop in
     l.invariant.2
-    ∙ filled-padded 64 (take 64 basis) l.i (omega (arith, length-take 64 basis, l.invariant.1))
+    ∙ filled_padded 64 (take 64 basis) l.i (omega (arith, length-take 64 basis, l.invariant.1))
     (omega (arith, length-take 64 basis))
 
 pub first-64-spec : {M : Type 1} → statement M

@@ -11,8 +11,8 @@ use native.Mathlib.Omega.{arith}
 use Rattle.poly.specs.Carrier.{gf64}
 use Rattle.poly.specs.Polynomial.{padded}
 use Rattle.poly.proofs.Evaluation.{length-padded}
-use Rattle.poly.proofs.Filling.{padded-taken}
-use Rattle.coset.specs.Span.{firstDependent}
+use Rattle.poly.proofs.Filling.{padded_taken}
+use Rattle.coset.specs.Span.{first_dependent}
 use Rattle.coset.specs.Elimination.{cleared}
 use Rattle.independence.proofs.FirstPlace.{from, row_zero, row_next, rows_end}
 use Rattle.independence.proofs.first_among_64.Statement.{statement}
@@ -21,13 +21,13 @@ use Rattle.independence.proofs.first_among_64.Tie as tie
 -- the first `count` rows are the first 64 elements
 take-rows : (basis rows : List ℕ) (count : ℕ) → count ≡ min (length basis) 64 → rows ≡ padded gf64 64 (take 64 basis)
     → take count rows ≡ take 64 basis
-take-rows basis rows count many copied = padded-taken 64 count (take 64 basis) rows copied
+take-rows basis rows count many copied = padded_taken 64 count (take 64 basis) rows copied
     (omega (arith, length-take 64 basis))
 
 abbrev invariant-loop : tie.invariant-loop
 invariant-loop basis count rows₀ place₀ rows place =
     (place ≤ count) × (count ≡ min (length basis) 64) × (length rows ≡ 64)
-    × (from (take count rows) place ≡ firstDependent (take 64 basis))
+    × (from (take count rows) place ≡ first_dependent (take 64 basis))
 
 abbrev decreases-loop : tie.decreases-loop
 decreases-loop basis count rows₀ place₀ rows place = count - place
@@ -39,13 +39,13 @@ first-64-requires : tie.Need-first-64-requires invariant-loop decreases-loop
 first-64-requires c κs = search rules
 
 loop-holds : tie.Need-loop-init invariant-loop decreases-loop
-unfolding firstDependent
+unfolding first_dependent
 loop-holds c =
     let basis = c.before.before.before.args.basis.now in (
       search rules,
       c.before.lesser.ensures,
       ap length c.first-64.ensures ∙ length-padded gf64 64 (take 64 basis) (omega (arith, length-take 64 basis)),
-      ap firstDependent (take-rows basis c.first-64.result c.before.lesser.result
+      ap first_dependent (take-rows basis c.first-64.result c.before.lesser.result
           c.before.lesser.ensures c.first-64.ensures),
     )
 

@@ -15,13 +15,13 @@ use mir.Facts.{to_z-of_z}
 use borrow.Author.Tests.{lt-ltb, le-ltb, ltb-true}
 use borrow.Author.Rules.{rules}
 use Rattle.input.specs.declared.Reading.TheVariants.{More, Done, Failed}
-use Rattle.input.specs.Reading.{readAfter}
+use Rattle.input.specs.Reading.{read_after}
 use Rattle.input.proofs.after.Statement.{statement}
 use Rattle.input.proofs.after.Tie as tie
 
 -- ---- by cases on what a read answered
 
-failed : (count : ℕ) (got : ℤ) (size : ℕ) → lt_z got (pos 0) ≡ true → Failed ≡ readAfter count got size
+failed : (count : ℕ) (got : ℤ) (size : ℕ) → lt_z got (pos 0) ≡ true → Failed ≡ read_after count got size
 failed count (pos n) size e = absurd (let impossible : n < 0 = ltb-true n 0 e in omega arith)
 failed count (negsuc n) size e = refl
 
@@ -33,16 +33,16 @@ count_fits : (got : ℤ) → SFits w64 got → T (non_neg got) → Fits w64 (nat
 count_fits (pos n) f t = record { fits = lt_trans f.sfits (lit< tt) }
 count_fits (negsuc n) f t = absurd t
 
-ended : (count more size : ℕ) → more ≡ 0 → Done count ≡ readAfter count (pos more) size
+ended : (count more size : ℕ) → more ≡ 0 → Done count ≡ read_after count (pos more) size
 ended count zero size e = refl
 ended count (suc n) size e = absurd (omega arith)
 
 room-left : (count more size : ℕ) → more ≢ 0 → more < size - count
-    → More (count + more) ≡ readAfter count (pos more) size
+    → More (count + more) ≡ read_after count (pos more) size
 room-left count zero size h less = absurd (h refl)
 room-left count (suc n) size h less = simp (lt-ltb (count + suc n) size (omega arith))
 
-full : (count more size : ℕ) → more ≢ 0 → size - count ≤ more → Done size ≡ readAfter count (pos more) size
+full : (count more size : ℕ) → more ≢ 0 → size - count ≤ more → Done size ≡ read_after count (pos more) size
 full count zero size h most = absurd (h refl)
 full count (suc n) size h most = simp (le-ltb (count + suc n) size (omega arith))
 
@@ -62,9 +62,9 @@ counted : (c : tie.Else1) → pos (more c.before) ≡ c.before.args.got
 counted c = pos-nat_abs (to_z w64 (of_z w64 c.before.args.got)) (counts c) ∙ bits c.before
 
 answered : (c : tie.Else1)
-    → readAfter c.before.args.count (pos (more c.before)) c.before.args.size
-    ≡ readAfter c.before.args.count c.before.args.got c.before.args.size
-answered c = ap (λ (z : ℤ). readAfter c.before.args.count z c.before.args.size) (counted c)
+    → read_after c.before.args.count (pos (more c.before)) c.before.args.size
+    ≡ read_after c.before.args.count c.before.args.got c.before.args.size
+answered c = ap (λ (z : ℤ). read_after c.before.args.count z c.before.args.size) (counted c)
 
 returns : tie.Need-returns
 returns c =

@@ -20,7 +20,7 @@ use borrow.Author.Rules.{rules}
 use Rattle.libc.specs.Io.{Moved}
 use Rattle.input.specs.declared.Reading.{Reading}
 use Rattle.input.specs.declared.Reading.TheVariants.{More, Done, Failed}
-use Rattle.input.specs.Reading.{readAfter, Over}
+use Rattle.input.specs.Reading.{read_after, Over}
 use Rattle.input.specs.contracts.Reading.{the_type}
 use Rattle.input.proofs.read.Statement.{statement}
 use Rattle.input.proofs.read.Tie as tie
@@ -33,17 +33,17 @@ Turned count size (More next) = (count < next) × (next < size)
 Turned count size (Done total) = total ≤ size
 Turned count size Failed = Unit {0}
 
-by-room : (count n size : ℕ) (test : Bool) → ltb (count + suc n) size ≡ test
+by_room : (count n size : ℕ) (test : Bool) → ltb (count + suc n) size ≡ test
     → Turned count size (cond test (More (count + suc n)) (Done size))
-by-room count n size true e =
+by_room count n size true e =
     let less : count + suc n < size = ltb-true (count + suc n) size e in
     (omega arith, less)
-by-room count n size false e = omega arith
+by_room count n size false e = omega arith
 
-turned : (count : ℕ) (got : ℤ) (size : ℕ) → count ≤ size → Turned count size (readAfter count got size)
+turned : (count : ℕ) (got : ℤ) (size : ℕ) → count ≤ size → Turned count size (read_after count got size)
 turned count (negsuc n) size h = tt
 turned count (pos zero) size h = h
-turned count (pos (suc n)) size h = by-room count n size (ltb (count + suc n) size) refl
+turned count (pos (suc n)) size h = by_room count n size (ltb (count + suc n) size) refl
 
 -- the part from there on has the rest of the bytes
 part_room : (from : ℕ) (input : List ℕ) → length (mid_of from (length input - from) input) ≡ length input - from

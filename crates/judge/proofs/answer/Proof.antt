@@ -6,10 +6,10 @@ use Prim.Native.Nat.{ℕ, ◌≤◌}
 use native.Mathlib.Omega.{arith}
 use lib.ListN.{length, take, length-take}
 use borrow.Author.Rules.{rules}
-use Rattle.transcript.proofs.LongInputs.{long-inputs}
+use Rattle.transcript.proofs.LongInputs.{long_inputs}
 use Rattle.line_text.specs.Lines.{lines_of}
-use Rattle.input.proofs.Printed.{prints-nothing, prints-whole, done-within}
-use Rattle.judge.specs.Printed.{verdictLines}
+use Rattle.input.proofs.Printed.{prints_nothing, prints_whole, done_within}
+use Rattle.judge.specs.Printed.{verdict_lines}
 use Rattle.judge.proofs.answer.Statement.{statement}
 use Rattle.judge.proofs.answer.Tie as tie
 
@@ -18,7 +18,7 @@ enum-known-reading c = search rules
 
 returns : tie.Need-returns
 returns c = (
-  prints-nothing verdictLines c.before.before.args.reading c.before.before.args.input.now
+  prints_nothing verdict_lines c.before.before.args.reading c.before.before.args.input.now
       c.before.before.requires.1
       c.match.keys2,
   (search rules, refl),
@@ -26,14 +26,14 @@ returns c = (
 
 -- the bytes that were read lie in the list
 within : (c : tie.After-reading) → c.reading.given.0.0 ≤ length c.before.before.before.args.input.now
-within c = done-within _ _ _ c.reading.given.1 c.before.before.before.requires.1
+within c = done_within _ _ _ c.reading.given.1 c.before.before.before.requires.1
 
 -- and have the lines of every input that they are the first bytes of
 first-lines : (c : tie.After-reading) (whole : List ℕ)
-    → verdictLines (take (length c.before.before.before.args.input.now) whole) ≡ verdictLines whole
+    → verdict_lines (take (length c.before.before.before.args.input.now) whole) ≡ verdict_lines whole
 first-lines c whole =
     let size = c.before.before.before.requires.0 in
-    ap lines_of (long-inputs.first whole (length c.before.before.before.args.input.now) (omega arith))
+    ap lines_of (long_inputs.first whole (length c.before.before.before.args.input.now) (omega arith))
 
 slice-aggregate-judge-input : tie.Need-slice-aggregate-judge-input
 slice-aggregate-judge-input c = let inside = within c.before.before in simp length-take (omega arith)
@@ -48,7 +48,7 @@ returns-2 : tie.Need-returns-2
 returns-2 c =
     let done = c.before.before.before.before in
     let start = done.before.before.before in (
-      prints-whole verdictLines _ _ start.args.input.now _ (first-lines done) done.reading.given.1
+      prints_whole verdict_lines _ _ start.args.input.now _ (first-lines done) done.reading.given.1
           (c.lines.ensures.0 ∙ ap lines_of c.before.judge-input.ensures),
       (c.lines.ensures.1.1.1, c.lines.ensures.1.1.2),
     )

@@ -1,9 +1,9 @@
 -- `layer_sections::checked` meets its contract. Assumes nothing.
 use mathlib.Core.Path.{◌≡◌, sym, ap, ◌∙◌, subst}
-use Rattle.transcript.proofs.Checks.{front-done}
-use Rattle.transcript.specs.Checks.{frontOutcome, layersOutcome}
+use Rattle.transcript.proofs.Checks.{front_done}
+use Rattle.transcript.specs.Checks.{front_outcome, layers_outcome}
 use Rattle.refusal.specs.declared.Outcome.TheVariants.{Done}
-use Rattle.refusal.proofs.Checks.{then-passed, then-refused}
+use Rattle.refusal.proofs.Checks.{then_passed, then_refused}
 use Rattle.layout.specs.Parameters.{Valid}
 use Rattle.sections.specs.declared.Sections.{Sections}
 use borrow.Author.Rules.{rules}
@@ -12,7 +12,7 @@ use Rattle.layer_sections.proofs.checked.Tie as tie
 
 -- sections 1 to 4 have passed
 abbrev Passed : tie.After-enum-told → Type 0
-Passed c = frontOutcome c.before.before.before.before.args.bytes.now ≡ Done
+Passed c = front_outcome c.before.before.before.before.args.bytes.now ≡ Done
 
 passed : (c : tie.After-enum-told) → Passed c
 passed c =
@@ -26,13 +26,13 @@ enum_told : tie.Need-enum-told
 enum_told c = search rules
 
 parameters-requires : tie.Need-parameters-requires
-parameters-requires c κs = (front-done c.before.before.before.before.args.bytes.now (passed c)).0
+parameters-requires c κs = (front_done c.before.before.before.before.args.bytes.now (passed c)).0
 
 checked-layers-requires : tie.Need-checked-layers-requires
 checked-layers-requires c κs =
     let start = c.before.before.before.before.before in
     let read = c.parameters.ensures in
-    let valid = (front-done start.args.bytes.now (passed c.before)).1 in
+    let valid = (front_done start.args.bytes.now (passed c.before)).1 in
     (ap (λ (s : Sections). s.layers) start.requires, record { read = read; valid = subst Valid (sym read) valid })
 
 enum-known-front : tie.Need-enum-known-front
@@ -42,14 +42,14 @@ returns : tie.Need-returns
 returns c =
     let told = c.before.before in
     let bytes = told.before.before.before.before.args.bytes.now in
-    c.checked-layers.ensures ∙ then-passed (frontOutcome bytes) (layersOutcome bytes) (passed told)
+    c.checked-layers.ensures ∙ then_passed (front_outcome bytes) (layers_outcome bytes) (passed told)
 
 returns-2 : tie.Need-returns-2
 returns-2 c =
     let refused = c.before in
     let checked = refused.before.before in
     let bytes = checked.before.before.args.bytes.now in
-    then-refused (frontOutcome bytes) (layersOutcome bytes) refused.front.given.0.0
+    then_refused (front_outcome bytes) (layers_outcome bytes) refused.front.given.0.0
     (sym checked.checked-front.ensures ∙ refused.front.given.1)
 
 pub checked-spec : {M : Type 1} → statement M

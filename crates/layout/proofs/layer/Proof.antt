@@ -1,7 +1,7 @@
 -- `layout::layer` meets its contract. Assumes nothing.
-use Rattle.layout.proofs.Parts.{part-within, part-taken}
+use Rattle.layout.proofs.Parts.{part_within, part_taken}
 use Rattle.layout.specs.declared.Part.{Part}
-use Rattle.layout.specs.Parts.{partIn}
+use Rattle.layout.specs.Parts.{part_in}
 use lib.ListN.{length, take, drop}
 use Prim.Native.Nat.{ℕ, ◌+◌, ◌-◌, ◌≤◌}
 use mathlib.Core.Path.{◌≡◌, sym, ap, ◌∙◌, subst}
@@ -18,7 +18,7 @@ within : (c : tie.After-part) → Within c
 within c =
     let a = c.before.before.args in
     subst (λ (r : Part). r.start + r.length ≤ length a.store.now) (sym c.part.ensures)
-    (part-within a.parameters (length a.store.now) a.i)
+    (part_within a.parameters (length a.store.now) a.i)
 
 part-requires : tie.Need-part-requires
 part-requires c κs = search rules
@@ -51,9 +51,9 @@ returns c =
     let back : r.start + r.length - r.start ≡ r.length = omega arith in
     let part =
     ap (λ (n : ℕ). take n (drop r.start a.store.now)) back
-    ∙ ap (λ (p : Part). partIn p a.store.now) c.before.before.part.ensures
+    ∙ ap (λ (p : Part). part_in p a.store.now) c.before.before.part.ensures
     in
-    (part ∙ part-taken a.parameters a.store.now a.i, part)
+    (part ∙ part_taken a.parameters a.store.now a.i, part)
 
 pub layer-spec : {M : Type 1} → statement M
 layer-spec =

@@ -3,7 +3,7 @@ use mathlib.Core.List.{List}
 use Prim.Native.Nat.{ℕ, suc, ◌-◌, ◌<◌}
 use borrow.Author.Rules.{rules}
 use native.Mathlib.Omega.{arith}
-use Rattle.list_inverse.proofs.Blocks.{InvertedFrom, inverted-start, past-a-zero, past-an-element, inverted-end}
+use Rattle.list_inverse.proofs.Blocks.{InvertedFrom, inverted_start, past_a_zero, past_an_element, inverted_end}
 use Rattle.list_inverse.proofs.divide_back.Statement.{statement}
 use Rattle.list_inverse.proofs.divide_back.Tie as tie
 
@@ -15,7 +15,7 @@ decreases-loop rest before block₀ rest₀ i₀ block rest' i = i
 
 loop-holds : tie.Need-loop-init invariant-loop decreases-loop
 loop-holds c =
-    let start = c.before.before in inverted-start start.args.block.now start.args.rest start.requires.2
+    let start = c.before.before in inverted_start start.args.block.now start.args.rest start.requires.2
 
 -- the element that is turned to
 one-back : (elements : List ℕ) (n : ℕ) (block : List ℕ) (rest : ℕ) → 0 < n → InvertedFrom elements n block rest
@@ -58,7 +58,7 @@ loop-again c =
     let start = at.before.before.before in
     let l = at.loop in
     let block = start.args.block.now in
-    past-an-element block (λ i. omega (arith, at.before.slice-known.given i)) (l.i - 1) l.block l.rest
+    past_an_element block (λ i. omega (arith, at.before.slice-known.given i)) (l.i - 1) l.block l.rest
     (one-back block l.i l.block l.rest (omega arith) l.invariant)
     _ c.before.product.result c.product2.result (start.requires.1 (l.i - 1) (omega (arith, l.invariant.within)))
     c.before.product.ensures (search rules) c.product2.ensures
@@ -72,7 +72,7 @@ loop-again-2 c =
     let start = at.before.before.before in
     let l = at.loop in
     let block = start.args.block.now in
-    past-a-zero block (λ i. omega (arith, at.before.slice-known.given i)) (l.i - 1) l.block l.rest
+    past_a_zero block (λ i. omega (arith, at.before.slice-known.given i)) (l.i - 1) l.block l.rest
     (one-back block l.i l.block l.rest (omega arith) l.invariant) (search rules)
 
 same_length : tie.Need-same-length invariant-loop decreases-loop
@@ -83,7 +83,7 @@ returns c =
     let l = c.before.loop in
     let elements = c.before.before.before.before.args.block.now in
     let none : l.i ≡ 0 = omega arith in
-    inverted-end elements l.block l.rest
+    inverted_end elements l.block l.rest
     (subst (λ (n : ℕ). InvertedFrom elements n l.block l.rest) none l.invariant)
 
 pub divide-back-spec : {M : Type 1} → statement M

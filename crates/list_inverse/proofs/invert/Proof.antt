@@ -3,7 +3,7 @@ use mathlib.Core.List.{map}
 use Prim.Native.Nat.{◌+◌, ◌-◌, ◌≤◌}
 use lib.ListN.{length, length-map}
 use Rattle.gf64.specs.Field.{inverse}
-use Rattle.poly.proofs.Filling.{filled, filled-start, filled-all, length-filled, mapped_next}
+use Rattle.poly.proofs.Filling.{filled, filled_start, filled_all, length_filled, mapped_next}
 use borrow.Author.Rules.{rules}
 use native.Mathlib.Omega.{arith}
 use Rattle.list_inverse.proofs.invert.Statement.{statement}
@@ -18,7 +18,7 @@ decreases-loop list₀ at₀ list at = length list₀ - at
 
 loop-holds : tie.Need-loop-init invariant-loop decreases-loop
 loop-holds c =
-    let list = c.before.args.list.now in (search rules, filled-start (map inverse list) list, refl)
+    let list = c.before.args.list.now in (search rules, filled_start (map inverse list) list, refl)
 
 sub-lesser : tie.Need-overflow-sub-lesser invariant-loop decreases-loop
 sub-lesser c = search rules
@@ -57,7 +57,7 @@ loop-again c =
     let changed = c.before.before.invert-block in
     let now = mapped_next inverse list l.list changed.new.0 l.at end (omega arith) fits l.invariant.1
     changed.ensures in
-    (fits, now, ap length now ∙ length-filled (map inverse list) list end (length-map list inverse))
+    (fits, now, ap length now ∙ length_filled (map inverse list) list end (length-map list inverse))
 
 same_length : tie.Need-same-length invariant-loop decreases-loop
 same_length c = search rules
@@ -66,7 +66,7 @@ returns : tie.Need-returns invariant-loop decreases-loop
 returns c =
     let l = c.before.loop in
     let list = c.before.before.before.args.list.now in
-    l.invariant.1 ∙ filled-all (map inverse list) list l.at (omega arith) (length-map list inverse)
+    l.invariant.1 ∙ filled_all (map inverse list) list l.at (omega arith) (length-map list inverse)
 
 pub invert-spec : {M : Type 1} → statement M
 invert-spec =

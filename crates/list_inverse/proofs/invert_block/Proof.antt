@@ -3,7 +3,7 @@ use mathlib.Core.Path.{sym, ap, ◌∙◌}
 use native.Mathlib.Omega.{arith}
 use lib.ListN.{length}
 use Rattle.gf64.specs.Field.{inverse}
-use Rattle.list_inverse.proofs.Products.{product-not-zero}
+use Rattle.list_inverse.proofs.Products.{product_not_zero}
 use Rattle.list_inverse.proofs.Blocks.{single}
 use borrow.Author.Rules.{rules}
 use Rattle.list_inverse.proofs.invert_block.Statement.{statement}
@@ -36,7 +36,7 @@ inverse-of-nonzero-requires : tie.Need-inverse-of-nonzero-requires
 inverse-of-nonzero-requires c κs z =
     let known = c.before.before.before.before.before in
     let block = known.before.args.block.now in
-    product-not-zero block (λ i. omega (arith, known.slice-known.given i)) (length block)
+    product_not_zero block (λ i. omega (arith, known.slice-known.given i)) (length block)
     (sym c.before.products-before.ensures.0 ∙ z)
 
 slice-aggregate-divide-back : tie.Need-slice-aggregate-divide-back

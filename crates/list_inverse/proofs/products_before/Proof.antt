@@ -5,9 +5,9 @@ use native.Mathlib.Numerals.{add-one}
 use lib.ListN.{length, get_or, length-set}
 use Rattle.gf64.specs.Field.{product}
 use Rattle.poly.proofs.Entries.{entries_next}
-use Rattle.list_inverse.specs.Products.{nonzeroProduct}
-use Rattle.list_inverse.proofs.Products.{past-zero, past-nonzero}
-use Rattle.list_inverse.proofs.Blocks.{product-start}
+use Rattle.list_inverse.specs.Products.{nonzero_product}
+use Rattle.list_inverse.proofs.Products.{past_zero, past_nonzero}
+use Rattle.list_inverse.proofs.Blocks.{product_start}
 use borrow.Author.Rules.{rules}
 use native.Mathlib.Omega.{arith}
 use Rattle.list_inverse.proofs.products_before.Statement.{statement}
@@ -15,15 +15,15 @@ use Rattle.list_inverse.proofs.products_before.Tie as tie
 
 abbrev invariant-loop : tie.invariant-loop
 invariant-loop block before₀ product₀ i₀ before product i =
-    (i ≤ length block) × (length before ≡ length before₀) × (product ≡ nonzeroProduct block i)
-    × ((j : ℕ) → j < i → get_or before j 0 ≡ nonzeroProduct block j)
+    (i ≤ length block) × (length before ≡ length before₀) × (product ≡ nonzero_product block i)
+    × ((j : ℕ) → j < i → get_or before j 0 ≡ nonzero_product block j)
 
 abbrev decreases-loop : tie.decreases-loop
 decreases-loop block before₀ product₀ i₀ before product i = length block - i
 
 loop-holds : tie.Need-loop-init invariant-loop decreases-loop
 loop-holds c =
-    (search rules, refl, product-start c.before.before.args.block.now, λ j h. absurd (omega arith))
+    (search rules, refl, product_start c.before.before.args.block.now, λ j h. absurd (omega arith))
 
 mul-before : tie.Need-overflow-mul-before invariant-loop decreases-loop
 mul-before c = search rules
@@ -52,15 +52,15 @@ loop-again c =
     let start = at.before.before.before in
     let block = start.args.block.now in
     let l = at.loop in
-    let one_more = ap (nonzeroProduct block) (sym (add-one l.i)) in (
+    let one_more = ap (nonzero_product block) (sym (add-one l.i)) in (
       search rules,
       length-set l.before l.i l.product ∙ l.invariant.1,
       ⊎_elim
           (λ k. k.2 ∙ k.1.ensures ∙ ap (λ (p : ℕ). product p (get_or block l.i 0)) l.invariant.2
-          ∙ sym (past-nonzero block l.i k.0.taken) ∙ one_more)
-          (λ k. k.1 ∙ l.invariant.2 ∙ sym (past-zero block l.i k.0.left) ∙ one_more)
+          ∙ sym (past_nonzero block l.i k.0.taken) ∙ one_more)
+          (λ k. k.1 ∙ l.invariant.2 ∙ sym (past_zero block l.i k.0.left) ∙ one_more)
           c.if1.branch,
-      entries_next 0 l.before (nonzeroProduct block) l.i l.product (omega (arith, start.requires, l.invariant.1))
+      entries_next 0 l.before (nonzero_product block) l.i l.product (omega (arith, start.requires, l.invariant.1))
           l.invariant.3 l.invariant.2,
     )
 
@@ -72,7 +72,7 @@ returns c =
     let l = c.before.loop in
     let block = c.before.before.before.before.args.block.now in
     let whole : l.i ≡ length block = omega arith in (
-      l.invariant.2 ∙ ap (nonzeroProduct block) whole,
+      l.invariant.2 ∙ ap (nonzero_product block) whole,
       λ i h. l.invariant.3 i (omega arith),
     )
 

@@ -1,6 +1,6 @@
 -- `list_judge::judge` meets its contract: the verdict of the round checks, or the refusal before them. Assumes nothing.
 use Rattle.layout.specs.Parameters.{run_of}
-use Rattle.fri.proofs.Verdicts.{refused-early}
+use Rattle.fri.proofs.Verdicts.{refused_early}
 use Rattle.fri.specs.declared.Verdict.{Verdict}
 use Rattle.fri.specs.declared.Answer.{Answer}
 use Rattle.refusal.specs.declared.Outcome.TheVariants.{Done}
@@ -35,7 +35,7 @@ returns-2 c =
     run_of a.parameters a.offset.0 a.basis.now a.challenges.now a.word.now a.store.now
     a.last.now in
     let refusal = c.before.outcome.given in
-    let told = refused-early run a.queries.now refusal.0.0 (sym checked.checked.ensures ∙ refusal.1) in
+    let told = refused_early run a.queries.now refusal.0.0 (sym checked.checked.ensures ∙ refusal.1) in
     ap₂ {C = Verdict} (λ (x : Answer) (n : ℕ). record { answer = x; reads = n }) (sym told.0) (sym told.1)
 
 pub judge-spec : {M : Type 1} → statement M

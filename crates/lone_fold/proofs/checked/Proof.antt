@@ -4,10 +4,10 @@ use lib.ListN.{length}
 use Rattle.refusal.specs.declared.Outcome.{Outcome}
 use Rattle.refusal.specs.declared.Outcome.TheVariants.{Done}
 use Rattle.refusal.specs.Checks.{and_then}
-use Rattle.refusal.proofs.Checks.{then-passed, then-refused}
+use Rattle.refusal.proofs.Checks.{then_passed, then_refused}
 use Rattle.coset.specs.Answers.{basisOutcome}
 use Rattle.fold.specs.Answers.{foldRangesOutcome, foldLengthsOutcome}
-use Rattle.fold.proofs.Checks.{in-range}
+use Rattle.fold.proofs.Checks.{in_range}
 use borrow.Author.Rules.{rules}
 use Rattle.lone_fold.proofs.checked.Statement.{statement}
 use Rattle.lone_fold.proofs.checked.Tie as tie
@@ -32,8 +32,8 @@ basis-of c = basisOutcome (start_of c).args.basis.now
 abbrev RangesPass : tie.After-enum-told → Type 0
 RangesPass c = ranges-of c.before.before ≡ Done
 
-ranges-pass : (c : tie.After-enum-told) → RangesPass c
-ranges-pass c =
+ranges_pass : (c : tie.After-enum-told) → RangesPass c
+ranges_pass c =
     let ranges = c.before.before.checked-ranges in
     let done : ranges.result ≡ Done = search rules in
     sym ranges.ensures ∙ done
@@ -42,8 +42,8 @@ ranges-pass c =
 abbrev LengthsPass : tie.After-enum-told2 → Type 0
 LengthsPass c = lengths-of c.before.before.before.before.before ≡ Done
 
-lengths-pass : (c : tie.After-enum-told2) → LengthsPass c
-lengths-pass c =
+lengths_pass : (c : tie.After-enum-told2) → LengthsPass c
+lengths_pass c =
     let lengths = c.before.before.checked-lengths in
     let done : lengths.result ≡ Done = search rules in
     sym lengths.ensures ∙ done
@@ -57,8 +57,8 @@ enum_told c = search rules
 checked-lengths-requires : tie.Need-checked-lengths-requires
 checked-lengths-requires c κs =
     let a = (start_of c.before.before).args in
-    let ranges = in-range a.k a.step (ranges-pass c) in
-    (ranges.at-most-20, ranges.step_fits)
+    let ranges = in_range a.k a.step (ranges_pass c) in
+    (ranges.at_most_20, ranges.step_fits)
 
 enum-told-2 : tie.Need-enum-told-2
 enum-told-2 c = search rules
@@ -77,23 +77,23 @@ returns c =
     let told = c.before.before.before.before in
     let first = told.before.before in
     c.checked-basis.ensures
-    ∙ then-passed (lengths-of first) (basis-of first) (lengths-pass c.before)
-    ∙ then-passed (ranges-of first) (and_then (lengths-of first) (basis-of first)) (ranges-pass told)
+    ∙ then_passed (lengths-of first) (basis-of first) (lengths_pass c.before)
+    ∙ then_passed (ranges-of first) (and_then (lengths-of first) (basis-of first)) (ranges_pass told)
 
 returns-2 : tie.Need-returns-2
 returns-2 c =
     let told = c.before.before.before.before in
     let first = told.before.before in
     let refused = c.before.lengths.given in
-    then-refused (lengths-of first) (basis-of first) refused.0.0
+    then_refused (lengths-of first) (basis-of first) refused.0.0
     (sym c.before.before.before.checked-lengths.ensures ∙ refused.1)
-    ∙ then-passed (ranges-of first) (and_then (lengths-of first) (basis-of first)) (ranges-pass told)
+    ∙ then_passed (ranges-of first) (and_then (lengths-of first) (basis-of first)) (ranges_pass told)
 
 returns-3 : tie.Need-returns-3
 returns-3 c =
     let first = c.before.before.before in
     let refused = c.before.ranges.given in
-    then-refused (ranges-of first) (and_then (lengths-of first) (basis-of first)) refused.0.0
+    then_refused (ranges-of first) (and_then (lengths-of first) (basis-of first)) refused.0.0
     (sym first.checked-ranges.ensures ∙ refused.1)
 
 pub checked-spec : {M : Type 1} → statement M

@@ -4,8 +4,8 @@ use mathlib.Core.Bool.{true}
 use lib.Dec.{eqb}
 use Prim.Native.Nat.{◌*◌, ◌-◌, ◌%◌, ◌^◌}
 use borrow.Author.Tests.{eq-eqb, ne_eqb}
-use Rattle.coset.proofs.Sizes.{size-shifted}
-use Rattle.fold.proofs.Checks.{list1-refused, list3-refused, list6-refused, list7-refused, lengths-pass}
+use Rattle.coset.proofs.Sizes.{size_shifted}
+use Rattle.fold.proofs.Checks.{list1_refused, list3_refused, list6_refused, list7_refused, lengths_pass}
 use borrow.Author.Rules.{rules}
 use native.Mathlib.Omega.{arith}
 use Rattle.lone_fold.proofs.checked_lengths.Statement.{statement}
@@ -22,13 +22,13 @@ abbrev WordSize : tie.Start → Type 0
 WordSize c = 1 * 2 ^ c.args.k % 2 ^ 64 ≡ 2 ^ c.args.k
 
 word_size : (c : tie.Start) → WordSize c
-word_size c = size-shifted c.args.k (omega (arith, c.requires.0))
+word_size c = size_shifted c.args.k (omega (arith, c.requires.0))
 
 abbrev ValuesSize : tie.Start → Type 0
 ValuesSize c = let n = c.args.k - c.args.step in 1 * 2 ^ n % 2 ^ 64 ≡ 2 ^ n
 
 values-size : (c : tie.Start) → ValuesSize c
-values-size c = size-shifted (c.args.k - c.args.step) (omega (arith, c.requires.0))
+values-size c = size_shifted (c.args.k - c.args.step) (omega (arith, c.requires.0))
 
 abbrev Third : tie.Else2 → Type 0
 Third c = let a = c.before.before.args in eqb a.length3 (2 ^ a.k) ≡ true
@@ -50,7 +50,7 @@ sixth c =
 returns : tie.Need-returns
 returns c =
     let a = c.before.args in
-    list1-refused a.k a.step a.length1 a.length3 a.length6 a.length7
+    list1_refused a.k a.step a.length1 a.length3 a.length6 a.length7
     (ne_eqb a.length1 a.k c.if1.true)
 
 shl-if2 : tie.Need-overflow-shl-if2
@@ -60,7 +60,7 @@ returns-2 : tie.Need-returns-2
 returns-2 c =
     let start = c.before.before in
     let a = start.args in
-    list3-refused a.k a.step a.length1 a.length3 a.length6 a.length7 (first c.before)
+    list3_refused a.k a.step a.length1 a.length3 a.length6 a.length7 (first c.before)
     (ne_eqb a.length3 (2 ^ a.k) (λ e. c.if2.true (e ∙ sym (word_size start))))
 
 sub-if3 : tie.Need-overflow-sub-if3
@@ -73,7 +73,7 @@ returns-3 : tie.Need-returns-3
 returns-3 c =
     let start = c.before.before.before in
     let a = start.args in
-    list6-refused a.k a.step a.length1 a.length3 a.length6 a.length7 (first c.before.before)
+    list6_refused a.k a.step a.length1 a.length3 a.length6 a.length7 (first c.before.before)
     (third c.before)
     (ne_eqb a.length6 (2 ^ (a.k - a.step)) (λ e. c.if3.true (e ∙ sym (values-size start))))
 
@@ -83,14 +83,14 @@ sub-if4 c = search rules
 returns-4 : tie.Need-returns-4
 returns-4 c =
     let a = c.before.before.before.before.args in
-    list7-refused a.k a.step a.length1 a.length3 a.length6 a.length7
+    list7_refused a.k a.step a.length1 a.length3 a.length6 a.length7
     (first c.before.before.before)
     (third c.before.before) (sixth c.before) (ne_eqb a.length7 (a.k - a.step) c.if4.true)
 
 returns-5 : tie.Need-returns-5
 returns-5 c =
     let a = c.before.before.before.before.args in
-    lengths-pass a.k a.step a.length1 a.length3 a.length6 a.length7
+    lengths_pass a.k a.step a.length1 a.length3 a.length6 a.length7
     (first c.before.before.before)
     (third c.before.before) (sixth c.before) (eq-eqb a.length7 (a.k - a.step) c.if4.false)
 

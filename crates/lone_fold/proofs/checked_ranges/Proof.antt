@@ -5,7 +5,7 @@ use mathlib.Core.Logic.{inl, inr, ⊎_elim}
 use lib.Dec.{leb}
 use borrow.Author.Tests.{le-leb, lt-leb, ltb-true, ltb-false}
 use Rattle.refusal.proofs.Checks.{within, outside}
-use Rattle.fold.proofs.Checks.{dimension-refused, step-refused, too-small-refused, ranges-pass}
+use Rattle.fold.proofs.Checks.{dimension_refused, step_refused, too_small_refused, ranges_pass}
 use Rattle.lone_fold.proofs.checked_ranges.Statement.{statement}
 use Rattle.lone_fold.proofs.checked_ranges.Tie as tie
 
@@ -29,13 +29,13 @@ step_fits c =
 returns : tie.Need-returns
 returns c =
     let a = c.before.args in
-    dimension-refused a.k a.step
+    dimension_refused a.k a.step
     (outside 2 20 a.k (⊎_elim (λ t. inl t.taken) (λ t. inr (ltb-true 20 a.k t.1.taken)) c.if1.branch))
 
 returns-2 : tie.Need-returns-2
 returns-2 c =
     let a = c.before.before.before.args in
-    step-refused a.k a.step (dimension-fits c.before)
+    step_refused a.k a.step (dimension-fits c.before)
     (outside 1 3 a.step
     (⊎_elim (λ t. inl t.taken) (λ t. inr (ltb-true 3 a.step t.1.taken)) c.if3.branch))
 
@@ -44,7 +44,7 @@ returns-3 c =
     let fourth = c.before in
     let second = fourth.before.before in
     let a = second.before.before.args in
-    too-small-refused a.k a.step (dimension-fits second) (step_fits fourth)
+    too_small_refused a.k a.step (dimension-fits second) (step_fits fourth)
     (lt-leb a.step a.k c.if5.true)
 
 returns-4 : tie.Need-returns-4
@@ -52,7 +52,7 @@ returns-4 c =
     let fourth = c.before in
     let second = fourth.before.before in
     let a = second.before.before.args in
-    ranges-pass a.k a.step (dimension-fits second) (step_fits fourth) (le-leb a.step a.k c.if5.false)
+    ranges_pass a.k a.step (dimension-fits second) (step_fits fourth) (le-leb a.step a.k c.if5.false)
 
 pub checked-ranges-spec : {M : Type 1} → statement M
 checked-ranges-spec = tie.close (tie.spec returns returns-2 returns-3 returns-4)

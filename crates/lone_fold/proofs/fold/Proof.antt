@@ -4,10 +4,10 @@ use mathlib.Core.Path.{◌≡◌, sym, ◌∙◌}
 use mathlib.Core.List.{List}
 use Prim.Native.Nat.{ℕ}
 use Rattle.refusal.specs.declared.Outcome.TheVariants.{Done}
-use Rattle.coset.specs.Subspace.{nextOffset, nextBasis}
+use Rattle.coset.specs.Subspace.{next_offset, next_basis}
 use Rattle.fold.specs.Fold.{folded}
-use Rattle.lone_fold.specs.Calls.{FoldCall, outcomeOfCall}
-use Rattle.fold.proofs.Checks.{passed, passed-facts, done_all, refused_all}
+use Rattle.lone_fold.specs.Calls.{FoldCall, outcome_of_call}
+use Rattle.fold.proofs.Checks.{passed, passed_facts, done_all, refused_all}
 use borrow.Author.Rules.{rules}
 use Rattle.lone_fold.proofs.fold.Statement.{statement}
 use Rattle.lone_fold.proofs.fold.Tie as tie
@@ -33,17 +33,17 @@ call_at c =
 
 -- what is wanted of it: the next offset, the fold and the next basis
 abbrev offset_at : tie.After-checked → ℕ
-offset_at c = let call = call_at c in nextOffset call.step call.offset call.basis
+offset_at c = let call = call_at c in next_offset call.step call.offset call.basis
 
 abbrev values-at : tie.After-checked → List ℕ
 values-at c = let call = call_at c in folded call.step call.offset call.basis call.word call.challenge
 
 abbrev basis-at : tie.After-checked → List ℕ
-basis-at c = let call = call_at c in nextBasis call.step call.basis
+basis-at c = let call = call_at c in next_basis call.step call.basis
 
 -- the checks passed
 abbrev Done-at : tie.After-enum-told → Type 0
-Done-at c = outcomeOfCall (call_at c.before.before) ≡ Done
+Done-at c = outcome_of_call (call_at c.before.before) ≡ Done
 
 done_at : (c : tie.After-enum-told) → Done-at c
 done_at c =
@@ -62,15 +62,15 @@ fold-checked-requires c κs =
     let told = c.before.before in
     let call = call_at told.before.before in
     let passes = passed call.k call.step call.basis call.word call.values call.next (done_at told) in
-    let facts = passed-facts call.k call.step call.basis call.word call.values call.next passes in
+    let facts = passed_facts call.k call.step call.basis call.word call.values call.next passes in
     record {
-      step-least = facts.0;
-      step-most = facts.1;
+      step_least = facts.0;
+      step_most = facts.1;
       step_fits = facts.2;
-      basis-most = facts.3;
+      basis_most = facts.3;
       independent = facts.4;
       word_fits = facts.5;
-      values-fit = facts.6;
+      values_fit = facts.6;
       next_fits = facts.7;
     }
 
@@ -90,7 +90,7 @@ returns c =
     let call = call_at checked in
     let f = c.before.before.before.before.fold-checked in
     let all =
-    done_all (outcomeOfCall call) f.result (offset_at checked) call.values f.new.1.1.1.1.1.0
+    done_all (outcome_of_call call) f.result (offset_at checked) call.values f.new.1.1.1.1.1.0
     (values-at checked) call.next f.new.1.1.1.1.1.1.0 (basis-at checked) (done_at told) f.ensures.0
     f.ensures.1.0 f.ensures.1.1
     in
@@ -102,7 +102,7 @@ returns-2 c =
     let told = c.before.outcome.given in
     let call = call_at checked in
     let all =
-    refused_all (outcomeOfCall call) told.0.0 (offset_at checked) call.values (values-at checked) call.next
+    refused_all (outcome_of_call call) told.0.0 (offset_at checked) call.values (values-at checked) call.next
     (basis-at checked) (sym checked.checked.ensures ∙ told.1)
     in
     record { answer = all.0; output = all.1.0; next = all.1.1 }

@@ -6,10 +6,10 @@ use native.Mathlib.Nat.{le_of_eq}
 use lib.ListN.{length, take, length-drop}
 use lib.Seq.{length-take-le}
 use Rattle.gf64.specs.Field.{IsElement}
-use Rattle.poly.proofs.Parts.{mid-suffix}
-use Rattle.coset.specs.Steps.{composedMaps, stepElements}
-use Rattle.coset.proofs.Points.{all-elements}
-use Rattle.coset.proofs.Subspace.{elements-taken, next-whole, nextOffset-through}
+use Rattle.poly.proofs.Parts.{mid_suffix}
+use Rattle.coset.specs.Steps.{composed_maps, step_elements}
+use Rattle.coset.proofs.Points.{all_elements}
+use Rattle.coset.proofs.Subspace.{elements_taken, next_whole, next_offset_through}
 use Rattle.fold.specs.Fold.{folded}
 use borrow.Author.Rules.{rules}
 use native.Mathlib.Omega.{arith}
@@ -28,17 +28,17 @@ counted : (c : tie.After-step-elements) → Counted c
 counted c =
     let start = start_of c in
     let three : length c.step-elements.result ≡ 3 = search rules in
-    length-take-le start.args.step c.step-elements.result (omega (arith, three, start.pre.step-most))
+    length-take-le start.args.step c.step-elements.result (omega (arith, three, start.pre.step_most))
 
 abbrev Taken : tie.After-step-elements → Type 0
 Taken c =
     let a = (start_of c).args in
-    take a.step c.step-elements.result ≡ stepElements a.step a.basis.now
+    take a.step c.step-elements.result ≡ step_elements a.step a.basis.now
 
 taken : (c : tie.After-step-elements) → Taken c
 taken c =
     let start = start_of c in
-    elements-taken start.args.step start.args.basis.now c.step-elements.result start.pre.step_fits
+    elements_taken start.args.step start.args.basis.now c.step-elements.result start.pre.step_fits
     c.step-elements.ensures
 
 step-elements-requires : tie.Need-step-elements-requires
@@ -60,15 +60,15 @@ fill-values-requires c κs =
     record {
       step =
           record {
-            some = omega (arith, count, f.step-least);
-            few = omega (arith, count, f.step-most);
+            some = omega (arith, count, f.step_least);
+            few = omega (arith, count, f.step_most);
             fits = omega (arith, count, f.step_fits);
-            basis-fits = f.basis-most;
-            elements-are = taken elements ∙ ap (λ (n : ℕ). stepElements n basis) (sym count);
+            basis_fits = f.basis_most;
+            elements_are = taken elements ∙ ap (λ (n : ℕ). step_elements n basis) (sym count);
             independent = f.independent;
           };
       word_fits = f.word_fits;
-      values-fit = f.values-fit ∙ ap (λ (n : ℕ). 2 ^ (length basis - n)) (sym count);
+      values_fit = f.values_fit ∙ ap (λ (n : ℕ). 2 ^ (length basis - n)) (sym count);
     }
 
 array-share-prefix-elements-2 : tie.Need-array-share-prefix-elements-2
@@ -94,7 +94,7 @@ fill-images-requires c κs =
     let start = start_of c.before.before.before.before.before.before.before.before in
     let basis = start.args.basis.now in
     let step = start.args.step in
-    le_of_eq (ap length (mid-suffix step basis) ∙ length-drop step basis ∙ sym start.pre.next_fits)
+    le_of_eq (ap length (mid_suffix step basis) ∙ length-drop step basis ∙ sym start.pre.next_fits)
 
 array-share-prefix-elements-3 : tie.Need-array-share-prefix-elements-3
 array-share-prefix-elements-3 c = search rules
@@ -121,15 +121,15 @@ returns c =
     let a = start.args in
     let basis = a.basis.now in
     let known = elements.before.before.before.before.shared-slice-known in
-    let basis-elements = all-elements basis (λ i. omega (arith, known.given i)) in
-    let offset-element : IsElement a.offset.0 = search rules in (
-      c.composed-maps.ensures ∙ ap (λ (es : List ℕ). composedMaps es a.offset.0) (taken elements)
-          ∙ sym (nextOffset-through a.step a.offset.0 basis offset-element),
+    let basis_elements = all_elements basis (λ i. omega (arith, known.given i)) in
+    let offset_element : IsElement a.offset.0 = search rules in (
+      c.composed-maps.ensures ∙ ap (λ (es : List ℕ). composed_maps es a.offset.0) (taken elements)
+          ∙ sym (next_offset_through a.step a.offset.0 basis offset_element),
       (
         values.fill-values.ensures
             ∙ ap (λ (n : ℕ). folded n a.offset.0 basis a.word.now a.challenge.0) (counted elements),
-        next-whole a.step basis elements.step-elements.result a.next.now images.new.1.1.0
-            basis-elements start.pre.step_fits elements.step-elements.ensures start.pre.next_fits
+        next_whole a.step basis elements.step-elements.result a.next.now images.new.1.1.0
+            basis_elements start.pre.step_fits elements.step-elements.ensures start.pre.next_fits
             images.ensures,
       ),
     )

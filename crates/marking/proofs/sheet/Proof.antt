@@ -10,18 +10,18 @@ use borrow.Author.Rules.{rules}
 use Rattle.refusal.specs.declared.Outcome.{Outcome}
 use Rattle.refusal.specs.declared.Outcome.TheVariants.{Done, Refused}
 use Rattle.refusal.specs.contracts.Outcome.{the_type}
-use Rattle.transcript.specs.Checks.{transcriptOutcome}
-use Rattle.sheet_text.specs.Sheet.{transcriptSheet}
-use Rattle.sheet_text.proofs.Sheets.{sheet-refused}
-use Rattle.marking.proofs.Fronts.{nothing-in-front}
+use Rattle.transcript.specs.Checks.{transcript_outcome}
+use Rattle.sheet_text.specs.Sheet.{transcript_sheet}
+use Rattle.sheet_text.proofs.Sheets.{sheet_refused}
+use Rattle.marking.proofs.Fronts.{nothing_in_front}
 use Rattle.marking.proofs.sheet.Statement.{statement}
 use Rattle.marking.proofs.sheet.Tie as tie
 
 -- the variant is not the first
 nothing : (bytes : List ℕ) (outcome : Outcome) → OneOf (1 ∷ []) (tag_of the_type outcome)
-    → outcome ≡ transcriptOutcome bytes → transcriptSheet bytes ≡ []
+    → outcome ≡ transcript_outcome bytes → transcript_sheet bytes ≡ []
 nothing bytes Done keys e = absurd (omega (arith, keys))
-nothing bytes (Refused cause) keys e = sheet-refused bytes cause (sym e)
+nothing bytes (Refused cause) keys e = sheet_refused bytes cause (sym e)
 
 find-requires : tie.Need-find-requires
 find-requires c κs = search rules
@@ -53,7 +53,7 @@ returns-2 c =
     let a = checked.before.before.before.before.args in
     let told = checked.checked in
     let none = nothing a.bytes.now told.result c.before.match.keys2 told.ensures in
-    (sym (ap length none), nothing-in-front (transcriptSheet a.bytes.now) a.out.now none)
+    (sym (ap length none), nothing_in_front (transcript_sheet a.bytes.now) a.out.now none)
 
 pub sheet-spec : {M : Type 1} → statement M
 sheet-spec =

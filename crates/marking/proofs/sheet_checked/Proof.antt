@@ -6,20 +6,20 @@ use native.Mathlib.Omega.{arith}
 use lib.ListN.{length, take}
 use borrow.Author.Rules.{rules}
 use Rattle.transcript.specs.Numerals.{AreBytes}
-use Rattle.transcript.proofs.Numerals.{are-bytes}
+use Rattle.transcript.proofs.Numerals.{are_bytes}
 use Rattle.sections.specs.declared.Sections.{Sections}
-use Rattle.sections.proofs.Places.{start-near}
+use Rattle.sections.proofs.Places.{start_near}
 use Rattle.placing.proofs.Placing.{put_same}
 use Rattle.fri.specs.Run.{Run}
-use Rattle.byte_rounds.specs.Layers.{sentIn}
-use Rattle.byte_rounds.proofs.Carried.{basis-fits, challenges-fit, queries-fit, last_fits, basis-length}
-use Rattle.byte_rounds.proofs.Carried.{challenges-length, queries-front, queries-length, last-length}
-use Rattle.byte_rounds.proofs.Carried.{sent-run, sent-checks, sent-layers}
-use Rattle.sheet_text.specs.Sheet.{sheetLines, transcriptSheet}
-use Rattle.sheet_text.proofs.Sheets.{sheet-passed}
+use Rattle.byte_rounds.specs.Layers.{sent_in}
+use Rattle.byte_rounds.proofs.Carried.{basis_fits, challenges_fit, queries_fit, last_fits, basis_length}
+use Rattle.byte_rounds.proofs.Carried.{challenges_length, queries_front, queries_length, last-length}
+use Rattle.byte_rounds.proofs.Carried.{sent_run, sent_checks, sent_layers}
+use Rattle.sheet_text.specs.Sheet.{sheet_lines, transcript_sheet}
+use Rattle.sheet_text.proofs.Sheets.{sheet_passed}
 use Rattle.sheet_text.proofs.Fronts.{no_room}
-use Rattle.marking.proofs.Fronts.{put-in-front}
-use Rattle.marking.proofs.Lengths.{lines-few, length-is}
+use Rattle.marking.proofs.Fronts.{put_in_front}
+use Rattle.marking.proofs.Lengths.{lines_few, length_is}
 use Rattle.marking.proofs.sheet_checked.Statement.{statement}
 use Rattle.marking.proofs.sheet_checked.Tie as tie
 
@@ -27,7 +27,7 @@ abbrev Known : tie.After-shared-slice-known → Type 0
 Known c = AreBytes c.before.args.bytes.now
 
 known : (c : tie.After-shared-slice-known) → Known c
-known c = are-bytes c.before.args.bytes.now (λ i. omega (arith, c.shared-slice-known.given i))
+known c = are_bytes c.before.args.bytes.now (λ i. omega (arith, c.shared-slice-known.given i))
 
 -- where the lists were read, from the places where they are lent
 abbrev at-lists : tie.After-last → tie.After-read
@@ -40,64 +40,64 @@ mul-length : tie.Need-overflow-mul-length
 mul-length c =
     let read = c.before in
     let start = read.before.before.before in
-    omega (arith, lines-few start.args.bytes.now start.requires.1 read.read.ensures)
+    omega (arith, lines_few start.args.bytes.now start.requires.1 read.read.ensures)
 
 mul-length-2 : tie.Need-overflow-mul-length-2
 mul-length-2 c =
     let read = c.before in
     let start = read.before.before.before in
-    omega (arith, lines-few start.args.bytes.now start.requires.1 read.read.ensures)
+    omega (arith, lines_few start.args.bytes.now start.requires.1 read.read.ensures)
 
 returns : tie.Need-returns
 returns c =
     let read = c.before.before in
     let start = read.before.before.before in
     let a = start.args in
-    let same = length-is a.bytes.now start.requires.1 read.read.ensures in
-    (same, sym (no_room (transcriptSheet a.bytes.now) a.out.now (omega (arith, same, c.if1.true))))
+    let same = length_is a.bytes.now start.requires.1 read.read.ensures in
+    (same, sym (no_room (transcript_sheet a.bytes.now) a.out.now (omega (arith, same, c.if1.true))))
 
 array-share-prefix-basis : tie.Need-array-share-prefix-basis
 array-share-prefix-basis c =
     let read = at-lists c in
     let start = read.before.before.before in
-    basis-fits start.args.bytes.now start.pre.1 read.read.ensures
+    basis_fits start.args.bytes.now start.pre.1 read.read.ensures
 
 slice-aggregate-put-lines : tie.Need-slice-aggregate-put-lines
 slice-aggregate-put-lines c =
     let read = at-lists c.before in
     let start = read.before.before.before in
-    sym (basis-length start.args.bytes.now start.pre.1 read.read.ensures)
+    sym (basis_length start.args.bytes.now start.pre.1 read.read.ensures)
 
 array-share-prefix-challenges : tie.Need-array-share-prefix-challenges
 array-share-prefix-challenges c =
     let read = at-lists c.before in
     let start = read.before.before.before in
-    challenges-fit start.args.bytes.now start.pre.1 read.read.ensures
+    challenges_fit start.args.bytes.now start.pre.1 read.read.ensures
 
 slice-aggregate-put-lines-2 : tie.Need-slice-aggregate-put-lines-2
 slice-aggregate-put-lines-2 c =
     let read = at-lists c.before.before in
     let start = read.before.before.before in
-    sym (challenges-length start.args.bytes.now start.pre.1 read.read.ensures)
+    sym (challenges_length start.args.bytes.now start.pre.1 read.read.ensures)
 
 array-share-prefix-queries : tie.Need-array-share-prefix-queries
 array-share-prefix-queries c =
     let read = at-lists c.before.before in
     let start = read.before.before.before in
-    queries-fit start.args.bytes.now start.pre.1 read.read.ensures
+    queries_fit start.args.bytes.now start.pre.1 read.read.ensures
 
 slice-aggregate-put-lines-3 : tie.Need-slice-aggregate-put-lines-3
 slice-aggregate-put-lines-3 c =
     let read = at-lists c.before.before.before in
     let start = read.before.before.before in
-    sym (queries-length start.args.bytes.now start.pre.1 read.read.ensures)
+    sym (queries_length start.args.bytes.now start.pre.1 read.read.ensures)
 
 add-put-lines : tie.Need-overflow-add-put-lines
 add-put-lines c =
     let entry = (at-lists c.before.before.before.before).before.before in
     let a = entry.before.args in
     let begins = ap (λ (s : Sections). s.layers) entry.before.pre.0 in
-    omega (arith, start-near a.bytes.now (known entry) 5 a.sections.layers (omega arith) begins)
+    omega (arith, start_near a.bytes.now (known entry) 5 a.sections.layers (omega arith) begins)
 
 array-share-prefix-last : tie.Need-array-share-prefix-last
 array-share-prefix-last c =
@@ -118,18 +118,18 @@ Lines c =
     let bytes = read.before.before.before.args.bytes.now in
     let l = read.read.result in
     let run =
-    sentIn l.parameters l.offset.0 (take l.parameters.k l.basis) (take l.rounds l.challenges) bytes
+    sent_in l.parameters l.offset.0 (take l.parameters.k l.basis) (take l.rounds l.challenges) bytes
     (take l.last_count l.last) in
-    sheetLines run (take l.query_count l.queries) 0 ≡ transcriptSheet bytes
+    sheet_lines run (take l.query_count l.queries) 0 ≡ transcript_sheet bytes
 
 lines_are : (c : tie.After-put-lines-arg) → Lines c
 lines_are c =
     let read = at-lists c.before.before.before.before.before.before in
     let start = read.before.before.before in
     let bytes = start.args.bytes.now in
-    ap₂ (λ (run : Run) (queries : List ℕ). sheetLines run queries 0)
-    (sent-run bytes start.pre.1 read.read.ensures) (queries-front bytes start.pre.1 read.read.ensures)
-    ∙ sym (sheet-passed bytes start.pre.1)
+    ap₂ (λ (run : Run) (queries : List ℕ). sheet_lines run queries 0)
+    (sent_run bytes start.pre.1 read.read.ensures) (queries_front bytes start.pre.1 read.read.ensures)
+    ∙ sym (sheet_passed bytes start.pre.1)
 
 put-lines-requires : tie.Need-put-lines-requires
 put-lines-requires c κs =
@@ -137,10 +137,10 @@ put-lines-requires c κs =
     let read = at-lists inside in
     let start = read.before.before.before in
     let bytes = start.args.bytes.now in
-    let same = length-is bytes start.pre.1 read.read.ensures in (
-      sent-checks bytes start.pre.1 read.read.ensures,
+    let same = length_is bytes start.pre.1 read.read.ensures in (
+      sent_checks bytes start.pre.1 read.read.ensures,
       (
-        sent-layers bytes start.pre.1 read.read.ensures (known read.before.before) start.pre.0,
+        sent_layers bytes start.pre.1 read.read.ensures (known read.before.before) start.pre.0,
         omega (arith, ap length (lines_are c), same, inside.before.before.before.before.if1.false),
       ),
     )
@@ -152,7 +152,7 @@ returns-2 : tie.Need-returns-2
 returns-2 c =
     let put = c.before.before in
     let filled = put_same put.put-lines.ensures (lines_are put.before) in
-    (omega (arith, filled.ends), put-in-front filled)
+    (omega (arith, filled.ends), put_in_front filled)
 
 pub sheet-checked-spec : {M : Type 1} → statement M
 sheet-checked-spec =

@@ -4,9 +4,9 @@ use mathlib.Core.List.{List}
 use Prim.Native.Nat.{ℕ}
 use lib.ListN.{length}
 use borrow.Author.Rules.{rules}
-use Rattle.sheet_text.specs.Sheet.{sheetOf, inFront}
+use Rattle.sheet_text.specs.Sheet.{sheet_of, in_front}
 use Rattle.sheet_text.proofs.Theorems.{sheets}
-use Rattle.marking.proofs.Fronts.{nothing-in-front}
+use Rattle.marking.proofs.Fronts.{nothing_in_front}
 use Rattle.marking.proofs.sheet_input.Statement.{statement}
 use Rattle.marking.proofs.sheet_input.Tie as tie
 
@@ -14,7 +14,7 @@ returns : tie.Need-returns
 returns c =
     let a = c.before.before.before.args in
     let none = sheets.long a.bytes.now c.if1.true in
-    (sym (ap length none), nothing-in-front (sheetOf a.bytes.now) a.out.now none)
+    (sym (ap length none), nothing_in_front (sheet_of a.bytes.now) a.out.now none)
 
 sheet-requires : tie.Need-sheet-requires
 sheet-requires c κs = search rules
@@ -29,7 +29,7 @@ returns-2 c =
     let a = short.before.before.before.args in
     let same = sym (sheets.short a.bytes.now short.if1.false) in (
       sheet.sheet.ensures.0 ∙ ap length same,
-      sheet.sheet.ensures.1 ∙ ap (λ (text : List ℕ). inFront text a.out.now) same,
+      sheet.sheet.ensures.1 ∙ ap (λ (text : List ℕ). in_front text a.out.now) same,
     )
 
 pub sheet-input-spec : {M : Type 1} → statement M

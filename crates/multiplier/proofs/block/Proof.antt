@@ -3,8 +3,8 @@ use mathlib.Core.Path.{◌≡◌, refl, sym}
 use native.Mathlib.Omega.{arith}
 use lib.ListN.{length, set, length-set}
 use borrow.Author.Rules.{rules}
-use Rattle.gf64.proofs.Ring.{product-one-r}
-use Rattle.multiplier.proofs.Entries.{filled_zero, step-at, next-step}
+use Rattle.gf64.proofs.Ring.{product_one_r}
+use Rattle.multiplier.proofs.Entries.{filled_zero, step_at, next_step}
 use Rattle.multiplier.proofs.block.Statement.{statement}
 use Rattle.multiplier.proofs.block.Tie as tie
 
@@ -57,14 +57,14 @@ returns c = λ e n ea eb f.
     let start = steps.before.before.before.before in
     let at = start.args.at in
     let b = start.args.b in
-    let one = sym (product-one-r b (omega (arith, start.well-formed))) in
+    let one = sym (product_one_r b (omega (arith, start.well-formed))) in
     let two = steps.before.before.shifted.ensures in
-    let four = next-step b 1 _ _ two steps.before.shifted2.ensures in
-    let eight = next-step b 2 _ _ four steps.shifted3.ensures in
-    let step1 = step-at e at n 0 b _ ea (omega arith) eb one in
-    let step2 = step-at e at n 1 b _ ea (omega arith) eb two in
-    let step4 = step-at e at n 2 b _ ea (omega arith) eb four in
-    let step8 = step-at e at n 3 b _ ea (omega arith) eb eight in
+    let four = next_step b 1 _ _ two steps.before.shifted2.ensures in
+    let eight = next_step b 2 _ _ four steps.shifted3.ensures in
+    let step1 = step_at e at n 0 b _ ea (omega arith) eb one in
+    let step2 = step_at e at n 1 b _ ea (omega arith) eb two in
+    let step4 = step_at e at n 2 b _ ea (omega arith) eb four in
+    let step8 = step_at e at n 3 b _ ea (omega arith) eb eight in
     let filled1 = filled_zero e start.args.t.now at n (omega arith) ea f in
     let filled2 = at1.row.ensures e n 0 ea refl (omega arith) step1 filled1 in
     let filled4 = at2.row2.ensures e n 1 ea refl (omega arith) step2 (λ m h. filled2 m (omega arith)) in

@@ -6,9 +6,9 @@ use native.Mathlib.Omega.{arith}
 use lib.ListN.{length}
 use borrow.Author.Rules.{rules}
 use Rattle.gf64.specs.Field.{product}
-use Rattle.gf64.proofs.Ring.{product-one-r}
+use Rattle.gf64.proofs.Ring.{product_one_r}
 use Rattle.multiplier.specs.Table.{Filled}
-use Rattle.multiplier.proofs.Entries.{next_place, filled-all}
+use Rattle.multiplier.proofs.Entries.{next_place, filled_all}
 use Rattle.multiplier.proofs.multiples.Statement.{statement}
 use Rattle.multiplier.proofs.multiples.Tie as tie
 
@@ -23,7 +23,7 @@ loop-holds : tie.Need-loop-init invariant-loop decreases-loop
 loop-holds c = (
   search rules,
   search rules,
-  sym (product-one-r c.args.c.0 (search rules)),
+  sym (product_one_r c.args.c.0 (search rules)),
   λ m h. absurd (omega arith),
 )
 
@@ -57,7 +57,7 @@ loop-again c =
 
 returns : tie.Need-returns invariant-loop decreases-loop
 returns c =
-    filled-all c.before.before.args.c.0 c.before.loop.t (λ m h. c.before.loop.invariant.3 m (omega arith))
+    filled_all c.before.before.args.c.0 c.before.loop.t (λ m h. c.before.loop.invariant.3 m (omega arith))
 
 pub multiples-spec : {M : Type 1} → statement M
 multiples-spec =

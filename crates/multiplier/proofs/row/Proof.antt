@@ -6,7 +6,7 @@ use native.Mathlib.Omega.{arith}
 use lib.ListN.{length, length-set}
 use borrow.Author.Rules.{rules}
 use Rattle.multiplier.specs.Table.{RowFilled}
-use Rattle.multiplier.proofs.Entries.{filled_next, from-sum}
+use Rattle.multiplier.proofs.Entries.{filled_next, from_sum}
 use Rattle.multiplier.proofs.row.Statement.{statement}
 use Rattle.multiplier.proofs.row.Tie as tie
 
@@ -60,7 +60,7 @@ loop-again c =
       λ e n k ea ec le es f m h.
           let filled = inv.2 e n k ea ec le es f in
           filled_next e t (at + count + j) _ (omega arith) filled
-          (from-sum e at count n k j _ _ ea ec le (omega arith) (filled (at + j) (omega arith)) es) m (omega arith),
+          (from_sum e at count n k j _ _ ea ec le (omega arith) (filled (at + j) (omega arith)) es) m (omega arith),
     )
 
 same_length : tie.Need-same-length invariant-loop decreases-loop

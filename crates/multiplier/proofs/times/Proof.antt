@@ -8,7 +8,7 @@ use Rattle.gf64.specs.Polynomial.{remainder}
 use Rattle.gf64.proofs.Remainder.{remainder-zero}
 use Rattle.carryless.specs.Window.{wide_of}
 use Rattle.multiplier.specs.Table.{ProductBy}
-use Rattle.multiplier.proofs.Places.{no_bits, more-bits-unreduced, all-bits}
+use Rattle.multiplier.proofs.Places.{no_bits, more_bits_unreduced, all_bits}
 use Rattle.multiplier.proofs.times.Statement.{statement}
 use Rattle.multiplier.proofs.times.Tie as tie
 
@@ -49,7 +49,7 @@ loop-again c =
       search rules,
       λ e m.
           ap remainder c.plus-shifted.ensures
-          ∙ more-bits-unreduced e x 16 at.n (wide_of at.w) _ (at.invariant.1 e m) (c.before.times16.ensures e m),
+          ∙ more_bits_unreduced e x 16 at.n (wide_of at.w) _ (at.invariant.1 e m) (c.before.times16.ensures e m),
     )
 
 reduced-requires : tie.Need-reduced-requires invariant-loop decreases-loop
@@ -59,7 +59,7 @@ returns : tie.Need-returns invariant-loop decreases-loop
 returns c = λ e m.
     let start = c.before.before.before in
     c.reduced.ensures ∙ c.before.before.loop.invariant.1 e m
-    ∙ all-bits e start.args.x 16 _ (omega (arith, start.well-formed)) (omega arith)
+    ∙ all_bits e start.args.x 16 _ (omega (arith, start.well-formed)) (omega arith)
 
 pub times-spec : {M : Type 1} → statement M
 times-spec =

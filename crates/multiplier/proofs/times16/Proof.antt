@@ -8,7 +8,7 @@ use lib.Pow.{pow_pos}
 use lib.Bits.{bit_xor}
 use borrow.Author.Rules.{rules}
 use Rattle.multiplier.specs.Table.{ProductBy}
-use Rattle.multiplier.proofs.Places.{no_bits, more-bits, all-bits}
+use Rattle.multiplier.proofs.Places.{no_bits, more_bits, all_bits}
 use Rattle.multiplier.proofs.times16.Statement.{statement}
 use Rattle.multiplier.proofs.times16.Tie as tie
 
@@ -53,12 +53,12 @@ loop-again c =
       λ e m.
           ap₂ bit_xor (c.before.before.loop.invariant.1 e m)
           (m.at n (x / 2 ^ (4 * n) % 2 ^ 4) (omega arith) (mod-lt (x / 2 ^ (4 * n)) (pow_pos 4)))
-          ∙ more-bits e x 4 n,
+          ∙ more_bits e x 4 n,
     )
 
 returns : tie.Need-returns invariant-loop decreases-loop
 returns c = λ e m.
-    c.before.loop.invariant.1 e m ∙ all-bits e c.before.before.args.x 4 _ c.before.before.requires (omega arith)
+    c.before.loop.invariant.1 e m ∙ all_bits e c.before.before.args.x 4 _ c.before.before.requires (omega arith)
 
 pub times16-spec : {M : Type 1} → statement M
 times16-spec =

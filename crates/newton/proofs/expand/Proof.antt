@@ -5,9 +5,9 @@ use Prim.Native.Nat.{◌-◌, ◌≤◌}
 use lib.ListN.{length}
 use borrow.Rule.Slice.PartMut.{put_mid}
 use Rattle.coset.specs.Coset.{point, points}
-use Rattle.coset.proofs.Points.{length-points, getD-points}
-use Rattle.newton.proofs.Expansion.{expandedFrom, expanded-start, expanded-next, expanded-end}
-use Rattle.newton.proofs.Expansion.{length-expandedFrom}
+use Rattle.coset.proofs.Points.{length-points, get_or-points}
+use Rattle.newton.proofs.Expansion.{expanded_from, expanded_start, expanded_next, expanded_end}
+use Rattle.newton.proofs.Expansion.{length_expanded_from}
 use borrow.Author.Rules.{rules}
 use native.Mathlib.Omega.{arith}
 use Rattle.newton.proofs.expand.Statement.{statement}
@@ -15,7 +15,7 @@ use Rattle.newton.proofs.expand.Tie as tie
 
 abbrev invariant-loop : tie.invariant-loop
 invariant-loop offset basis coefficients₀ i₀ coefficients i =
-    (i ≤ length coefficients₀) × (coefficients ≡ expandedFrom (points offset.0 basis) coefficients₀ i)
+    (i ≤ length coefficients₀) × (coefficients ≡ expanded_from (points offset.0 basis) coefficients₀ i)
     × (length coefficients ≡ length coefficients₀)
 
 abbrev decreases-loop : tie.decreases-loop
@@ -25,7 +25,7 @@ loop-holds : tie.Need-loop-init invariant-loop decreases-loop
 loop-holds c =
     let a = c.before.before.args in (
       search rules,
-      expanded-start (points a.offset.0 a.basis.now) a.coefficients.now
+      expanded_start (points a.offset.0 a.basis.now) a.coefficients.now
           (length-points a.offset.0 a.basis.now ∙ sym c.before.before.requires),
       refl,
     )
@@ -65,14 +65,14 @@ loop-again c =
     let all = points a.offset.0 a.basis.now in
     let as_many : length all ≡ length a.coefficients.now =
     length-points a.offset.0 a.basis.now ∙ sym start.requires in
-    let listed = getD-points a.offset.0 a.basis.now (l.i - 1) (omega (arith, start.requires)) in
+    let listed = get_or-points a.offset.0 a.basis.now (l.i - 1) (omega (arith, start.requires)) in
     let changed = joined.new.0 in
     let now : put_mid (l.i - 1) (length l.coefficients - (l.i - 1)) l.coefficients changed
-    ≡ expandedFrom all a.coefficients.now (l.i - 1) =
-    expanded-next all a.coefficients.now l.coefficients l.i pointed.point.result.0 changed as_many
+    ≡ expanded_from all a.coefficients.now (l.i - 1) =
+    expanded_next all a.coefficients.now l.coefficients l.i pointed.point.result.0 changed as_many
     (omega arith) l.invariant.0 l.invariant.1 (pointed.point.ensures ∙ sym listed) joined.ensures
     in
-    (omega arith, now, ap length now ∙ length-expandedFrom all a.coefficients.now (l.i - 1) as_many (omega arith))
+    (omega arith, now, ap length now ∙ length_expanded_from all a.coefficients.now (l.i - 1) as_many (omega arith))
 
 same_length : tie.Need-same-length invariant-loop decreases-loop
 same_length c = search rules
@@ -81,7 +81,7 @@ returns : tie.Need-returns invariant-loop decreases-loop
 returns c =
     let a = c.before.before.before.before.args in
     let l = c.before.loop in
-    expanded-end (points a.offset.0 a.basis.now) a.coefficients.now l.coefficients l.i
+    expanded_end (points a.offset.0 a.basis.now) a.coefficients.now l.coefficients l.i
     c.loop-test.false l.invariant.1
 
 pub expand-spec : {M : Type 1} → statement M

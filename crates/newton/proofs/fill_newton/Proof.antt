@@ -1,11 +1,11 @@
 -- `newton::fill_newton` meets its contract. The loop's invariant: i coefficients are filled in, the others are values
 -- still. Assumes nothing.
-use Rattle.newton.proofs.NewtonSteps.{coefficient-next, none_passed}
-use Rattle.coset.proofs.Points.{length-points, getD-points, points-distinct}
+use Rattle.newton.proofs.NewtonSteps.{coefficient_next, none_passed}
+use Rattle.coset.proofs.Points.{length-points, get_or-points, points_distinct}
 use Rattle.coset.specs.Coset.{point, points}
-use Rattle.poly.proofs.Newton.{length-newtonCoefficients}
-use Rattle.poly.proofs.Filling.{filled, filled-start, filled_next, filled-rest, filled-all}
-use Rattle.poly.specs.Newton.{newtonCoefficients}
+use Rattle.poly.proofs.Newton.{length-newton_coefficients}
+use Rattle.poly.proofs.Filling.{filled, filled_start, filled_next, filled_rest, filled_all}
+use Rattle.poly.specs.Newton.{newton_coefficients}
 use Rattle.poly.specs.Carrier.{gf64}
 use lib.Seq.{length-take-le}
 use lib.ListN.{length, get_or, set, length-set}
@@ -21,7 +21,7 @@ use Rattle.newton.proofs.fill_newton.Tie as tie
 abbrev invariant-loop : tie.invariant-loop
 invariant-loop offset basis coefficients₀ i₀ coefficients i =
     (i ≤ length coefficients₀)
-    × (coefficients ≡ filled (newtonCoefficients gf64 (points offset.0 basis) coefficients₀) coefficients₀ i)
+    × (coefficients ≡ filled (newton_coefficients gf64 (points offset.0 basis) coefficients₀) coefficients₀ i)
     × (length coefficients ≡ length coefficients₀)
 
 abbrev decreases-loop : tie.decreases-loop
@@ -31,8 +31,8 @@ loop-holds : tie.Need-loop-init invariant-loop decreases-loop
 loop-holds c =
     let a = c.before.before.args in (
       search rules,
-      filled-start
-          (newtonCoefficients gf64 (points a.offset.0 a.basis.now) a.coefficients.now)
+      filled_start
+          (newton_coefficients gf64 (points a.offset.0 a.basis.now) a.coefficients.now)
           a.coefficients.now,
       refl,
     )
@@ -66,9 +66,9 @@ newton-coefficient-requires c κs =
     let inside : l.i < length all = omega (arith, l.invariant.2, start.requires.2, count) in (
       start.requires.0,
       omega (arith, passed, l.invariant.2, start.requires.2),
-      none_passed all l.i _ _ (points-distinct a.offset.0 a.basis.now start.requires.1) inside passed
+      none_passed all l.i _ _ (points_distinct a.offset.0 a.basis.now start.requires.1) inside passed
           (c.before.before.point.ensures
-          ∙ sym (getD-points a.offset.0 a.basis.now l.i (omega (arith, l.invariant.2, start.requires.2)))),
+          ∙ sym (get_or-points a.offset.0 a.basis.now l.i (omega (arith, l.invariant.2, start.requires.2)))),
     )
 
 mul-coefficients : tie.Need-overflow-mul-coefficients invariant-loop decreases-loop
@@ -92,19 +92,19 @@ loop-again c =
     let all = points a.offset.0 a.basis.now in
     let inside : l.i < length values = omega (arith, l.invariant.2) in
     let as_many : length all ≡ length values = length-points a.offset.0 a.basis.now ∙ sym start.requires.2 in
-    let counted = length-newtonCoefficients gf64 all values as_many ∙ as_many in (
+    let counted = length-newton_coefficients gf64 all values as_many ∙ as_many in (
       search rules,
       ap (λ (now : List ℕ). set now l.i c.newton-coefficient.result.0) l.invariant.1
-          ∙ filled_next (newtonCoefficients gf64 all values) values l.i
+          ∙ filled_next (newton_coefficients gf64 all values) values l.i
           c.newton-coefficient.result.0 inside counted
           (c.newton-coefficient.ensures
-          ∙ coefficient-next all values values l.coefficients l.i c.before.before.before.point.result.0
+          ∙ coefficient_next all values values l.coefficients l.i c.before.before.before.point.result.0
           (get_or l.coefficients l.i 0)
           as_many (sym as_many) inside
           (c.before.before.before.point.ensures
-          ∙ sym (getD-points a.offset.0 a.basis.now l.i (omega (arith, start.requires.2))))
+          ∙ sym (get_or-points a.offset.0 a.basis.now l.i (omega (arith, start.requires.2))))
           (ap (λ (now : List ℕ). get_or now l.i 0) l.invariant.1
-          ∙ filled-rest (newtonCoefficients gf64 all values) values l.i l.i (le_of_eq refl) counted)
+          ∙ filled_rest (newton_coefficients gf64 all values) values l.i l.i (le_of_eq refl) counted)
           l.invariant.1),
       length-set l.coefficients l.i c.newton-coefficient.result.0 ∙ l.invariant.2,
     )
@@ -121,9 +121,9 @@ returns c =
     let as_many : length all ≡ length a.coefficients.now = length-points a.offset.0 a.basis.now
     ∙ sym start.requires.2 in
     l.invariant.1
-    ∙ filled-all (newtonCoefficients gf64 all a.coefficients.now) a.coefficients.now l.i
+    ∙ filled_all (newton_coefficients gf64 all a.coefficients.now) a.coefficients.now l.i
     (omega (arith, l.invariant.2))
-    (length-newtonCoefficients gf64 all a.coefficients.now as_many ∙ as_many)
+    (length-newton_coefficients gf64 all a.coefficients.now as_many ∙ as_many)
 
 pub fill-newton-spec : {M : Type 1} → statement M
 fill-newton-spec =

@@ -2,7 +2,7 @@
 use Rattle.newton.proofs.Interpolating.{expanded-interpolated}
 use Rattle.coset.proofs.Points.{length-points}
 use Rattle.coset.specs.Coset.{points}
-use Rattle.poly.proofs.Newton.{length-newtonCoefficients}
+use Rattle.poly.proofs.Newton.{length-newton_coefficients}
 use Rattle.poly.specs.Newton.{expanded}
 use Rattle.poly.specs.Carrier.{gf64}
 use mathlib.Core.Path.{sym, ap, ◌∙◌}
@@ -21,11 +21,11 @@ abbrev allPoints : tie.Start → List ℕ
 allPoints c = points c.args.offset.0 c.args.basis.now
 
 -- the basis and the values are elements
-basis-elements : (c : tie.After-slice-known) → (i : ℕ) → get_or (start_of c).args.basis.now i 0 < 2 ^ 64
-basis-elements c i = omega (arith, c.before.shared-slice-known.given i)
+basis_elements : (c : tie.After-slice-known) → (i : ℕ) → get_or (start_of c).args.basis.now i 0 < 2 ^ 64
+basis_elements c i = omega (arith, c.before.shared-slice-known.given i)
 
-values-elements : (c : tie.After-slice-known) → (i : ℕ) → get_or (start_of c).args.values.now i 0 < 2 ^ 64
-values-elements c i = omega (arith, c.slice-known.given i)
+values_elements : (c : tie.After-slice-known) → (i : ℕ) → get_or (start_of c).args.values.now i 0 < 2 ^ 64
+values_elements c i = omega (arith, c.slice-known.given i)
 
 fill-newton-requires : tie.Need-fill-newton-requires
 fill-newton-requires c κs = (start_of c.before).requires
@@ -35,7 +35,7 @@ expand-requires c κs =
     let start = start_of c.before.before.before.before.before in
     let count = length-points start.args.offset.0 start.args.basis.now in
     ap length c.before.before.before.fill-newton.ensures
-    ∙ length-newtonCoefficients gf64 (allPoints start) start.args.values.now (count ∙ sym start.pre.2) ∙ count
+    ∙ length-newton_coefficients gf64 (allPoints start) start.args.values.now (count ∙ sym start.pre.2) ∙ count
 
 same_length : tie.Need-same-length
 same_length c = search rules
@@ -47,8 +47,8 @@ returns c =
     let start = start_of known in
     let a = start.args in
     c.before.before.expand.ensures ∙ ap (expanded gf64 (allPoints start)) newton.fill-newton.ensures
-    ∙ expanded-interpolated a.offset.0 a.basis.now a.values.now (search rules) (basis-elements known)
-    (values-elements known) start.pre.1 start.pre.2
+    ∙ expanded-interpolated a.offset.0 a.basis.now a.values.now (search rules) (basis_elements known)
+    (values_elements known) start.pre.1 start.pre.2
 
 pub interpolate-in-place-spec : {M : Type 1} → statement M
 interpolate-in-place-spec =

@@ -7,15 +7,15 @@ use borrow.Author.Rules.{rules}
 use native.Mathlib.Omega.{arith}
 use Rattle.gf64.specs.Field.{sum, product}
 use Rattle.poly.specs.Carrier.{gf64}
-use Rattle.poly.specs.Newton.{hornerStep}
-use Rattle.poly.proofs.Filling.{filled, filled-start}
-use Rattle.newton.proofs.Joining.{join-next, join-end}
+use Rattle.poly.specs.Newton.{horner_step}
+use Rattle.poly.proofs.Filling.{filled, filled_start}
+use Rattle.newton.proofs.Joining.{join_next, join_end}
 use Rattle.newton.proofs.join.Statement.{statement}
 use Rattle.newton.proofs.join.Tie as tie
 
 abbrev invariant-loop : tie.invariant-loop
 invariant-loop coefficients₀ x next₀ coefficients next =
-    (1 ≤ next) × (coefficients ≡ filled (hornerStep gf64 x.0 coefficients₀) coefficients₀ (next - 1))
+    (1 ≤ next) × (coefficients ≡ filled (horner_step gf64 x.0 coefficients₀) coefficients₀ (next - 1))
     × (length coefficients ≡ length coefficients₀)
 
 abbrev decreases-loop : tie.decreases-loop
@@ -24,7 +24,7 @@ decreases-loop coefficients₀ x next₀ coefficients next = length coefficients
 loop-holds : tie.Need-loop-init invariant-loop decreases-loop
 loop-holds c = (
   search rules,
-  filled-start (hornerStep gf64 c.before.args.x.0 c.before.args.coefficients.now)
+  filled_start (horner_step gf64 c.before.args.x.0 c.before.args.coefficients.now)
       c.before.args.coefficients.now,
   refl,
 )
@@ -69,7 +69,7 @@ loop-again c =
       search rules,
       ap (set l.coefficients (l.next - 1))
           (c.sum.ensures ∙ ap (sum (get_or l.coefficients (l.next - 1) 0)) c.before.product.ensures.0)
-          ∙ join-next a.x.0 a.coefficients.now l.coefficients l.next l.invariant.0
+          ∙ join_next a.x.0 a.coefficients.now l.coefficients l.next l.invariant.0
           (omega (arith, l.invariant.2)) l.invariant.1,
       length-set l.coefficients (l.next - 1) c.sum.result.0 ∙ l.invariant.2,
     )
@@ -81,7 +81,7 @@ returns : tie.Need-returns invariant-loop decreases-loop
 returns c =
     let a = c.before.before.before.args in
     let l = c.before.loop in
-    join-end a.x.0 a.coefficients.now l.coefficients l.next l.invariant.0 (omega (arith, l.invariant.2))
+    join_end a.x.0 a.coefficients.now l.coefficients l.next l.invariant.0 (omega (arith, l.invariant.2))
     l.invariant.1
 
 pub join-spec : {M : Type 1} → statement M

@@ -7,12 +7,12 @@ use lib.ListN.{length, get_or, take}
 use lib.Count.{count_trailing_zeros}
 use Rattle.gf64.specs.Field.{sum, product}
 use Rattle.poly.specs.Carrier.{gf64}
-use Rattle.poly.specs.Newton.{newtonValue, vanishing}
+use Rattle.poly.specs.Newton.{newton_value, vanishing}
 use Rattle.coset.specs.Coset.{point, points}
-use Rattle.coset.proofs.Dependence.{point-first}
-use Rattle.coset.proofs.Points.{length-points, getD-points}
-use Rattle.coset.proofs.Sequence.{point-stepped}
-use Rattle.newton.proofs.NewtonSteps.{value-next, vanishing-next, not-passed, coefficient-end}
+use Rattle.coset.proofs.Dependence.{point_first}
+use Rattle.coset.proofs.Points.{length-points, get_or-points}
+use Rattle.coset.proofs.Sequence.{point_stepped}
+use Rattle.newton.proofs.NewtonSteps.{value_next, vanishing_next, not_passed, coefficient_end}
 use borrow.Author.Rules.{rules}
 use native.Mathlib.Omega.{arith}
 use Rattle.newton.proofs.newton_coefficient.Statement.{statement}
@@ -20,7 +20,7 @@ use Rattle.newton.proofs.newton_coefficient.Tie as tie
 
 abbrev invariant-loop : tie.invariant-loop
 invariant-loop basis known z y sums value₀ weight₀ x₀ j₀ value product x j =
-    (j ≤ length known) × (value.0 ≡ newtonValue gf64 (take j (points x₀.0 basis)) (take j known) z.0)
+    (j ≤ length known) × (value.0 ≡ newton_value gf64 (take j (points x₀.0 basis)) (take j known) z.0)
     × (product.0 ≡ vanishing gf64 (take j (points x₀.0 basis)) z.0)
     × (j < length known → x.0 ≡ point x₀.0 basis j)
 
@@ -34,10 +34,10 @@ prefix-sums-requires : tie.Need-prefix-sums-requires invariant-loop decreases-lo
 prefix-sums-requires c κs = search rules
 
 loop-holds : tie.Need-loop-init invariant-loop decreases-loop
-unfolding newtonValue vanishing
+unfolding newton_value vanishing
 loop-holds c =
     let a = c.before.before.before.args in
-    (search rules, refl, refl, λ h. sym (point-first a.offset.0 a.basis.now))
+    (search rules, refl, refl, λ h. sym (point_first a.offset.0 a.basis.now))
 
 mul-t12 : tie.Need-overflow-mul-t12 invariant-loop decreases-loop
 mul-t12 c = search rules
@@ -82,18 +82,18 @@ loop-again c =
     let among : l.j < length all = omega (arith, length-points a.offset.0 a.basis.now) in
     let first = l.invariant.3 inside in
     let listed : l.x.0 ≡ get_or all l.j 0 = first
-    ∙ sym (getD-points a.offset.0 a.basis.now l.j below) in (
+    ∙ sym (get_or-points a.offset.0 a.basis.now l.j below) in (
       search rules,
       summed.sum.ensures ∙ ap (sum l.value.0) summed.before.product.ensures.0
-          ∙ value-next all a.known.now l.j a.z.0 l.value.0 l.vanishing.0 among inside
+          ∙ value_next all a.known.now l.j a.z.0 l.value.0 l.vanishing.0 among inside
           (omega (arith, summed.before.before.shared-slice-known3.given l.j)) l.invariant.1 l.invariant.2,
       c.before.before.product2.ensures.0
           ∙ ap (product l.vanishing.0) (c.before.before.before.sum2.ensures ∙ ap (sum a.z.0) listed)
-          ∙ vanishing-next all l.j a.z.0 l.vanishing.0 among l.invariant.2,
+          ∙ vanishing_next all l.j a.z.0 l.vanishing.0 among l.invariant.2,
       λ h. c.stepped.ensures
           ∙ ap (λ (sums : List ℕ). sum l.x.0 (get_or sums (count_trailing_zeros 64 (l.j + 1)) 0))
           at.before.prefix-sums.ensures
-          ∙ point-stepped a.offset.0 a.basis.now l.j l.x.0 (omega (arith, start.pre.0)) first
+          ∙ point_stepped a.offset.0 a.basis.now l.j l.x.0 (omega (arith, start.pre.0)) first
           (omega (arith, start.pre.1)),
     )
 
@@ -105,7 +105,7 @@ inverse-of-nonzero-requires c κs =
     let at = c.before.before in
     let start = start_of at in
     let l = at.loop in
-    not-passed start.args.offset.0 start.args.basis.now l.j (length start.args.known.now)
+    not_passed start.args.offset.0 start.args.basis.now l.j (length start.args.known.now)
     start.args.z.0 l.vanishing.0 (search rules) (search rules)
     (λ i. omega (arith, at.before.before.before.shared-slice-known.given i)) (omega arith) start.pre.2
     l.invariant.2
@@ -118,7 +118,7 @@ returns c =
     let a = c.before.before.before.before.before.before.before.before.args in
     let l = c.before.before.before.before.loop in
     c.product3.ensures.0 ∙ ap₂ product c.before.before.sum3.ensures c.before.inverse-of-nonzero.ensures
-    ∙ coefficient-end (points a.offset.0 a.basis.now) a.known.now l.j a.z.0 a.y.0 l.value.0
+    ∙ coefficient_end (points a.offset.0 a.basis.now) a.known.now l.j a.z.0 a.y.0 l.value.0
     l.vanishing.0
     l.invariant.0 c.before.before.before.loop-test.false l.invariant.1 l.invariant.2
 

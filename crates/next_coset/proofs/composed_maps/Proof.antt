@@ -4,8 +4,8 @@ use mathlib.Core.Path.{◌≡◌, refl, sym, ap, ◌∙◌}
 use Prim.Native.Nat.{◌+◌, ◌-◌, ◌≤◌}
 use lib.ListN.{length, drop}
 use Rattle.gf64.specs.Field.{product}
-use Rattle.coset.specs.Steps.{composedMaps}
-use Rattle.coset.proofs.Steps.{through-next, through-end}
+use Rattle.coset.specs.Steps.{composed_maps}
+use Rattle.coset.proofs.Steps.{through_next, through_end}
 use borrow.Author.Rules.{rules}
 use native.Mathlib.Omega.{arith}
 use Rattle.next_coset.proofs.composed_maps.Statement.{statement}
@@ -13,7 +13,7 @@ use Rattle.next_coset.proofs.composed_maps.Tie as tie
 
 abbrev invariant-loop : tie.invariant-loop
 invariant-loop elements y₀ i₀ y i = (i ≤ length elements)
-    × (composedMaps (drop i elements) y.0 ≡ composedMaps elements y₀.0)
+    × (composed_maps (drop i elements) y.0 ≡ composed_maps elements y₀.0)
 
 abbrev decreases-loop : tie.decreases-loop
 decreases-loop elements y₀ i₀ y i = length elements - i
@@ -44,16 +44,16 @@ loop-again c =
     let elements = c.before.before.before.before.before.before.args.elements.now in
     let l = c.before.before.before.before.loop in (
       search rules,
-      ap (composedMaps (drop (l.i + 1) elements))
+      ap (composed_maps (drop (l.i + 1) elements))
           (c.product.ensures.0 ∙ ap (product l.y.0) c.before.sum.ensures)
-          ∙ through-next elements l.i l.y.0 (omega arith) ∙ l.invariant.1,
+          ∙ through_next elements l.i l.y.0 (omega arith) ∙ l.invariant.1,
     )
 
 returns : tie.Need-returns invariant-loop decreases-loop
 returns c =
     let elements = c.before.before.before.args.elements.now in
     let l = c.before.loop in
-    sym (through-end elements l.i l.y.0 c.loop-test.false) ∙ l.invariant.1
+    sym (through_end elements l.i l.y.0 c.loop-test.false) ∙ l.invariant.1
 
 pub composed-maps-spec : {M : Type 1} → statement M
 composed-maps-spec =

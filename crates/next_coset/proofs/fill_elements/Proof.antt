@@ -6,9 +6,9 @@ use Prim.Native.Nat.{ℕ, ◌-◌, ◌≤◌}
 use native.Mathlib.Nat.{le_refl}
 use lib.ListN.{length, take, drop, get_or, set, length-set}
 use lib.Seq.{length-take-le}
-use Rattle.poly.proofs.Filling.{filled, filled-start, front-next, front-taken, front-done}
-use Rattle.coset.specs.Steps.{composedMaps, stepElements}
-use Rattle.coset.proofs.Steps.{length-elements, element-at}
+use Rattle.poly.proofs.Filling.{filled, filled_start, front_next, front_taken, front_done}
+use Rattle.coset.specs.Steps.{composed_maps, step_elements}
+use Rattle.coset.proofs.Steps.{length-elements, element_at}
 use borrow.Author.Rules.{rules}
 use native.Mathlib.Omega.{arith}
 use Rattle.next_coset.proofs.fill_elements.Statement.{statement}
@@ -16,7 +16,7 @@ use Rattle.next_coset.proofs.fill_elements.Tie as tie
 
 -- all elements, as many as the basis has
 abbrev whole : List ℕ → List ℕ
-whole basis = stepElements (length basis) basis
+whole basis = step_elements (length basis) basis
 
 length_whole : (basis : List ℕ) → length (whole basis) ≡ length basis
 length_whole basis = length-elements (length basis) basis (le_refl (length basis))
@@ -40,7 +40,7 @@ loop-holds : tie.Need-loop-init invariant-loop decreases-loop
 loop-holds c =
     let a = c.before.before.args in
     let front = whole a.basis.now in
-    (search rules, refl, filled-start (front ++ drop (length front) a.elements.now) a.elements.now)
+    (search rules, refl, filled_start (front ++ drop (length front) a.elements.now) a.elements.now)
 
 mul-b : tie.Need-overflow-mul-b invariant-loop decreases-loop
 mul-b c = search rules
@@ -85,12 +85,12 @@ loop-again c =
       search rules,
       length-set l.elements l.t element ∙ l.invariant.1,
       ap (λ (now : List ℕ). set now l.t element) l.invariant.2
-          ∙ front-next (whole basis) held l.t element (omega (arith, count)) (omega (arith, count, start.requires))
+          ∙ front_next (whole basis) held l.t element (omega (arith, count)) (omega (arith, count, start.requires))
           (c.composed-maps.ensures
-          ∙ ap (λ (now : List ℕ). composedMaps now (get_or basis l.t 0))
+          ∙ ap (λ (now : List ℕ). composed_maps now (get_or basis l.t 0))
           (ap (take l.t) l.invariant.2
-          ∙ front-taken (whole basis) held l.t (omega (arith, count)) (omega (arith, count, start.requires)))
-          ∙ element-at (length basis) basis l.t (omega arith) (le_refl (length basis))),
+          ∙ front_taken (whole basis) held l.t (omega (arith, count)) (omega (arith, count, start.requires)))
+          ∙ element_at (length basis) basis l.t (omega arith) (le_refl (length basis))),
     )
 
 same_length : tie.Need-same-length invariant-loop decreases-loop
@@ -103,7 +103,7 @@ returns c =
     let held = start.args.elements.now in
     let l = c.before.loop in
     let count = length_whole basis in
-    l.invariant.2 ∙ front-done (whole basis) held l.t (omega (arith, count)) (omega (arith, count, start.requires))
+    l.invariant.2 ∙ front_done (whole basis) held l.t (omega (arith, count)) (omega (arith, count, start.requires))
     ∙ ap (λ (n : ℕ). whole basis ++ drop n held) count
 
 pub fill-elements-spec : {M : Type 1} → statement M

@@ -4,8 +4,8 @@ use mathlib.Core.Path.{◌≡◌, refl, sym, ap, ◌∙◌}
 use mathlib.Core.List.{List, map, ◌++◌}
 use Prim.Native.Nat.{ℕ, ◌-◌, ◌≤◌}
 use lib.ListN.{length, drop, set, length-map, length-set}
-use Rattle.poly.proofs.Filling.{filled, filled-start, front-next, front-done, get_d_map}
-use Rattle.coset.specs.Steps.{composedMaps}
+use Rattle.poly.proofs.Filling.{filled, filled_start, front_next, front_done, get_d_map}
+use Rattle.coset.specs.Steps.{composed_maps}
 use borrow.Author.Rules.{rules}
 use native.Mathlib.Omega.{arith}
 use Rattle.next_coset.proofs.fill_images.Statement.{statement}
@@ -14,8 +14,8 @@ use Rattle.next_coset.proofs.fill_images.Tie as tie
 abbrev invariant-loop : tie.invariant-loop
 invariant-loop elements xs images₀ i₀ images i =
     (i ≤ length xs) × (length images ≡ length images₀)
-    × (images ≡ filled (map (composedMaps elements) xs ++ drop
-    (length (map (composedMaps elements) xs)) images₀) images₀ i)
+    × (images ≡ filled (map (composed_maps elements) xs ++ drop
+    (length (map (composed_maps elements) xs)) images₀) images₀ i)
 
 abbrev decreases-loop : tie.decreases-loop
 decreases-loop elements xs images₀ i₀ images i = length xs - i
@@ -23,8 +23,8 @@ decreases-loop elements xs images₀ i₀ images i = length xs - i
 loop-holds : tie.Need-loop-init invariant-loop decreases-loop
 loop-holds c =
     let a = c.before.before.before.args in
-    let front = map (composedMaps a.elements.now) a.xs.now in
-    (search rules, refl, filled-start (front ++ drop (length front) a.images.now) a.images.now)
+    let front = map (composed_maps a.elements.now) a.xs.now in
+    (search rules, refl, filled_start (front ++ drop (length front) a.images.now) a.images.now)
 
 mul-x : tie.Need-overflow-mul-x invariant-loop decreases-loop
 mul-x c = search rules
@@ -53,14 +53,14 @@ loop-again c =
     let a = start.args in
     let l = c.before.before.before.loop in
     let image = c.composed-maps.result.0 in
-    let front = map (composedMaps a.elements.now) a.xs.now in
-    let count = length-map a.xs.now (composedMaps a.elements.now) in (
+    let front = map (composed_maps a.elements.now) a.xs.now in
+    let count = length-map a.xs.now (composed_maps a.elements.now) in (
       search rules,
       length-set l.images l.i image ∙ l.invariant.1,
       ap (λ (held : List ℕ). set held l.i image) l.invariant.2
-          ∙ front-next front a.images.now l.i image (omega (arith, count)) (omega (arith, count, start.requires))
+          ∙ front_next front a.images.now l.i image (omega (arith, count)) (omega (arith, count, start.requires))
           (c.composed-maps.ensures
-          ∙ sym (get_d_map (composedMaps a.elements.now) a.xs.now l.i (omega arith))),
+          ∙ sym (get_d_map (composed_maps a.elements.now) a.xs.now l.i (omega arith))),
     )
 
 same_length : tie.Need-same-length invariant-loop decreases-loop
@@ -71,10 +71,10 @@ returns c =
     let start = c.before.before.before.before.before in
     let a = start.args in
     let l = c.before.loop in
-    let front = map (composedMaps a.elements.now) a.xs.now in
-    let count = length-map a.xs.now (composedMaps a.elements.now) in
+    let front = map (composed_maps a.elements.now) a.xs.now in
+    let count = length-map a.xs.now (composed_maps a.elements.now) in
     l.invariant.2
-    ∙ front-done front a.images.now l.i (omega (arith, count)) (omega (arith, count, start.requires))
+    ∙ front_done front a.images.now l.i (omega (arith, count)) (omega (arith, count, start.requires))
     ∙ ap (λ (n : ℕ). front ++ drop n a.images.now) count
 
 pub fill-images-spec : {M : Type 1} → statement M

@@ -1,6 +1,6 @@
 -- `next_coset::next_basis` meets its contract. Assumes nothing.
-use Rattle.coset.proofs.Subspace.{next-padded}
-use Rattle.coset.proofs.Points.{all-elements}
+use Rattle.coset.proofs.Subspace.{next_padded}
+use Rattle.coset.proofs.Points.{all_elements}
 use lib.Seq.{length-take-le}
 use lib.ListN.{length, drop, length-drop}
 use Prim.Native.Nat.{◌-◌}
@@ -52,9 +52,9 @@ returns : tie.Need-returns
 returns c =
     let start = c.before.before.before.before.before.before.before in
     let basis = start.args.basis.now in
-    next-padded 20 start.args.step basis c.before.before.before.before.before.step-elements.result
+    next_padded 20 start.args.step basis c.before.before.before.before.before.step-elements.result
     c.before.fill-images.new.1.1.0
-    (all-elements basis (λ i. omega
+    (all_elements basis (λ i. omega
     (arith, c.before.before.before.before.before.before.shared-slice-known.given i))) start.requires.1
     c.before.before.before.before.before.step-elements.ensures c.before.fill-images.ensures
 

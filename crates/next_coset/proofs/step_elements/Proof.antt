@@ -5,8 +5,8 @@ use lib.ListN.{length, take}
 use lib.Seq.{length-take-le}
 use Rattle.poly.specs.Carrier.{gf64}
 use Rattle.poly.specs.Polynomial.{padded}
-use Rattle.coset.specs.Steps.{stepElements}
-use Rattle.coset.proofs.Steps.{elements-of-prefix}
+use Rattle.coset.specs.Steps.{step_elements}
+use Rattle.coset.proofs.Steps.{elements_of_prefix}
 use Rattle.coset.proofs.Subspace.{elements-padded}
 use borrow.Author.Rules.{rules}
 use native.Mathlib.Omega.{arith}
@@ -38,7 +38,7 @@ returns c =
     let basis = start.args.basis.now in
     elements-padded 3 (take step basis) c.before.fill-elements.new.1.0 c.before.fill-elements.ensures
     ∙ ap (padded gf64 3)
-    (ap (λ (n : ℕ). stepElements n (take step basis)) (counted start) ∙ elements-of-prefix step basis)
+    (ap (λ (n : ℕ). step_elements n (take step basis)) (counted start) ∙ elements_of_prefix step basis)
 
 pub step-elements-spec : {M : Type 1} → statement M
 step-elements-spec =

@@ -7,7 +7,7 @@ use lib.ListN.{length, drop}
 use borrow.Author.Rules.{rules}
 use native.Mathlib.Omega.{arith}
 use Rattle.coset.specs.Coset.{point}
-use Rattle.points.proofs.IndexBits.{bit-set, bit-clear, bits-end}
+use Rattle.points.proofs.IndexBits.{bit_set, bit_clear, bits_end}
 use Rattle.points.proofs.point.Statement.{statement}
 use Rattle.points.proofs.point.Tie as tie
 
@@ -43,9 +43,9 @@ loop-again c =
       search rules,
       ⊎_elim
           (λ k. ap (λ (p : ℕ). point p (drop (l.t + 1) basis) (l.bits / 2)) (ap (λ e. e.0) k.3 ∙ k.2.ensures)
-          ∙ bit-set l.point.0 basis l.t l.bits (omega arith) k.0.taken)
+          ∙ bit_set l.point.0 basis l.t l.bits (omega arith) k.0.taken)
           (λ k. ap (λ (p : ℕ). point p (drop (l.t + 1) basis) (l.bits / 2)) (ap (λ e. e.0) k.1)
-          ∙ bit-clear l.point.0 basis l.t l.bits (omega arith) k.0.left)
+          ∙ bit_clear l.point.0 basis l.t l.bits (omega arith) k.0.left)
           c.if1.branch
           ∙ l.invariant.1,
     )
@@ -53,7 +53,7 @@ loop-again c =
 returns : tie.Need-returns invariant-loop decreases-loop
 returns c =
     let l = c.before.loop in
-    bits-end l.point.0 c.before.before.before.args.basis.now l.t l.bits c.loop-test.false
+    bits_end l.point.0 c.before.before.before.args.basis.now l.t l.bits c.loop-test.false
     ∙ l.invariant.1
 
 pub point-spec : {M : Type 1} → statement M

@@ -10,16 +10,16 @@ use borrow.Author.Rules.{rules}
 use native.Mathlib.Omega.{arith}
 use Rattle.poly.specs.Carrier.{gf64}
 use Rattle.poly.specs.Polynomial.{padded}
-use Rattle.poly.proofs.Filling.{filled, filled-start, padded-next, filled-padded}
-use Rattle.coset.specs.Sequence.{prefixSums}
-use Rattle.coset.proofs.Sequence.{length-prefixSums, prefixSums-taken}
+use Rattle.poly.proofs.Filling.{filled, filled_start, padded_next, filled_padded}
+use Rattle.coset.specs.Sequence.{prefix_sums}
+use Rattle.coset.proofs.Sequence.{length-prefix_sums, prefix_sums_taken}
 use Rattle.points.proofs.prefix_sums.Statement.{statement}
 use Rattle.points.proofs.prefix_sums.Tie as tie
 
 abbrev invariant-loop : tie.invariant-loop
 invariant-loop basis count sums₀ sum₀ t₀ sums sum t =
-    (t ≤ count) × (count ≡ min (length basis) 20) × (sum ≡ get_or (0 ∷ prefixSums 0 (take 20 basis)) t 0)
-    × (sums ≡ filled (padded gf64 20 (prefixSums 0 (take 20 basis))) (replicate 20 0) t)
+    (t ≤ count) × (count ≡ min (length basis) 20) × (sum ≡ get_or (0 ∷ prefix_sums 0 (take 20 basis)) t 0)
+    × (sums ≡ filled (padded gf64 20 (prefix_sums 0 (take 20 basis))) (replicate 20 0) t)
 
 abbrev decreases-loop : tie.decreases-loop
 decreases-loop basis count sums₀ sum₀ t₀ sums sum t = count - t
@@ -32,8 +32,8 @@ loop-holds c = (
   search rules,
   c.lesser.ensures,
   refl,
-  filled-start
-      (padded gf64 20 (prefixSums 0 (take 20 c.before.before.args.basis.now))) (replicate 20 0),
+  filled_start
+      (padded gf64 20 (prefix_sums 0 (take 20 c.before.before.args.basis.now))) (replicate 20 0),
 )
 
 mul-sum : tie.Need-overflow-mul-sum invariant-loop decreases-loop
@@ -59,15 +59,15 @@ loop-again c =
     let basis = c.before.before.before.before.before.args.basis.now in
     let l = c.before.before.loop in
     let next = bit_xor l.sum (get_or basis l.t 0) in
-    let is-next : next ≡ get_or (prefixSums 0 (take 20 basis)) l.t 0 = prefixSums-taken basis l.t l.sum
+    let is-next : next ≡ get_or (prefix_sums 0 (take 20 basis)) l.t 0 = prefix_sums_taken basis l.t l.sum
     (omega arith) l.invariant.2 in (
       search rules,
       l.invariant.1,
-      is-next ∙ ap (λ (n : ℕ). get_or (0 ∷ prefixSums 0 (take 20 basis)) n 0) (sym (add-one l.t)),
+      is-next ∙ ap (λ (n : ℕ). get_or (0 ∷ prefix_sums 0 (take 20 basis)) n 0) (sym (add-one l.t)),
       ap (λ (held : List ℕ). set held l.t next) l.invariant.3
-          ∙ padded-next 20 (prefixSums 0 (take 20 basis)) l.t next
-          (omega (arith, length-prefixSums 0 (take 20 basis), length-take 20 basis, l.invariant.1))
-          (omega (arith, length-prefixSums 0 (take 20 basis), length-take 20 basis)) is-next,
+          ∙ padded_next 20 (prefix_sums 0 (take 20 basis)) l.t next
+          (omega (arith, length-prefix_sums 0 (take 20 basis), length-take 20 basis, l.invariant.1))
+          (omega (arith, length-prefix_sums 0 (take 20 basis), length-take 20 basis)) is-next,
     )
 
 returns : tie.Need-returns invariant-loop decreases-loop
@@ -75,9 +75,9 @@ returns c =
     let basis = c.before.before.before.before.args.basis.now in
     let l = c.before.loop in
     l.invariant.3
-    ∙ filled-padded 20 (prefixSums 0 (take 20 basis)) l.t
-    (omega (arith, length-prefixSums 0 (take 20 basis), length-take 20 basis, l.invariant.1))
-    (omega (arith, length-prefixSums 0 (take 20 basis), length-take 20 basis))
+    ∙ filled_padded 20 (prefix_sums 0 (take 20 basis)) l.t
+    (omega (arith, length-prefix_sums 0 (take 20 basis), length-take 20 basis, l.invariant.1))
+    (omega (arith, length-prefix_sums 0 (take 20 basis), length-take 20 basis))
 
 pub prefix-sums-spec : {M : Type 1} → statement M
 prefix-sums-spec =

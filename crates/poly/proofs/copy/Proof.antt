@@ -1,6 +1,6 @@
 -- `poly::copy` meets its contract. The loop's invariant: i entries are copied, the others as
 -- they were. Assumes nothing.
-use Rattle.poly.proofs.Filling.{filled, filled-start, front-next, front-done}
+use Rattle.poly.proofs.Filling.{filled, filled_start, front_next, front_done}
 use lib.ListN.{length, get_or, drop, set, length-set}
 use Prim.Native.Nat.{ℕ, ◌-◌, ◌≤◌}
 use mathlib.Core.List.{List, ◌++◌}
@@ -20,7 +20,7 @@ decreases-loop from to₀ i₀ to i = length from - i
 loop-holds : tie.Need-loop-init invariant-loop decreases-loop
 loop-holds c =
     let a = c.args in
-    (search rules, refl, filled-start (a.from.now ++ drop (length a.from.now) a.to.now) a.to.now)
+    (search rules, refl, filled_start (a.from.now ++ drop (length a.from.now) a.to.now) a.to.now)
 
 mul-to : tie.Need-overflow-mul-to invariant-loop decreases-loop
 mul-to c = search rules
@@ -48,7 +48,7 @@ loop-again c =
       search rules,
       length-set l.to l.i entry ∙ l.invariant.1,
       ap (λ (held : List ℕ). set held l.i entry) l.invariant.2
-          ∙ front-next a.from.now a.to.now l.i entry (omega arith) c.before.before.before.requires refl,
+          ∙ front_next a.from.now a.to.now l.i entry (omega arith) c.before.before.before.requires refl,
     )
 
 same_length : tie.Need-same-length invariant-loop decreases-loop
@@ -58,7 +58,7 @@ returns : tie.Need-returns invariant-loop decreases-loop
 returns c =
     let a = c.before.before.args in
     let l = c.before.loop in
-    l.invariant.2 ∙ front-done a.from.now a.to.now l.i (omega arith) c.before.before.requires
+    l.invariant.2 ∙ front_done a.from.now a.to.now l.i (omega arith) c.before.before.requires
 
 pub copy_spec : {M : Type 1} → statement M
 copy_spec =

@@ -1,6 +1,6 @@
 -- `poly::degree_bound` meets its contract. The loop's invariant: the degree is below the bound. Assumes nothing.
-use Rattle.poly.proofs.Degree.{bound-falls, bound-least, bound-within}
-use Rattle.poly.specs.Degree.{degreeBound}
+use Rattle.poly.proofs.Degree.{bound_falls, bound_least, bound_within}
+use Rattle.poly.specs.Degree.{degree_bound}
 use lib.ListN.{length}
 use Prim.Native.Nat.{suc, ◌-◌, ◌≤◌}
 use mathlib.Core.Path.{◌≡◌, sym, ◌∙◌}
@@ -10,13 +10,13 @@ use Rattle.poly.proofs.degree_bound.Statement.{statement}
 use Rattle.poly.proofs.degree_bound.Tie as tie
 
 abbrev invariant-loop : tie.invariant-loop
-invariant-loop coefficients bound₀ bound = (bound ≤ length coefficients) × (degreeBound coefficients ≤ bound)
+invariant-loop coefficients bound₀ bound = (bound ≤ length coefficients) × (degree_bound coefficients ≤ bound)
 
 abbrev decreases-loop : tie.decreases-loop
 decreases-loop coefficients bound₀ bound = bound
 
 loop-holds : tie.Need-loop-init invariant-loop decreases-loop
-loop-holds c = (search rules, bound-within c.args.coefficients.now)
+loop-holds c = (search rules, bound_within c.args.coefficients.now)
 
 sub-if1 : tie.Need-overflow-sub-if1 invariant-loop decreases-loop
 sub-if1 c = search rules
@@ -32,8 +32,8 @@ returns c =
     let p = c.before.before.before.before.args.coefficients.now in
     let bound = c.before.before.before.loop.bound in
     let one_less : suc (bound - 1) ≡ bound = omega arith in
-    let stands : degreeBound p ≤ suc (bound - 1) = omega (arith, one_less, c.before.before.before.loop.invariant.1) in
-    sym one_less ∙ bound-least p (bound - 1) (omega arith) stands c.if1.true
+    let stands : degree_bound p ≤ suc (bound - 1) = omega (arith, one_less, c.before.before.before.loop.invariant.1) in
+    sym one_less ∙ bound_least p (bound - 1) (omega arith) stands c.if1.true
 
 sub-bound : tie.Need-overflow-sub-bound invariant-loop decreases-loop
 sub-bound c = search rules
@@ -46,8 +46,8 @@ loop-again c =
     let p = c.before.before.before.before.args.coefficients.now in
     let bound = c.before.before.before.loop.bound in
     let one_less : suc (bound - 1) ≡ bound = omega arith in
-    let stands : degreeBound p ≤ suc (bound - 1) = omega (arith, one_less, c.before.before.before.loop.invariant.1) in
-    (search rules, bound-falls p (bound - 1) (omega arith) stands c.if1.false)
+    let stands : degree_bound p ≤ suc (bound - 1) = omega (arith, one_less, c.before.before.before.loop.invariant.1) in
+    (search rules, bound_falls p (bound - 1) (omega arith) stands c.if1.false)
 
 returns-2 : tie.Need-returns-2 invariant-loop decreases-loop
 returns-2 c = omega (arith, c.before.loop.invariant.1)

@@ -8,7 +8,7 @@ use lib.ListN.{length, drop, get_or}
 use Rattle.gf64.specs.Field.{sum, product}
 use Rattle.poly.specs.Carrier.{gf64}
 use Rattle.poly.specs.Polynomial.{evaluate}
-use Rattle.poly.proofs.Horner.{horner-end, horner-step, horner-start}
+use Rattle.poly.proofs.Horner.{horner_end, horner_step, horner_start}
 use Rattle.poly.proofs.evaluate.Statement.{statement}
 use Rattle.poly.proofs.evaluate.Tie as tie
 
@@ -20,7 +20,7 @@ abbrev decreases-loop : tie.decreases-loop
 decreases-loop coefficients x value₀ i₀ value i = i
 
 loop-holds : tie.Need-loop-init invariant-loop decreases-loop
-loop-holds c = (search rules, horner-end c.before.args.coefficients.now c.before.args.x.0)
+loop-holds c = (search rules, horner_end c.before.args.coefficients.now c.before.args.x.0)
 
 sub-i : tie.Need-overflow-sub-i invariant-loop decreases-loop
 sub-i c = search rules
@@ -46,13 +46,13 @@ loop-again c =
     let l = c.before.before.before.before.loop in (
       search rules,
       c.sum.ensures ∙ ap (sum (get_or a.coefficients.now (l.i - 1) 0)) c.before.product.ensures.0
-          ∙ horner-step a.coefficients.now l.i a.x.0 l.value.0 (omega arith) l.invariant.0 l.invariant.1,
+          ∙ horner_step a.coefficients.now l.i a.x.0 l.value.0 (omega arith) l.invariant.0 l.invariant.1,
     )
 
 returns : tie.Need-returns invariant-loop decreases-loop
 returns c =
     let a = c.before.before.before.args in
-    horner-start a.coefficients.now c.before.loop.i a.x.0 c.before.loop.value.0 c.loop-test.false
+    horner_start a.coefficients.now c.before.loop.i a.x.0 c.before.loop.value.0 c.loop-test.false
     c.before.loop.invariant.1
 
 pub evaluate-spec : {M : Type 1} → statement M

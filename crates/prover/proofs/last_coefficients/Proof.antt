@@ -3,7 +3,7 @@ use Prim.Native.Nat.{◌≤◌, ◌<◌}
 use lib.ListN.{length}
 use mathlib.Core.Path.{sym}
 use lib.Seq.{length-take-le}
-use Rattle.prover.proofs.Last.{taken-fit, degree-told, coefficients-written}
+use Rattle.prover.proofs.Last.{taken_fit, degree_told, coefficients_written}
 use borrow.Author.Rules.{rules}
 use native.Mathlib.Omega.{arith}
 use Rattle.prover.proofs.last_coefficients.Statement.{statement}
@@ -20,7 +20,7 @@ returns c =
     let a = c.before.before.before.before.args in
     let bound = c.before.degree-bound in
     let over : length a.last.now < bound.result = omega (arith, c.if1.true) in
-    degree-told a.interpolant.now a.last.now bound.result bound.ensures over
+    degree_told a.interpolant.now a.last.now bound.result bound.ensures over
 
 slice-aggregate-copy : tie.Need-slice-aggregate-copy
 slice-aggregate-copy c =
@@ -28,7 +28,7 @@ slice-aggregate-copy c =
     sym (length-take-le _ start.args.interpolant.now (omega (arith, start.requires)))
 
 copy-requires : tie.Need-copy-requires
-copy-requires c κs = search (rules, taken-fit)
+copy-requires c κs = search (rules, taken_fit)
 
 same_length : tie.Need-same-length
 same_length c = search rules
@@ -41,7 +41,7 @@ returns-2 c =
     let bound = else1.before.degree-bound in
     let copy = c.before.before.copy in
     let within : bound.result ≤ length a.last.now = omega (arith, else1.if1.false) in
-    coefficients-written a.interpolant.now a.last.now bound.result bound.ensures within start.requires
+    coefficients_written a.interpolant.now a.last.now bound.result bound.ensures within start.requires
     copy.new.1.0 copy.ensures
 
 pub last-coefficients-spec : {M : Type 1} → statement M

@@ -3,12 +3,12 @@ use mathlib.Core.Path.{◌≡◌, sym, ap, ◌∙◌}
 use Rattle.refusal.specs.declared.Outcome.TheVariants.{Done}
 use Rattle.refusal.specs.declared.Outcome.{Outcome}
 use Rattle.refusal.specs.Checks.{afterwards}
-use Rattle.refusal.proofs.Checks.{then-passed, done-holds}
+use Rattle.refusal.proofs.Checks.{then_passed, done_holds}
 use Rattle.fri.specs.Run.{Run}
-use Rattle.fri.specs.Prover.{degreeOutcome}
-use Rattle.fri.specs.Layers.{honestStore, honestLast}
-use Rattle.fri.specs.Checks.{runOutcome}
-use Rattle.fri.proofs.Provers.{refused-prove, refused-holds-both}
+use Rattle.fri.specs.Prover.{degree_outcome}
+use Rattle.fri.specs.Layers.{honest_store, honest_last}
+use Rattle.fri.specs.Checks.{run_outcome}
+use Rattle.fri.proofs.Provers.{refused_prove, refused_holds_both}
 use Rattle.layout.specs.Parameters.{run_of}
 use borrow.Author.Rules.{rules}
 use Rattle.prover.proofs.prove.Statement.{statement}
@@ -27,7 +27,7 @@ run_at c =
 
 -- the checks passed
 abbrev Passed : tie.After-enum-told → Type 0
-Passed c = runOutcome (run_at c.before.before) ≡ Done
+Passed c = run_outcome (run_at c.before.before) ≡ Done
 
 passed : (c : tie.After-enum-told) → Passed c
 passed c =
@@ -59,13 +59,13 @@ returns c =
     let run = run_at told.before.before in
     let f = c.before.before.before.before.prove-checked in
     let done = passed told in
-    let then = then-passed (runOutcome run) (degreeOutcome run) done in
+    let then = then_passed (run_outcome run) (degree_outcome run) done in
     record {
       answer = f.ensures.0 ∙ then;
       store =
-          done-holds (runOutcome run) (honestStore run) run.store f.new.1.1.1.1.1.0 done
+          done_holds (run_outcome run) (honest_store run) run.store f.new.1.1.1.1.1.0 done
           f.ensures.1.0;
-      last = f.ensures.1.1 ∙ ap (λ (o : Outcome). afterwards o (honestLast run) run.last) then;
+      last = f.ensures.1.1 ∙ ap (λ (o : Outcome). afterwards o (honest_last run) run.last) then;
     }
 
 same-length-3 : tie.Need-same-length-3
@@ -80,9 +80,9 @@ returns-2 c =
     let told = c.before.outcome.given in
     let run = run_at checked in
     let refused = sym checked.checked.ensures ∙ told.1 in
-    let holds = refused-holds-both run told.0.0 refused in
+    let holds = refused_holds_both run told.0.0 refused in
     record {
-      answer = sym (refused-prove run told.0.0 refused);
+      answer = sym (refused_prove run told.0.0 refused);
       store = sym holds.0;
       last = sym holds.1;
     }

@@ -4,11 +4,11 @@ use Prim.Native.Nat.{ℕ, ◌*◌, ◌%◌, ◌^◌, ◌≤◌}
 use native.Mathlib.Nat.{le_of_eq, le_trans}
 use lib.ListN.{length, replicate}
 use lib.Seq.{length-take-le}
-use Rattle.coset.proofs.Sizes.{size-shifted}
+use Rattle.coset.proofs.Sizes.{size_shifted}
 use Rattle.fri.specs.Layout.{dimension}
-use Rattle.layout.specs.Parameters.{stepsBy, Valid, run_of}
-use Rattle.layout.proofs.Sizes.{dimension-most}
-use Rattle.prover.proofs.Input.{input-passed, last-size}
+use Rattle.layout.specs.Parameters.{steps_by, Valid, run_of}
+use Rattle.layout.proofs.Sizes.{dimension_most}
+use Rattle.prover.proofs.Input.{input_passed, last_size}
 use borrow.Author.Rules.{rules}
 use native.Mathlib.Omega.{arith}
 use Rattle.prover.proofs.prove_checked.Statement.{statement}
@@ -24,7 +24,7 @@ given-valid c =
     run_of a.parameters a.offset.0 a.basis.now a.challenges.now a.word.now a.store.now
     a.last.now
     in
-    (input-passed run c.requires).parameters
+    (input_passed run c.requires).parameters
 
 -- where the lists are known
 abbrev start_of : tie.After-dimension → tie.Start
@@ -37,7 +37,7 @@ Small c = c.dimension.result ≤ 20
 small : (c : tie.After-dimension) → Small c
 small c =
     let start = start_of c in
-    let most = dimension-most start.args.parameters (given-valid start) c.before.rounds.result in
+    let most = dimension_most start.args.parameters (given-valid start) c.before.rounds.result in
     omega (arith, c.dimension.ensures, most)
 
 -- the size of layer r
@@ -45,13 +45,13 @@ abbrev size : tie.After-dimension → ℕ
 size c = 1 * 2 ^ c.dimension.result % 2 ^ 64
 
 abbrev SizeIs : tie.After-dimension → Type 0
-SizeIs c = let p = (start_of c).args.parameters in size c ≡ 2 ^ dimension p.k (stepsBy p) (length (stepsBy p))
+SizeIs c = let p = (start_of c).args.parameters in size c ≡ 2 ^ dimension p.k (steps_by p) (length (steps_by p))
 
 size_is : (c : tie.After-dimension) → SizeIs c
 size_is c =
     let p = (start_of c).args.parameters in
-    let dim = c.dimension.ensures ∙ ap (dimension p.k (stepsBy p)) c.before.rounds.ensures in
-    size-shifted c.dimension.result (omega (arith, small c)) ∙ ap (λ (n : ℕ). 2 ^ n) dim
+    let dim = c.dimension.ensures ∙ ap (dimension p.k (steps_by p)) c.before.rounds.ensures in
+    size_shifted c.dimension.result (omega (arith, small c)) ∙ ap (λ (n : ℕ). 2 ^ n) dim
 
 abbrev SizeFits : tie.After-dimension → Type 0
 SizeFits c = size c ≤ 256
@@ -59,7 +59,7 @@ SizeFits c = size c ≤ 256
 size_fits : (c : tie.After-dimension) → SizeFits c
 size_fits c =
     let start = start_of c in
-    le_trans (le_of_eq (size_is c)) (last-size start.args.parameters (given-valid start))
+    le_trans (le_of_eq (size_is c)) (last_size start.args.parameters (given-valid start))
 
 rounds-requires : tie.Need-rounds-requires
 rounds-requires c κs = given-valid c.before.before.before.before.before

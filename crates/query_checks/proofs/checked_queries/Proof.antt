@@ -1,7 +1,7 @@
 -- `query_checks::checked_queries` meets its contract. Assumes nothing.
-use Rattle.fri.specs.Checks.{indicesOutcome}
+use Rattle.fri.specs.Checks.{indices_outcome}
 use Rattle.refusal.specs.declared.Cause.TheVariants.{QueryCountOutOfRange}
-use Rattle.refusal.proofs.Checks.{not-true, not-false, passed-by, refused-by}
+use Rattle.refusal.proofs.Checks.{not_true, not_false, passed_by, refused_by}
 use lib.ListN.{length}
 use lib.Dec.{leb}
 use mathlib.Core.Bool.{◌&&◌}
@@ -18,8 +18,8 @@ returns c =
     let tested = c.before in
     let a = tested.before.before.args in
     let count = length a.queries.now in
-    refused-by (leb 1 count && leb count 256) QueryCountOutOfRange (indicesOutcome a.k a.step a.queries.now)
-    (sym tested.is-query-count.ensures ∙ not-true tested.is-query-count.result c.if1.true)
+    refused_by (leb 1 count && leb count 256) QueryCountOutOfRange (indices_outcome a.k a.step a.queries.now)
+    (sym tested.is-query-count.ensures ∙ not_true tested.is-query-count.result c.if1.true)
 
 checked-indices-requires : tie.Need-checked-indices-requires
 checked-indices-requires c κs = search rules
@@ -30,8 +30,8 @@ returns-2 c =
     let a = tested.before.before.args in
     let count = length a.queries.now in
     c.checked-indices.ensures
-    ∙ passed-by (leb 1 count && leb count 256) QueryCountOutOfRange (indicesOutcome a.k a.step a.queries.now)
-    (sym tested.is-query-count.ensures ∙ not-false tested.is-query-count.result c.before.if1.false)
+    ∙ passed_by (leb 1 count && leb count 256) QueryCountOutOfRange (indices_outcome a.k a.step a.queries.now)
+    (sym tested.is-query-count.ensures ∙ not_false tested.is-query-count.result c.before.if1.false)
 
 pub checked-queries-spec : {M : Type 1} → statement M
 checked-queries-spec =

@@ -1,7 +1,7 @@
 -- `query_checks::first_outside` meets its contract. The loop's invariant: the queries still to come decide. Assumes
 -- nothing.
-use Rattle.query_checks.proofs.Outside.{outside-none, outside-here, outside-next}
-use Rattle.fri.specs.Checks.{firstOutside}
+use Rattle.query_checks.proofs.Outside.{outside_none, outside_here, outside_next}
+use Rattle.fri.specs.Checks.{first_outside}
 use lib.ListN.{length, drop}
 use Prim.Native.Nat.{◌-◌, ◌≤◌}
 use mathlib.Core.Path.{◌≡◌, refl, ◌∙◌}
@@ -12,7 +12,7 @@ use Rattle.query_checks.proofs.first_outside.Tie as tie
 
 abbrev invariant-loop : tie.invariant-loop
 invariant-loop size queries query₀ query =
-    (query ≤ length queries) × (firstOutside size (drop query queries) query ≡ firstOutside size queries 0)
+    (query ≤ length queries) × (first_outside size (drop query queries) query ≡ first_outside size queries 0)
 
 abbrev decreases-loop : tie.decreases-loop
 decreases-loop size queries query₀ query = length queries - query
@@ -30,7 +30,7 @@ returns : tie.Need-returns invariant-loop decreases-loop
 returns c =
     let turn = c.before.before.before in
     let a = turn.before.args in
-    outside-here a.size a.queries.now turn.loop.query (omega arith) c.if1.true ∙ turn.loop.invariant.1
+    outside_here a.size a.queries.now turn.loop.query (omega arith) c.if1.true ∙ turn.loop.invariant.1
 
 add-query : tie.Need-overflow-add-query invariant-loop decreases-loop
 add-query c = search rules
@@ -42,14 +42,14 @@ loop-again : tie.Need-loop-preserved invariant-loop decreases-loop
 loop-again c =
     let turn = c.before.before.before in
     let a = turn.before.args in
-    let inside = outside-next a.size a.queries.now turn.loop.query (omega arith) c.if1.false in
+    let inside = outside_next a.size a.queries.now turn.loop.query (omega arith) c.if1.false in
     (search rules, inside ∙ turn.loop.invariant.1)
 
 returns-2 : tie.Need-returns-2 invariant-loop decreases-loop
 returns-2 c =
     let turn = c.before in
     let a = turn.before.args in
-    outside-none a.size a.queries.now turn.loop.query (omega arith) ∙ turn.loop.invariant.1
+    outside_none a.size a.queries.now turn.loop.query (omega arith) ∙ turn.loop.invariant.1
 
 pub first-outside-spec : {M : Type 1} → statement M
 first-outside-spec =

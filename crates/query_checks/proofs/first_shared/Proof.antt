@@ -1,7 +1,7 @@
 -- `query_checks::first_shared` meets its contract. The loop's invariant: the queries still to come decide, given the
 -- cosets of those before. Assumes nothing.
-use Rattle.query_checks.proofs.Shared.{shared-none, shared-here, shared-next}
-use Rattle.fri.specs.Checks.{among, firstRepeatedAfter, visitedCosets, firstShared}
+use Rattle.query_checks.proofs.Shared.{shared_none, shared_here, shared_next}
+use Rattle.fri.specs.Checks.{among, first_repeated_after, visited_cosets, first_shared}
 use lib.ListN.{length, get_or, take, drop}
 use lib.Seq.{length-take-le}
 use Prim.Native.Nat.{◌-◌, ◌/◌, ◌^◌, ◌≤◌}
@@ -14,14 +14,14 @@ use Rattle.query_checks.proofs.first_shared.Tie as tie
 abbrev invariant-loop : tie.invariant-loop
 invariant-loop step queries query₀ query =
     (query ≤ length queries)
-    × (firstRepeatedAfter (visitedCosets step (take query queries)) (visitedCosets step (drop query queries)) query
-    ≡ firstShared step queries)
+    × (first_repeated_after (visited_cosets step (take query queries)) (visited_cosets step (drop query queries)) query
+    ≡ first_shared step queries)
 
 abbrev decreases-loop : tie.decreases-loop
 decreases-loop step queries query₀ query = length queries - query
 
 loop-holds : tie.Need-loop-init invariant-loop decreases-loop
-unfolding firstShared
+unfolding first_shared
 loop-holds c = (search rules, refl)
 
 mul-coset : tie.Need-overflow-mul-coset invariant-loop decreases-loop
@@ -47,7 +47,7 @@ Asked c =
     let turn = c.before.before.before.before in
     let a = turn.before.before.args in
     let coset = get_or a.queries.now turn.loop.query 0 / 2 ^ a.step in
-    c.visits.result ≡ among (visitedCosets a.step (take turn.loop.query a.queries.now)) coset
+    c.visits.result ≡ among (visited_cosets a.step (take turn.loop.query a.queries.now)) coset
 
 asked : (c : tie.After-visits invariant-loop decreases-loop) → Asked c
 asked c = c.visits.ensures
@@ -56,7 +56,7 @@ returns : tie.Need-returns invariant-loop decreases-loop
 returns c =
     let turn = c.before.before.before.before.before in
     let a = turn.before.before.args in
-    shared-here a.step a.queries.now turn.loop.query (omega arith) (sym (asked c.before) ∙ c.if1.true)
+    shared_here a.step a.queries.now turn.loop.query (omega arith) (sym (asked c.before) ∙ c.if1.true)
     ∙ turn.loop.invariant.1
 
 add-query : tie.Need-overflow-add-query invariant-loop decreases-loop
@@ -70,7 +70,7 @@ loop-again c =
     let turn = c.before.before.before.before.before in
     let a = turn.before.before.args in (
       search rules,
-      shared-next a.step a.queries.now turn.loop.query (omega arith)
+      shared_next a.step a.queries.now turn.loop.query (omega arith)
           (sym (asked c.before) ∙ c.if1.false)
           ∙ turn.loop.invariant.1,
     )
@@ -79,7 +79,7 @@ returns-2 : tie.Need-returns-2 invariant-loop decreases-loop
 returns-2 c =
     let turn = c.before in
     let a = turn.before.before.args in
-    shared-none a.step a.queries.now turn.loop.query (omega arith) ∙ turn.loop.invariant.1
+    shared_none a.step a.queries.now turn.loop.query (omega arith) ∙ turn.loop.invariant.1
 
 pub first-shared-spec : {M : Type 1} → statement M
 first-shared-spec =

@@ -1,6 +1,6 @@
 -- `query_checks::visits` meets its contract. The loop's invariant: the queries still to come decide. Assumes nothing.
-use Rattle.query_checks.proofs.Shared.{visits-none, visits-here, visits-next}
-use Rattle.fri.specs.Checks.{among, visitedCosets}
+use Rattle.query_checks.proofs.Shared.{visits_none, visits_here, visits_next}
+use Rattle.fri.specs.Checks.{among, visited_cosets}
 use lib.ListN.{length, drop}
 use Prim.Native.Nat.{◌-◌, ◌≤◌}
 use mathlib.Core.Path.{◌≡◌, refl, ◌∙◌}
@@ -12,7 +12,7 @@ use Rattle.query_checks.proofs.visits.Tie as tie
 abbrev invariant-loop : tie.invariant-loop
 invariant-loop step queries coset query₀ query =
     (query ≤ length queries)
-    × (among (visitedCosets step (drop query queries)) coset ≡ among (visitedCosets step queries) coset)
+    × (among (visited_cosets step (drop query queries)) coset ≡ among (visited_cosets step queries) coset)
 
 abbrev decreases-loop : tie.decreases-loop
 decreases-loop step queries coset query₀ query = length queries - query
@@ -33,7 +33,7 @@ returns : tie.Need-returns invariant-loop decreases-loop
 returns c =
     let turn = c.before.before.before in
     let a = turn.before.args in
-    visits-here a.step a.queries.now turn.loop.query a.coset (omega arith) c.if1.true
+    visits_here a.step a.queries.now turn.loop.query a.coset (omega arith) c.if1.true
     ∙ turn.loop.invariant.1
 
 add-query : tie.Need-overflow-add-query invariant-loop decreases-loop
@@ -47,7 +47,7 @@ loop-again c =
     let turn = c.before.before.before in
     let a = turn.before.args in (
       search rules,
-      visits-next a.step a.queries.now turn.loop.query a.coset (omega arith) c.if1.false
+      visits_next a.step a.queries.now turn.loop.query a.coset (omega arith) c.if1.false
           ∙ turn.loop.invariant.1,
     )
 
@@ -55,7 +55,7 @@ returns-2 : tie.Need-returns-2 invariant-loop decreases-loop
 returns-2 c =
     let turn = c.before in
     let a = turn.before.args in
-    visits-none a.step a.queries.now turn.loop.query a.coset (omega arith) ∙ turn.loop.invariant.1
+    visits_none a.step a.queries.now turn.loop.query a.coset (omega arith) ∙ turn.loop.invariant.1
 
 pub visits-spec : {M : Type 1} → statement M
 visits-spec =

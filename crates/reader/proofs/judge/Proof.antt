@@ -48,8 +48,8 @@ use denote.Triple.Clauses.{ensured, lasts}
 use Rattle.fri.specs.declared.Verdict.{Verdict}
 use Rattle.fri.specs.contracts.Verdict as R
 use Rattle.fri.proofs.Verdict.TheLaws as R'
-use Rattle.sections.specs.Views.{sectionsIn}
-use Rattle.transcript.specs.Judge.{transcriptVerdict}
+use Rattle.sections.specs.Views.{sections_in}
+use Rattle.transcript.specs.Judge.{transcript_verdict}
 use Rattle.reader.specs.declared.Reader.{Reader}
 use Rattle.sections.specs.declared.Sections.{Sections}
 use Rattle.reader.specs.contracts.Reader as T
@@ -139,7 +139,7 @@ module _ {M : Type 1} {𝓤 : Ura M} (𝓛 : Logic 𝓤) (mem : Memory → SProp
       frame ! $ done !
 
   abbrev Found : Sections → Type 0
-  Found c = c ≡ sectionsIn s.now
+  Found c = c ≡ sections_in s.now
 
   abbrev find-ensured : Sections → SProp 𝓤
   find-ensured c = ensured 𝓛 find.ended (find.clauses 𝓛 mem run) κs (s, tt) tt c
@@ -179,20 +179,20 @@ module _ {M : Type 1} {𝓤 : Ura M} (𝓛 : Logic 𝓤) (mem : Memory → SProp
   new-said c r = ex_e 𝓤 _ (λ ws. snd∗ 𝓤 (sem 𝓛 (lasts new.ended κs (s, (c, tt)) ws)) (fact 𝓤 (Made c r)))
 
   -- the call of `Reader::verdict`, at the struct r with the machine value u: the two calls before it say what it asks
-  abbrev to-verdict : Reader → Val → (Judges 𝓛 mem run).Ghost
-  to-verdict r u = ((κs, (q, tt), tt, (r, tt), (u ∷ [], tt)), tt)
+  abbrev to_verdict : Reader → Val → (Judges 𝓛 mem run).Ghost
+  to_verdict r u = ((κs, (q, tt), tt, (r, tt), (u ∷ [], tt)), tt)
 
-  ready : (c : Sections) (r : Reader) → Found c → Made c r → r.sections ≡ sectionsIn r.bytes.now
-  ready c r found made = made.1 ∙ (found ∙ ap (λ (x : Bor (List ℕ)). sectionsIn x.now) (sym made.0))
+  ready : (c : Sections) (r : Reader) → Found c → Made c r → r.sections ≡ sections_in r.bytes.now
+  ready c r found made = made.1 ∙ (found ∙ ap (λ (x : Bor (List ℕ)). sections_in x.now) (sym made.0))
 
-  goes-verdict : (r : Reader) (u : Val) → r.sections ≡ sectionsIn r.bytes.now
-      → ent 𝓤 (⋆ 𝓛 (‵ ((B κs).own_val r (u ∷ [])) ∷ token ∷ [])) ((Judges 𝓛 mem run).pre (to-verdict r u))
+  goes-verdict : (r : Reader) (u : Val) → r.sections ≡ sections_in r.bytes.now
+      → ent 𝓤 (⋆ 𝓛 (‵ ((B κs).own_val r (u ∷ [])) ∷ token ∷ [])) ((Judges 𝓛 mem run).pre (to_verdict r u))
   goes-verdict r u ok =
       qed 𝓛 (‵ ((B κs).own_val r (u ∷ [])) ∷ token ∷ []) ∵ says ! ok $
       nothing ! $ move ! (1 ∷ 0 ∷ []) $ fjoin ! $ move ! (1 ∷ 0 ∷ []) $ frame ! $ done !
 
   abbrev Judged : Reader → Verdict → Type 0
-  Judged r t = t ≡ transcriptVerdict r.bytes.now
+  Judged r t = t ≡ transcript_verdict r.bytes.now
 
   abbrev verdict-ensured : Reader → Verdict → SProp 𝓤
   verdict-ensured r t = ensured 𝓛 verdict.ended (verdict.clauses 𝓛 mem run) κs (r, tt) tt t
@@ -204,7 +204,7 @@ module _ {M : Type 1} {𝓤 : Ura M} (𝓛 : Logic 𝓤) (mem : Memory → SProp
   verdict-said : (r : Reader) (t : Verdict) → ent 𝓤 (verdict-ensured r t) (fact 𝓤 (Judged r t))
   verdict-said r t = ex_e 𝓤 _ (λ ws. snd∗ 𝓤 (sem 𝓛 (lasts verdict.ended κs (r, tt) ws)) (fact 𝓤 (Judged r t)))
 
-  exits : (t : Verdict) (u : Val) → t ≡ transcriptVerdict s.now
+  exits : (t : Verdict) (u : Val) → t ≡ transcript_verdict s.now
       → ent 𝓤 (⋆ 𝓛 (‵ ((R.the_row).own_val t (u ∷ [])) ∷ token ∷ ‵ Own ∷ [])) (Post u)
   exits t u e =
       qed 𝓛 (‵ ((R.the_row).own_val t (u ∷ [])) ∷ token ∷ ‵ Own ∷ []) ∵
@@ -244,9 +244,9 @@ module _ {M : Type 1} {𝓤 : Ura M} (𝓛 : Logic 𝓤) (mem : Memory → SProp
         peeks ! (B κs) (Is (B κs)) (shows 𝓛 (B κs)) r (u ∷ []) (λ is'.
         land ! (from ! (stop !)) (init ! 3 refl ((LL.lawful (T.the_type αᵉ)
         (T'.the_laws αᵉ) 𝓛).typed r _ is').0) $
-        use2 𝓛 (raw ((Judges 𝓛 mem run).pre (to-verdict r u))) (goes-verdict r u (ready c r found made)) $
+        use2 𝓛 (raw ((Judges 𝓛 mem run).pre (to_verdict r u))) (goes-verdict r u (ready c r found made)) $
         -- [what `Reader::verdict` asks; what s owns; _3; …; _2; …; _1; …; room for _0; …]
-        calls_at ! fm (Judges 𝓛 mem run) known-verdict (to-verdict r u)
+        calls_at ! fm (Judges 𝓛 mem run) known-verdict (to_verdict r u)
         (and_then ! (load ! (from ! (stop !)) (look ! 2 refl)) (no_more !)) (λ u'.
         use1 𝓛 (after-verdict r u') (id⊢ 𝓤 _) $ await ! tt $ pick ! (λ t.
         split ! $ move ! (1 ∷ []) $ use1 𝓛 (raw (fact 𝓤 (Judged r t))) (verdict-said r t) $
@@ -257,7 +257,7 @@ module _ {M : Type 1} {𝓤 : Ura M} (𝓛 : Logic 𝓤) (mem : Memory → SProp
         returns ! (look ! 9 refl) $ forget ! 3 refl $ forget ! 5 refl $ forget ! 7 refl $ forget ! 9 refl $
         move ! (9 ∷ 10 ∷ []) $ free1 ! $ move ! (7 ∷ 8 ∷ []) $ free1 ! $ move ! (5 ∷ 6 ∷ []) $ free1 ! $
         move ! (3 ∷ 4 ∷ []) $ free1 ! $ free0 ! $
-        by ! (exits t u' (judged ∙ ap (λ (x : Bor (List ℕ)). transcriptVerdict x.now) made.0))))))))))))))))))
+        by ! (exits t u' (judged ∙ ap (λ (x : Bor (List ℕ)). transcript_verdict x.now) made.0))))))))))))))))))
 
 module _ {M : Type 1} {𝓤 : Ura M} (𝓛 : Logic 𝓤) (mem : Memory → SProp 𝓤)
     (run : Routine → Fun 𝓤) where

@@ -2,7 +2,7 @@
 use mathlib.Core.Path.{◌≡◌, sym, ◌∙◌}
 use borrow.Author.Rules.{rules}
 use Rattle.refusal.specs.declared.Outcome.TheVariants.{Done}
-use Rattle.transcript.proofs.LongInputs.{long-passed, long-refused}
+use Rattle.transcript.proofs.LongInputs.{long_passed, long_refused}
 use Rattle.reader.proofs.judge_long.Statement.{statement}
 use Rattle.reader.proofs.judge_long.Tie as tie
 
@@ -22,12 +22,12 @@ returns : tie.Need-returns
 returns c =
     let checked = c.before.before.checked-front in
     let done : checked.result ≡ Done = search rules in
-    sym (long-passed _ (sym checked.ensures ∙ done))
+    sym (long_passed _ (sym checked.ensures ∙ done))
 
 returns-2 : tie.Need-returns-2
 returns-2 c =
     let checked = c.before.before.before.checked-front in
-    sym (long-refused _ _ (sym checked.ensures ∙ c.before.front.given.1))
+    sym (long_refused _ _ (sym checked.ensures ∙ c.before.front.given.1))
 
 pub judge-long-spec : {M : Type 1} → statement M
 judge-long-spec =

@@ -2,7 +2,7 @@
 use borrow.Author.Rules.{rules}
 use Rattle.line_text.specs.Digits.{bytes}
 use Rattle.line_text.specs.Lines.{lines_of}
-use Rattle.placing.proofs.Placing.{put-append, text_in-front, zeros-after, within}
+use Rattle.placing.proofs.Placing.{put_append, text_in_front, zeros_after, within}
 use Rattle.report.proofs.lines.Statement.{statement}
 use Rattle.report.proofs.lines.Tie as tie
 
@@ -24,8 +24,8 @@ put-line-requires c κs = search rules
 returns : tie.Need-returns
 unfolding bytes lines_of
 returns c =
-    let text = put-append c.before.before.before.before.put.ensures c.before.put-line.ensures in
-    (text_in-front text, (zeros-after 128 text, (text.room, (within text).0, (within text).1)))
+    let text = put_append c.before.before.before.before.put.ensures c.before.put-line.ensures in
+    (text_in_front text, (zeros_after 128 text, (text.room, (within text).0, (within text).1)))
 
 pub lines-spec : {M : Type 1} → statement M
 lines-spec =

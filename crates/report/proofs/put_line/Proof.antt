@@ -5,8 +5,8 @@ use borrow.Author.Rules.{rules}
 use Rattle.fri.specs.declared.Answer.{Answer}
 use Rattle.fri.specs.declared.Answer.TheVariants.{Accepted}
 use Rattle.line_text.specs.Digits.{bytes}
-use Rattle.line_text.specs.Lines.{answerText, numbersText, line_of}
-use Rattle.placing.proofs.Placing.{put-append, put_same}
+use Rattle.line_text.specs.Lines.{answer_text, numbers_text, line_of}
+use Rattle.placing.proofs.Placing.{put_append, put_same}
 use Rattle.report.proofs.put_line.Statement.{statement}
 use Rattle.report.proofs.put_line.Tie as tie
 
@@ -47,20 +47,20 @@ same_length : tie.Need-same-length
 same_length c = search rules
 
 returns : tie.Need-returns
-unfolding bytes answerText line_of
+unfolding bytes answer_text line_of
 returns c =
     let numbers = c.before.before in
     let word = numbers.before.before.before.before in
     let verdict = word.before.before.before.before.before.before.args.verdict in
     let accepted : verdict.answer ≡ Accepted = search rules in
-    put_same (put-append word.put.ensures numbers.put-numbers.ensures)
+    put_same (put_append word.put.ensures numbers.put-numbers.ensures)
     (ap (λ (x : Answer). line_of (record { answer = x; reads = verdict.reads })) (sym accepted))
 
 same-length-2 : tie.Need-same-length-2
 same-length-2 c = search rules
 
 returns-2 : tie.Need-returns-2
-unfolding bytes answerText line_of
+unfolding bytes answer_text line_of
 returns-2 c =
     let numbers = c.before.before in
     let round = numbers.before.before.round.ensures in
@@ -69,8 +69,8 @@ returns-2 c =
     let word = numbers.before.before.before.before.before.before.before in
     let given = word.before.before.before.before.answer.given.1 in
     let verdict = word.before.before.before.before.before.before.before.args.verdict in
-    put_same (put-append word.put2.ensures numbers.put-numbers2.ensures)
-    ((λ i. bytes "refused" ++ numbersText (number i) (place i) (round i) verdict.reads)
+    put_same (put_append word.put2.ensures numbers.put-numbers2.ensures)
+    ((λ i. bytes "refused" ++ numbers_text (number i) (place i) (round i) verdict.reads)
     ∙ ap (λ (x : Answer). line_of (record { answer = x; reads = verdict.reads })) (sym given))
 
 pub put-line-spec : {M : Type 1} → statement M

@@ -1,8 +1,8 @@
 -- `report::put_numbers` meets its contract: one text after the other. Assumes nothing.
 use borrow.Author.Rules.{rules}
 use Rattle.line_text.specs.Digits.{bytes}
-use Rattle.line_text.specs.Lines.{numbersText}
-use Rattle.placing.proofs.Placing.{put-append}
+use Rattle.line_text.specs.Lines.{numbers_text}
+use Rattle.placing.proofs.Placing.{put_append}
 use Rattle.report.proofs.put_numbers.Statement.{statement}
 use Rattle.report.proofs.put_numbers.Tie as tie
 
@@ -28,16 +28,16 @@ same_length : tie.Need-same-length
 same_length c = search rules
 
 returns : tie.Need-returns
-unfolding bytes numbersText
+unfolding bytes numbers_text
 returns c =
     let reads = c.before.before.before.before.before.before.before in
     let round = reads.before.before.before.before in
     let place = round.before.before.before.before in
     let number = place.before.before.before.before in
-    put-append
-    (put-append
-    (put-append
-    (put-append number.put-number.ensures.0 place.put-position.ensures.0)
+    put_append
+    (put_append
+    (put_append
+    (put_append number.put-number.ensures.0 place.put-position.ensures.0)
     round.put-position2.ensures.0)
     reads.put-number2.ensures.0)
     c.before.before.put.ensures

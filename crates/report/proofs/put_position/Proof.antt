@@ -6,7 +6,7 @@ use borrow.Author.Rules.{rules}
 use Rattle.refusal.specs.declared.Position.{Position}
 use Rattle.refusal.specs.declared.Position.TheVariants.{Absent}
 use Rattle.line_text.specs.Digits.{bytes}
-use Rattle.line_text.specs.Lines.{orHyphen}
+use Rattle.line_text.specs.Lines.{or_hyphen}
 use Rattle.placing.proofs.Placing.{put_same}
 use Rattle.report.proofs.put_position.Statement.{statement}
 use Rattle.report.proofs.put_position.Tie as tie
@@ -30,22 +30,22 @@ same_length : tie.Need-same-length
 same_length c = search rules
 
 returns : tie.Need-returns
-unfolding orHyphen
+unfolding or_hyphen
 returns c =
     let given = c.before.before.before.before.before.position.given.1 in
     let number = c.before.before.put-number.ensures in
-    (put_same number.0 (ap (λ (p : Position). bytes " " ++ orHyphen p) (sym given)), number.1)
+    (put_same number.0 (ap (λ (p : Position). bytes " " ++ or_hyphen p) (sym given)), number.1)
 
 same-length-2 : tie.Need-same-length-2
 same-length-2 c = search rules
 
 returns-2 : tie.Need-returns-2
-unfolding bytes orHyphen
+unfolding bytes or_hyphen
 returns-2 c =
     let position = c.before.before.before.before.before.before.before.before.args.position in
     let absent : position ≡ Absent = search rules in
     let hyphen = c.before.before.put.ensures in
-    (put_same hyphen (ap (λ (p : Position). bytes " " ++ orHyphen p) (sym absent)), omega (arith, hyphen.ends))
+    (put_same hyphen (ap (λ (p : Position). bytes " " ++ or_hyphen p) (sym absent)), omega (arith, hyphen.ends))
 
 pub put-position-spec : {M : Type 1} → statement M
 put-position-spec =

@@ -1,9 +1,9 @@
 -- `run_checks::checked` meets its contract. Assumes nothing.
-use Rattle.run_checks.proofs.Lists.{of-lists, lists-then}
+use Rattle.run_checks.proofs.Lists.{of_lists, lists_then}
 use Rattle.layout.specs.Parameters.{run_of}
 use Rattle.fri.specs.Run.{Run}
 use Rattle.coset.specs.Answers.{basisOutcome}
-use Rattle.refusal.proofs.Checks.{then-passed, then-refused}
+use Rattle.refusal.proofs.Checks.{then_passed, then_refused}
 use Rattle.refusal.specs.declared.Outcome.{Outcome}
 use Rattle.refusal.specs.declared.Outcome.TheVariants.{Done}
 use mathlib.Core.Path.{◌≡◌, sym, ◌∙◌}
@@ -24,7 +24,7 @@ basis-of c = basisOutcome (run_at c).basis
 
 -- the checks of parameters and lists passed
 abbrev Passed : tie.After-enum-told → Type 0
-Passed c = of-lists (run_at c.before.before) ≡ Done
+Passed c = of_lists (run_at c.before.before) ≡ Done
 
 passed : (c : tie.After-enum-told) → Passed c
 passed c =
@@ -48,16 +48,16 @@ returns : tie.Need-returns
 returns c =
     let first = c.before.before.before in
     let run = run_at first in
-    c.checked-basis.ensures ∙ then-passed (of-lists run) (basis-of first) (passed c.before)
-    ∙ lists-then run (basis-of first)
+    c.checked-basis.ensures ∙ then_passed (of_lists run) (basis-of first) (passed c.before)
+    ∙ lists_then run (basis-of first)
 
 returns-2 : tie.Need-returns-2
 returns-2 c =
     let first = c.before.before.before in
     let run = run_at first in
     let refused = c.before.lists.given in
-    then-refused (of-lists run) (basis-of first) refused.0.0 (sym first.checked-lists.ensures ∙ refused.1)
-    ∙ lists-then run (basis-of first)
+    then_refused (of_lists run) (basis-of first) refused.0.0 (sym first.checked-lists.ensures ∙ refused.1)
+    ∙ lists_then run (basis-of first)
 
 pub checked-spec : {M : Type 1} → statement M
 checked-spec =

@@ -1,14 +1,14 @@
 -- `run_checks::checked_lists` meets its contract. Assumes nothing.
-use Rattle.run_checks.proofs.Lists.{of-lists}
-use Rattle.layout.proofs.Sizes.{one-round, storeLength-is}
+use Rattle.run_checks.proofs.Lists.{of_lists}
+use Rattle.layout.proofs.Sizes.{one_round, store_length_is}
 use Rattle.layout.specs.Parameters.{Valid, run_of}
-use Rattle.fri.specs.Run.{Run, stepsIn, roundsIn}
-use Rattle.fri.proofs.Checks.{parameters-valid}
-use Rattle.fri.proofs.Checks.{lengths-pass, list1-refused, list2-refused, list3-refused, list4-refused, list5-refused}
-use Rattle.fri.specs.Checks.{parametersOutcome, lengthsOutcome}
-use Rattle.fri.specs.Layout.{layerStart, storeLength}
-use Rattle.coset.proofs.Sizes.{size-shifted}
-use Rattle.refusal.proofs.Checks.{then-passed, then-refused}
+use Rattle.fri.specs.Run.{Run, steps_in, rounds_in}
+use Rattle.fri.proofs.Checks.{parameters_valid}
+use Rattle.fri.proofs.Checks.{lengths_pass, list1_refused, list2_refused, list3_refused, list4_refused, list5_refused}
+use Rattle.fri.specs.Checks.{parameters_outcome, lengths_outcome}
+use Rattle.fri.specs.Layout.{layer_start, store_length}
+use Rattle.coset.proofs.Sizes.{size_shifted}
+use Rattle.refusal.proofs.Checks.{then_passed, then_refused}
 use Rattle.refusal.specs.declared.Outcome.{Outcome}
 use Rattle.refusal.specs.declared.Outcome.TheVariants.{Done}
 use native.Mathlib.Nat.{le_of_eq}
@@ -33,22 +33,22 @@ run_at c =
 
 -- what the checks of ranges give
 abbrev ranges-of : tie.After-checked → Outcome
-ranges-of c = let p = (start_of c).args.parameters in parametersOutcome p.k p.rate p.step
+ranges-of c = let p = (start_of c).args.parameters in parameters_outcome p.k p.rate p.step
 
 -- the parameters are in range, and the lengths decide
 abbrev Passed : tie.After-enum-told → Type 0
 Passed c =
     let run = run_at c.before.before in
-    Valid (start_of c.before.before).args.parameters × (lengthsOutcome run ≡ of-lists run)
+    Valid (start_of c.before.before).args.parameters × (lengths_outcome run ≡ of_lists run)
 
 passed : (c : tie.After-enum-told) → Passed c
 passed c =
     let first = c.before.before in
     let p = (start_of first).args.parameters in
     let done : first.checked.result ≡ Done = search rules in
-    let in-range = sym first.checked.ensures ∙ done in (
-      parameters-valid p.k p.rate p.step in-range,
-      then-passed (ranges-of first) (lengthsOutcome (run_at first)) in-range,
+    let in_range = sym first.checked.ensures ∙ done in (
+      parameters_valid p.k p.rate p.step in_range,
+      then_passed (ranges-of first) (lengths_outcome (run_at first)) in_range,
     )
 
 -- the run of the call, where the rounds are known
@@ -57,7 +57,7 @@ run-of c = run_at c.before.before.before
 
 -- there are as many challenges as rounds
 abbrev Challenged : tie.Else2 → Type 0
-Challenged c = let run = run-of c.before.before.before in length run.challenges ≡ roundsIn run
+Challenged c = let run = run-of c.before.before.before in length run.challenges ≡ rounds_in run
 
 challenged : (c : tie.Else2) → Challenged c
 challenged c = c.if2.left ∙ c.before.before.before.rounds.ensures
@@ -67,7 +67,7 @@ abbrev SizeIs : tie.After-rounds → Type 0
 SizeIs c = let k = (run-of c).k in 1 * 2 ^ k % 2 ^ 64 ≡ 2 ^ k
 
 size_is : (c : tie.After-rounds) → SizeIs c
-size_is c = size-shifted (run-of c).k (omega (arith, (passed c.before).0.k-most))
+size_is c = size_shifted (run-of c).k (omega (arith, (passed c.before).0.k_most))
 
 -- the word has its length
 abbrev WordFits : tie.Else3 → Type 0
@@ -80,14 +80,14 @@ word_fits c = c.if3.left ∙ size_is c.before.before.before.before.before
 abbrev Due : tie.After-layer-start → Type 0
 Due c =
     let run = run-of c.before.before.before.before.before.before in
-    c.layer-start.result ≡ storeLength run.k (stepsIn run)
+    c.layer-start.result ≡ store_length run.k (steps_in run)
 
 due : (c : tie.After-layer-start) → Due c
 due c =
     let rounds = c.before.before.before.before.before.before in
     let run = run-of rounds in
-    c.layer-start.ensures ∙ ap (layerStart run.k (stepsIn run)) rounds.rounds.ensures
-    ∙ storeLength-is run.k (stepsIn run)
+    c.layer-start.ensures ∙ ap (layer_start run.k (steps_in run)) rounds.rounds.ensures
+    ∙ store_length_is run.k (steps_in run)
 
 checked-requires : tie.Need-checked-requires
 checked-requires c κs = search rules
@@ -99,7 +99,7 @@ returns : tie.Need-returns
 returns c =
     let first = c.before.before.before in
     let refused = c.before.ranges.given in
-    then-refused (ranges-of first) (lengthsOutcome (run_at first)) refused.0.0
+    then_refused (ranges-of first) (lengths_outcome (run_at first)) refused.0.0
     (sym first.checked.ensures ∙ refused.1)
 
 enum_told : tie.Need-enum-told
@@ -111,24 +111,24 @@ rounds-requires c κs = (passed c).0
 returns-2 : tie.Need-returns-2
 returns-2 c =
     let rounds = c.before.before in
-    sym (list1-refused (run-of rounds) c.if1.taken) ∙ (passed rounds.before).1
+    sym (list1_refused (run-of rounds) c.if1.taken) ∙ (passed rounds.before).1
 
 returns-3 : tie.Need-returns-3
 returns-3 c =
     let rounds = c.before.before.before in
     sym
-    (list2-refused (run-of rounds) c.before.if1.left (λ e. c.if2.taken (e ∙ sym rounds.rounds.ensures)))
+    (list2_refused (run-of rounds) c.before.if1.left (λ e. c.if2.taken (e ∙ sym rounds.rounds.ensures)))
     ∙ (passed rounds.before).1
 
 shl-if3 : tie.Need-shl-if3
-shl-if3 c = omega (arith, (passed c.before.before.before.before.before).0.k-most)
+shl-if3 c = omega (arith, (passed c.before.before.before.before.before).0.k_most)
 
 returns-4 : tie.Need-returns-4
 returns-4 c =
     let second = c.before.before in
     let rounds = second.before.before.before in
     sym
-    (list3-refused (run-of rounds) second.before.if1.left (challenged second)
+    (list3_refused (run-of rounds) second.before.if1.left (challenged second)
     (λ e. c.if3.taken (e ∙ sym (size_is rounds))))
     ∙ (passed rounds.before).1
 
@@ -138,7 +138,7 @@ layer-start-requires c κs =
     let p = (start_of rounds.before.before.before).args.parameters in
     let valid = (passed rounds.before).0 in (
       valid,
-      omega (arith, rounds.rounds.ensures, one-round p valid),
+      omega (arith, rounds.rounds.ensures, one_round p valid),
       le_of_eq rounds.rounds.ensures,
     )
 
@@ -148,7 +148,7 @@ returns-5 c =
     let second = third.before.before in
     let rounds = second.before.before.before in
     sym
-    (list4-refused (run-of rounds) second.before.if1.left (challenged second) (word_fits third)
+    (list4_refused (run-of rounds) second.before.if1.left (challenged second) (word_fits third)
     (λ e. c.if4.taken (e ∙ sym (due c.before))))
     ∙ (passed rounds.before).1
 
@@ -162,7 +162,7 @@ returns-6 c =
     let second = third.before.before in
     let rounds = second.before.before.before in
     sym
-    (list5-refused (run-of rounds) second.before.if1.left (challenged second) (word_fits third)
+    (list5_refused (run-of rounds) second.before.if1.left (challenged second) (word_fits third)
     (fourth.if4.left ∙ due fourth.before) (λ e. c.if5.taken (e ∙ sym c.before.last-count.ensures)))
     ∙ (passed rounds.before).1
 
@@ -173,7 +173,7 @@ returns-7 c =
     let second = third.before.before in
     let rounds = second.before.before.before in
     sym
-    (lengths-pass (run-of rounds)
+    (lengths_pass (run-of rounds)
     (record {
       basis = second.before.if1.left;
       challenges = challenged second;

@@ -1,9 +1,9 @@
 -- `run_writer::put_coset` meets its contract: the count, then the offset, then the basis. Assumes nothing.
 use native.Mathlib.Omega.{arith}
 use borrow.Author.Rules.{rules}
-use Rattle.placing.proofs.Placing.{put-append, put_same, length-put}
-use Rattle.section_writer.proofs.Pieces.{ends-after}
-use Rattle.written.proofs.Bytes.{length-number}
+use Rattle.placing.proofs.Placing.{put_append, put_same, length_put}
+use Rattle.section_writer.proofs.Pieces.{ends_after}
+use Rattle.written.proofs.Bytes.{length_number}
 use Rattle.run_writer.proofs.Sections.{coset-section}
 use Rattle.run_writer.proofs.put_coset.Statement.{statement}
 use Rattle.run_writer.proofs.put_coset.Tie as tie
@@ -18,7 +18,7 @@ put-entry-requires : tie.Need-put-entry-requires
 put-entry-requires c κs =
     let start = c.before.before.before.before.before.before.before in
     let count = c.before.before.before.put_count.ensures in
-    omega (arith, length-put count, ends-after count 4 (length-number 4 _), start.requires)
+    omega (arith, length_put count, ends_after count 4 (length_number 4 _), start.requires)
 
 put-entries-requires : tie.Need-put-entries-requires
 put-entries-requires c κs =
@@ -28,10 +28,10 @@ put-entries-requires c κs =
     let entry = c.before.before.before.put-entry.ensures in
     omega (
       arith,
-      length-put count,
-      ends-after count 4 (length-number 4 _),
-      length-put entry,
-      ends-after entry 8 (length-number 8 _),
+      length_put count,
+      ends_after count 4 (length_number 4 _),
+      length_put entry,
+      ends_after entry 8 (length_number 8 _),
       start.requires,
     )
 
@@ -44,7 +44,7 @@ returns c =
     let counted = entered.before.before.before.before in
     let a = counted.before.before.before.before.args in
     put_same
-    (put-append (put-append counted.put_count.ensures entered.put-entry.ensures)
+    (put_append (put_append counted.put_count.ensures entered.put-entry.ensures)
     c.before.before.put_entries.ensures)
     (coset-section a.offset.0 a.basis.now)
 

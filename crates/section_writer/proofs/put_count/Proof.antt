@@ -3,7 +3,7 @@ use native.Mathlib.Omega.{arith}
 use lib.ListN.{length-set}
 use borrow.Author.Rules.{rules}
 use Rattle.placing.proofs.Placing.{put_same}
-use Rattle.section_writer.proofs.Numbers.{four-stored, count-is}
+use Rattle.section_writer.proofs.Numbers.{four_stored, count_is}
 use Rattle.section_writer.proofs.put_count.Statement.{statement}
 use Rattle.section_writer.proofs.put_count.Tie as tie
 
@@ -49,7 +49,7 @@ same_length c = search rules
 returns : tie.Need-returns
 returns c =
     let a = c.args in
-    put_same (four-stored a.out.now a.at c.requires _ _ _ _) (count-is a.count)
+    put_same (four_stored a.out.now a.at c.requires _ _ _ _) (count_is a.count)
 
 pub put-count-spec : {M : Type 1} → statement M
 put-count-spec =

@@ -7,18 +7,18 @@ use native.Mathlib.Numerals.{add-one}
 use native.Mathlib.Omega.{arith}
 use lib.ListN.{length, get_or, drop}
 use borrow.Author.Rules.{rules}
-use Rattle.placing.proofs.Placing.{length-put}
-use Rattle.written.specs.Bytes.{entryBytes, entriesBytes}
-use Rattle.written.proofs.Bytes.{length-entriesBytes}
-use Rattle.section_writer.proofs.Pieces.{PutUpTo, nothing_put, next-piece, all-put, rest-fits}
-use Rattle.section_writer.proofs.Entries.{entries_from, entries_none, entry-left}
+use Rattle.placing.proofs.Placing.{length_put}
+use Rattle.written.specs.Bytes.{entry_bytes, entries_bytes}
+use Rattle.written.proofs.Bytes.{length-entries_bytes}
+use Rattle.section_writer.proofs.Pieces.{PutUpTo, nothing_put, next_piece, all_put, rest_fits}
+use Rattle.section_writer.proofs.Entries.{entries_from, entries_none, entry_left}
 use Rattle.section_writer.proofs.put_entries.Statement.{statement}
 use Rattle.section_writer.proofs.put_entries.Tie as tie
 
 abbrev invariant-loop : tie.invariant-loop
 invariant-loop entries at out₀ place₀ i₀ out place i =
     (i ≤ length entries)
-    × PutUpTo out₀ at (entriesBytes entries) (entriesBytes (drop i entries)) place out
+    × PutUpTo out₀ at (entries_bytes entries) (entries_bytes (drop i entries)) place out
 
 abbrev decreases-loop : tie.decreases-loop
 decreases-loop entries at out₀ place₀ i₀ out place i = length entries - i
@@ -26,7 +26,7 @@ decreases-loop entries at out₀ place₀ i₀ out place i = length entries - i
 loop-holds : tie.Need-loop-init invariant-loop decreases-loop
 loop-holds c =
     let a = c.before.before.args in
-    (search rules, nothing_put a.out.now (entriesBytes a.entries.now) a.at (omega arith))
+    (search rules, nothing_put a.out.now (entries_bytes a.entries.now) a.at (omega arith))
 
 mul-put-entry : tie.Need-overflow-mul-put-entry invariant-loop decreases-loop
 mul-put-entry c = search rules
@@ -42,8 +42,8 @@ put-entry-requires c κs =
     let inside : l.i < length entries = search rules in
     omega (
       arith,
-      rest-fits l.invariant.1 (omega (arith, length-entriesBytes entries, start.requires)),
-      entry-left entries l.i inside,
+      rest_fits l.invariant.1 (omega (arith, length-entries_bytes entries, start.requires)),
+      entry_left entries l.i inside,
     )
 
 add-i : tie.Need-overflow-add-i invariant-loop decreases-loop
@@ -59,20 +59,20 @@ loop-again c =
     let entries = start.args.entries.now in
     let inside : l.i < length entries = search rules in (
       search rules,
-      next-piece l.invariant.1
+      next_piece l.invariant.1
           (entries_from entries l.i inside
-          ∙ ap (λ (n : ℕ). entryBytes (get_or entries l.i 0) ++ entriesBytes (drop n entries)) (sym (add-one l.i)))
+          ∙ ap (λ (n : ℕ). entry_bytes (get_or entries l.i 0) ++ entries_bytes (drop n entries)) (sym (add-one l.i)))
           c.before.before.put-entry.ensures,
     )
 
 same_length : tie.Need-same-length invariant-loop decreases-loop
-same_length c = length-put c.before.loop.invariant.1.put
+same_length c = length_put c.before.loop.invariant.1.put
 
 returns : tie.Need-returns invariant-loop decreases-loop
 returns c =
     let a = c.before.before.before.before.args in
     let l = c.before.loop in
-    all-put l.invariant.1 (entries_none a.entries.now l.i (omega arith))
+    all_put l.invariant.1 (entries_none a.entries.now l.i (omega arith))
 
 pub put-entries-spec : {M : Type 1} → statement M
 put-entries-spec =

@@ -1,12 +1,12 @@
 -- `sections::checked_section` meets its contract. Assumes nothing.
 use mathlib.Core.Path.{◌≡◌, ◌∙◌}
 use Prim.Native.Nat.{suc, ◌+◌, ◌≤◌, ◌^◌}
-use Rattle.refusal.proofs.Checks.{not-true, not-false}
-use Rattle.transcript.specs.Sections.{sectionStart}
-use Rattle.transcript.proofs.Checks.{count_cut, count-fails, entries-cut, section-passes}
+use Rattle.refusal.proofs.Checks.{not_true, not_false}
+use Rattle.transcript.specs.Sections.{section_start}
+use Rattle.transcript.proofs.Checks.{count_cut, count_fails, entries_cut, section_passes}
 use Rattle.transcript.proofs.Sections.{end_is}
-use Rattle.transcript.proofs.Numerals.{are-bytes}
-use Rattle.sections.proofs.Places.{start-near}
+use Rattle.transcript.proofs.Numerals.{are_bytes}
+use Rattle.sections.proofs.Places.{start_near}
 use native.Mathlib.Omega.{arith}
 use Rattle.sections.proofs.checked_section.Statement.{statement}
 use Rattle.sections.proofs.checked_section.Tie as tie
@@ -19,14 +19,14 @@ near : (c : tie.After-shared-slice-known) → Near c
 near c =
     let start = c.before in
     let a = start.args in
-    let known = are-bytes a.bytes.now (λ i. omega (arith, c.shared-slice-known.given i)) in
-    start-near a.bytes.now known a.section a.at (omega (arith, start.requires.2)) start.requires.0
+    let known = are_bytes a.bytes.now (λ i. omega (arith, c.shared-slice-known.given i)) in
+    start_near a.bytes.now known a.section a.at (omega (arith, start.requires.2)) start.requires.0
 
 -- its end is found
 abbrev Ends : tie.After-end-of → Type 0
 Ends c =
     let a = c.before.before.before.before.args in
-    c.end_of.result ≡ sectionStart a.bytes.now (suc a.section)
+    c.end_of.result ≡ section_start a.bytes.now (suc a.section)
 
 ends : (c : tie.After-end-of) → Ends c
 ends c =
@@ -47,8 +47,8 @@ returns-2 : tie.Need-returns-2
 returns-2 c =
     let start = c.before.before.before in
     let a = start.args in
-    count-fails a.bytes.now a.section a.test a.cause (omega (arith, c.before.if1.false, start.requires.0))
-    (not-true a.test c.if2.true)
+    count_fails a.bytes.now a.section a.test a.cause (omega (arith, c.before.if1.false, start.requires.0))
+    (not_true a.test c.if2.true)
 
 end-of-requires : tie.Need-end-of-requires
 end-of-requires c κs = omega (arith, near c.before.before)
@@ -57,16 +57,16 @@ returns-3 : tie.Need-returns-3
 returns-3 c =
     let start = c.before.before.before.before.before in
     let a = start.args in
-    entries-cut a.bytes.now a.section a.test a.cause
+    entries_cut a.bytes.now a.section a.test a.cause
     (omega (arith, c.before.before.before.if1.false, start.requires.0))
-    (not-false a.test c.before.before.if2.false) (omega (arith, c.if3.true, ends c.before))
+    (not_false a.test c.before.before.if2.false) (omega (arith, c.if3.true, ends c.before))
 
 returns-4 : tie.Need-returns-4
 returns-4 c =
     let start = c.before.before.before.before.before in
     let a = start.args in
-    section-passes a.bytes.now a.section a.test a.cause start.requires.1
-    (not-false a.test c.before.before.if2.false) (omega (arith, c.if3.false, ends c.before))
+    section_passes a.bytes.now a.section a.test a.cause start.requires.1
+    (not_false a.test c.before.before.if2.false) (omega (arith, c.if3.false, ends c.before))
 
 pub checked-section-spec : {M : Type 1} → statement M
 checked-section-spec =

@@ -5,23 +5,23 @@ use Prim.Native.Nat.{ℕ, ◌-◌, ◌^◌, ◌<◌}
 use native.Mathlib.Omega.{arith}
 use lib.ListN.{length, get_or}
 use borrow.Author.Rules.{rules}
-use Rattle.placing.proofs.Placing.{length-put, put_same}
+use Rattle.placing.proofs.Placing.{length_put, put_same}
 use Rattle.fri.specs.Run.{Run}
 use Rattle.round_checks.proofs.Runs.{Checked}
-use Rattle.round_checks.proofs.Judged.{queries-most, count-few}
-use Rattle.byte_rounds.specs.Layers.{sentIn}
-use Rattle.byte_rounds.proofs.LayerPlaces.{at-few, index-few, next-at-few, next-index-few, next-standing}
-use Rattle.byte_rounds.proofs.LayerPlaces.{checked-sent, computed_value, found-value}
-use Rattle.sheet_text.specs.Sheet.{lineText}
-use Rattle.sheet_rounds.proofs.Lines.{BeforeQuery, BeforeRound, first-query, first_round, query-done, all_lines}
-use Rattle.sheet_rounds.proofs.Lines.{narrow, line-room, next-round}
+use Rattle.round_checks.proofs.Judged.{queries_most, count_few}
+use Rattle.byte_rounds.specs.Layers.{sent_in}
+use Rattle.byte_rounds.proofs.LayerPlaces.{at_few, index_few, next_at_few, next_index_few, next_standing}
+use Rattle.byte_rounds.proofs.LayerPlaces.{checked_sent, computed_value, found_value}
+use Rattle.sheet_text.specs.Sheet.{line_text}
+use Rattle.sheet_rounds.proofs.Lines.{BeforeQuery, BeforeRound, first_query, first_round, query_done, all_lines}
+use Rattle.sheet_rounds.proofs.Lines.{narrow, line_room, next_round}
 use Rattle.sheet_rounds.proofs.put_lines.Statement.{statement}
 use Rattle.sheet_rounds.proofs.put_lines.Tie as tie
 
 abbrev invariant-loop2 : tie.invariant-loop2
 invariant-loop2 p offset basis challenges queries bytes begin last out₀ count table end₀ query index here₀ at₀ i₀
     out end here at i =
-    BeforeRound (sentIn p offset.0 basis challenges bytes last) queries count table bytes begin out₀ end₀ query i
+    BeforeRound (sent_in p offset.0 basis challenges bytes last) queries count table bytes begin out₀ end₀ query i
     here at end out
 
 abbrev decreases-loop2 : tie.decreases-loop2
@@ -31,7 +31,7 @@ decreases-loop2 p offset basis challenges queries bytes begin last out₀ count 
 
 abbrev invariant-loop : tie.invariant-loop
 invariant-loop p offset basis challenges queries bytes begin last out₀ count table end₀ query₀ out end query =
-    BeforeQuery (sentIn p offset.0 basis challenges bytes last) queries count table bytes begin out₀ end query out
+    BeforeQuery (sent_in p offset.0 basis challenges bytes last) queries count table bytes begin out₀ end query out
 
 abbrev decreases-loop : tie.decreases-loop
 decreases-loop p offset basis challenges queries bytes begin last out₀ count table end₀ query₀ out end query =
@@ -41,10 +41,10 @@ decreases-loop p offset basis challenges queries bytes begin last out₀ count t
 abbrev run : tie.Start invariant-loop2 decreases-loop2 invariant-loop decreases-loop → Run
 run start =
     let a = start.args in
-    sentIn a.parameters a.offset.0 a.basis.now a.challenges.now a.bytes.now a.last.now
+    sent_in a.parameters a.offset.0 a.basis.now a.challenges.now a.bytes.now a.last.now
 
-offset-element : (start : tie.Start invariant-loop2 decreases-loop2 invariant-loop decreases-loop) → start.args.offset.0 < 2 ^ 64
-offset-element start = search rules
+offset_element : (start : tie.Start invariant-loop2 decreases-loop2 invariant-loop decreases-loop) → start.args.offset.0 < 2 ^ 64
+offset_element start = search rules
 
 -- what the checks tell of it
 checked : (c : tie.After-shared-slice-known5 invariant-loop2 decreases-loop2 invariant-loop decreases-loop)
@@ -54,8 +54,8 @@ checked c =
     let basis = challenges.before in
     let start = basis.before in
     let a = start.args in
-    checked-sent a.parameters a.offset.0 a.basis.now a.challenges.now a.bytes.now a.last.now
-    a.queries.now start.requires.0 (offset-element start)
+    checked_sent a.parameters a.offset.0 a.basis.now a.challenges.now a.bytes.now a.last.now
+    a.queries.now start.requires.0 (offset_element start)
     (λ i. omega (arith, basis.shared-slice-known.given i))
     (λ i. omega (arith, challenges.shared-slice-known2.given i))
     (λ i. omega (arith, c.before.shared-slice-known4.given i))
@@ -72,17 +72,17 @@ loop-holds : tie.Need-loop-init invariant-loop2 decreases-loop2 invariant-loop d
 loop-holds c =
     let known = c.before.before.before in
     let start = known.before.before.before.before.before in
-    first-query
+    first_query
     (record {
       checks = start.requires.0;
       ready = checked known;
-      count-is = c.before.rounds.ensures;
+      count_is = c.before.rounds.ensures;
       held = λ i h. c.set-up.ensures i (subst (λ (n : ℕ). i < n) c.before.rounds.ensures h);
     })
     start.requires.1.0 start.args.out.now start.requires.1.1
 
 mul-index : tie.Need-overflow-mul-index invariant-loop2 decreases-loop2 invariant-loop decreases-loop
-mul-index c = omega (arith, queries-most c.before.loop.invariant.prepared)
+mul-index c = omega (arith, queries_most c.before.loop.invariant.prepared)
 
 shared-slice-read-index : tie.Need-shared-slice-read-index invariant-loop2 decreases-loop2 invariant-loop decreases-loop
 shared-slice-read-index c = search rules
@@ -96,21 +96,21 @@ loop2-holds c =
     first_round in-loop.before.loop.invariant in-loop.loop-test.true c.first.ensures
 
 mul-round : tie.Need-overflow-mul-round invariant-loop2 decreases-loop2 invariant-loop decreases-loop
-mul-round c = omega (arith, count-few c.before.loop2.invariant.standing.prepared)
+mul-round c = omega (arith, count_few c.before.loop2.invariant.standing.prepared)
 
 array-copy-out-round : tie.Need-array-copy-out-round invariant-loop2 decreases-loop2 invariant-loop decreases-loop
-array-copy-out-round c = omega (arith, count-few c.before.loop2.invariant.standing.prepared)
+array-copy-out-round c = omega (arith, count_few c.before.loop2.invariant.standing.prepared)
 
 next-requires : tie.Need-next-requires invariant-loop2 decreases-loop2 invariant-loop decreases-loop
-next-requires c κs = c.before.before.loop2.invariant.standing.prepared.ready.coset.parameters.step-most
+next-requires c κs = c.before.before.loop2.invariant.standing.prepared.ready.coset.parameters.step_most
 
 after-layer-requires : tie.Need-after-layer-requires invariant-loop2 decreases-loop2 invariant-loop decreases-loop
 after-layer-requires c κs =
     let in-loop = c.before.before in
     let standing = in-loop.before.loop2.invariant.standing in (
       standing.prepared.ready.coset.parameters,
-      omega (arith, standing.prepared.count-is),
-      at-few standing in-loop.loop2-test.true,
+      omega (arith, standing.prepared.count_is),
+      at_few standing in-loop.loop2-test.true,
     )
 
 computed-requires : tie.Need-computed-requires invariant-loop2 decreases-loop2 invariant-loop decreases-loop
@@ -118,16 +118,16 @@ computed-requires c κs =
     let in-loop = c.before.before.before in
     let standing = in-loop.before.loop2.invariant.standing in
     let valid = standing.prepared.ready.coset.parameters in (
-      valid.step-least,
-      valid.step-most,
-      at-few standing in-loop.loop2-test.true,
-      index-few standing in-loop.loop2-test.true,
+      valid.step_least,
+      valid.step_most,
+      at_few standing in-loop.loop2-test.true,
+      index_few standing in-loop.loop2-test.true,
     )
 
 add-found : tie.Need-overflow-add-found invariant-loop2 decreases-loop2 invariant-loop decreases-loop
 add-found c =
     let in-loop = c.before.before.before.before in
-    omega (arith, count-few in-loop.before.loop2.invariant.standing.prepared, in-loop.loop2-test.true)
+    omega (arith, count_few in-loop.before.loop2.invariant.standing.prepared, in-loop.loop2-test.true)
 
 found-requires : tie.Need-found-requires invariant-loop2 decreases-loop2 invariant-loop decreases-loop
 found-requires c κs =
@@ -135,8 +135,8 @@ found-requires c κs =
     let in-loop = after.before.before.before in
     let standing = in-loop.before.loop2.invariant.standing in
     let within = in-loop.loop2-test.true in (
-      next-at-few standing within after.before.next.ensures after.after-layer.ensures,
-      next-index-few standing within after.before.next.ensures after.after-layer.ensures,
+      next_at_few standing within after.before.next.ensures after.after-layer.ensures,
+      next_index_few standing within after.before.next.ensures after.after-layer.ensures,
     )
 
 put-line-requires : tie.Need-put-line-requires invariant-loop2 decreases-loop2 invariant-loop decreases-loop
@@ -145,14 +145,14 @@ put-line-requires c κs =
     let before = in-loop.before.loop2.invariant in
     let within = in-loop.loop2-test.true in
     let numbers = narrow before within in (
-      (numbers.0, omega (arith, numbers.1, index-few before.standing within), numbers.2),
-      line-room before within,
+      (numbers.0, omega (arith, numbers.1, index_few before.standing within), numbers.2),
+      line_room before within,
     )
 
 add-i : tie.Need-overflow-add-i invariant-loop2 decreases-loop2 invariant-loop decreases-loop
 add-i c =
     let in-loop = c.before.before.before.before.before.before.before.before.before in
-    omega (arith, count-few in-loop.before.loop2.invariant.standing.prepared, in-loop.loop2-test.true)
+    omega (arith, count_few in-loop.before.loop2.invariant.standing.prepared, in-loop.loop2-test.true)
 
 loop2-less : tie.Need-loop2-smaller invariant-loop2 decreases-loop2 invariant-loop decreases-loop
 loop2-less c = omega arith
@@ -173,19 +173,19 @@ loop2-again c =
     let in-loop = next.before.before in
     let before = in-loop.before.loop2.invariant in
     let within = in-loop.loop2-test.true in
-    let next-is = next.next.ensures in
+    let next_is = next.next.ensures in
     let after_is = after.after-layer.ensures in
     let l = in-loop.before.before.before.before.before.loop in
-    next-round before within (next-standing before.standing within next-is after_is)
+    next_round before within (next_standing before.standing within next_is after_is)
     (put_same put.put-line.ensures.0
-    (ap₂ (lineText l.query (get_or (start_of in-loop).args.queries.now l.query 0) in-loop.before.loop2.i)
-    (computed_value before.standing within next-is after_is computed.computed.ensures)
-    (found-value before.standing within next-is after_is found.found.ensures)))
+    (ap₂ (line_text l.query (get_or (start_of in-loop).args.queries.now l.query 0) in-loop.before.loop2.i)
+    (computed_value before.standing within next_is after_is computed.computed.ensures)
+    (found_value before.standing within next_is after_is found.found.ensures)))
 
 add-query : tie.Need-overflow-add-query invariant-loop2 decreases-loop2 invariant-loop decreases-loop
 add-query c =
     let before = c.before.loop2.invariant in
-    omega (arith, before.query-within, queries-most before.standing.prepared)
+    omega (arith, before.query_within, queries_most before.standing.prepared)
 
 loop-less : tie.Need-loop-smaller invariant-loop2 decreases-loop2 invariant-loop decreases-loop
 loop-less c = omega arith
@@ -193,10 +193,10 @@ loop-less c = omega arith
 loop-again : tie.Need-loop-preserved invariant-loop2 decreases-loop2 invariant-loop decreases-loop
 loop-again c =
     let in-loop = c.before.before.before.before in
-    query-done in-loop.before.loop.invariant c.before.loop2.invariant (omega arith)
+    query_done in-loop.before.loop.invariant c.before.loop2.invariant (omega arith)
 
 same_length : tie.Need-same-length invariant-loop2 decreases-loop2 invariant-loop decreases-loop
-same_length c = length-put c.before.loop.invariant.lines
+same_length c = length_put c.before.loop.invariant.lines
 
 returns : tie.Need-returns invariant-loop2 decreases-loop2 invariant-loop decreases-loop
 returns c = all_lines c.before.loop.invariant (omega arith)

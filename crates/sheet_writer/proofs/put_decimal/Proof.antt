@@ -5,8 +5,8 @@ use lib.ListN.{length-take}
 use borrow.Author.Rules.{rules}
 use Rattle.line_text.specs.Digits.{bytes}
 use Rattle.line_text.proofs.Decimals.{length_digits}
-use Rattle.placing.proofs.Placing.{put-append, put_same}
-use Rattle.sheet_text.proofs.Lines.{length-decimal-field}
+use Rattle.placing.proofs.Placing.{put_append, put_same}
+use Rattle.sheet_text.proofs.Lines.{length-decimal_field}
 use Rattle.sheet_writer.proofs.Padding.{length-decimal, padded}
 use Rattle.sheet_writer.proofs.put_decimal.Statement.{statement}
 use Rattle.sheet_writer.proofs.put_decimal.Tie as tie
@@ -56,10 +56,10 @@ returns c =
     let spaces = digits.before.before.before.before in
     let places = spaces.before.before.before in
     let a = places.before.before.args in
-    let texts = put-append (put-append spaces.put.ensures digits.put-digits.ensures) space.put2.ensures in
+    let texts = put_append (put_append spaces.put.ensures digits.put-digits.ensures) space.put2.ensures in
     let field = padded a.n a.width places.places.result (omega arith) places.places.ensures.0 in
     let text = put_same texts field in
-    (text, omega (arith, length-decimal-field a.width a.n (search rules)))
+    (text, omega (arith, length-decimal_field a.width a.n (search rules)))
 
 pub put-decimal-spec : {M : Type 1} → statement M
 put-decimal-spec =

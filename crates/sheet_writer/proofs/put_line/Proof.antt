@@ -1,24 +1,24 @@
 -- `sheet_writer::put_line` meets its contract: one field after the other. Assumes nothing.
 use borrow.Author.Rules.{rules}
-use Rattle.placing.proofs.Placing.{put-append}
-use Rattle.sheet_text.specs.Sheet.{lineText}
-use Rattle.sheet_text.proofs.Lines.{decimal-short}
+use Rattle.placing.proofs.Placing.{put_append}
+use Rattle.sheet_text.specs.Sheet.{line_text}
+use Rattle.sheet_text.proofs.Lines.{decimal_short}
 use Rattle.sheet_writer.proofs.put_line.Statement.{statement}
 use Rattle.sheet_writer.proofs.put_line.Tie as tie
 
 put-decimal-requires : tie.Need-put-decimal-requires
 put-decimal-requires c κs =
-    ((decimal-short 4 c.before.before.args.query (search rules), search rules), search rules)
+    ((decimal_short 4 c.before.before.args.query (search rules), search rules), search rules)
 
 put-decimal-requires-2 : tie.Need-put-decimal-requires-2
 put-decimal-requires-2 c κs =
     let a = c.before.before.before.before.before.before.args in
-    ((decimal-short 7 a.index (search rules), search rules), search rules)
+    ((decimal_short 7 a.index (search rules), search rules), search rules)
 
 put-decimal-requires-3 : tie.Need-put-decimal-requires-3
 put-decimal-requires-3 c κs =
     let a = c.before.before.before.before.before.before.before.before.before.before.args in
-    ((decimal-short 2 a.round (search rules), search rules), search rules)
+    ((decimal_short 2 a.round (search rules), search rules), search rules)
 
 put-value-requires : tie.Need-put-value-requires
 put-value-requires c κs = search rules
@@ -33,7 +33,7 @@ same_length : tie.Need-same-length
 same_length c = search rules
 
 returns : tie.Need-returns
-unfolding lineText
+unfolding line_text
 returns c =
     let mark = c.before.before in
     let found = mark.before.before.before.before in
@@ -41,11 +41,11 @@ returns c =
     let round = computed.before.before.before.before in
     let index = round.before.before.before.before in
     let query = index.before.before.before.before in (
-      put-append
-          (put-append
-          (put-append
-          (put-append
-          (put-append query.put-decimal.ensures.0 index.put-decimal2.ensures.0)
+      put_append
+          (put_append
+          (put_append
+          (put_append
+          (put_append query.put-decimal.ensures.0 index.put-decimal2.ensures.0)
           round.put-decimal3.ensures.0)
           computed.put-value.ensures.0)
           found.put-value2.ensures.0)

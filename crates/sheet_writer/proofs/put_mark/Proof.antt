@@ -3,7 +3,7 @@ use borrow.Author.Rules.{rules}
 use borrow.Author.Tests.{eq-eqb, ne_eqb}
 use Rattle.line_text.specs.Digits.{bytes}
 use Rattle.placing.proofs.Placing.{put_same}
-use Rattle.sheet_text.specs.Sheet.{markField}
+use Rattle.sheet_text.specs.Sheet.{mark_field}
 use Rattle.sheet_writer.proofs.put_mark.Statement.{statement}
 use Rattle.sheet_writer.proofs.put_mark.Tie as tie
 
@@ -23,7 +23,7 @@ same_length : tie.Need-same-length
 same_length c = search rules
 
 returns : tie.Need-returns
-unfolding bytes markField
+unfolding bytes mark_field
 returns c =
     let put = c.before.before in
     (put_same put.put.ensures (simp (eq-eqb _ _ put.before.before.before.if1.true)), search rules)
@@ -32,7 +32,7 @@ same-length-2 : tie.Need-same-length-2
 same-length-2 c = search rules
 
 returns-2 : tie.Need-returns-2
-unfolding bytes markField
+unfolding bytes mark_field
 returns-2 c =
     let put = c.before.before in
     (put_same put.put2.ensures (simp (ne_eqb _ _ put.before.before.before.if1.false)), search rules)

@@ -3,9 +3,9 @@ use native.Mathlib.Omega.{arith}
 use borrow.Author.Rules.{rules}
 use Rattle.line_text.specs.Digits.{bytes}
 use Rattle.line_text.proofs.Decimals.{length_digits}
-use Rattle.placing.proofs.Placing.{put-append}
-use Rattle.sheet_text.specs.Sheet.{valueField}
-use Rattle.sheet_text.proofs.Lines.{length-value-field}
+use Rattle.placing.proofs.Placing.{put_append}
+use Rattle.sheet_text.specs.Sheet.{value_field}
+use Rattle.sheet_text.proofs.Lines.{length_value_field}
 use Rattle.sheet_writer.proofs.put_value.Statement.{statement}
 use Rattle.sheet_writer.proofs.put_value.Tie as tie
 
@@ -24,12 +24,12 @@ same_length : tie.Need-same-length
 same_length c = search rules
 
 returns : tie.Need-returns
-unfolding bytes valueField
+unfolding bytes value_field
 returns c =
     let space = c.before.before in
     let digits = space.before.before.before.before.before in
-    let text = put-append digits.put-digits.ensures space.put.ensures in
-    (text, omega (arith, length-value-field digits.before.before.before.args.value))
+    let text = put_append digits.put-digits.ensures space.put.ensures in
+    (text, omega (arith, length_value_field digits.before.before.before.args.value))
 
 pub put-value-spec : {M : Type 1} → statement M
 put-value-spec =

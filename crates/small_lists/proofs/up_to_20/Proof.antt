@@ -2,7 +2,7 @@
 use mathlib.Core.Path.{sym}
 use native.Mathlib.Omega.{arith}
 use borrow.Author.Rules.{rules}
-use Rattle.small_lists.proofs.Fronts.{room_for, read-in-front}
+use Rattle.small_lists.proofs.Fronts.{room_for, read_in_front}
 use Rattle.small_lists.proofs.up_to_20.Statement.{statement}
 use Rattle.small_lists.proofs.up_to_20.Tie as tie
 
@@ -21,7 +21,7 @@ returns : tie.Need-returns
 returns c =
     let start = c.before.before.before.before in
     let a = start.args in
-    read-in-front 20 a.count start.requires.0 a.bytes.now a.at c.before.read.new.1.1.0
+    read_in_front 20 a.count start.requires.0 a.bytes.now a.at c.before.read.new.1.1.0
     c.before.read.ensures
 
 pub up-to-20-spec : {M : Type 1} → statement M

@@ -4,9 +4,9 @@ use mathlib.Core.Path.{◌≡◌, refl, ap, ◌∙◌}
 use Prim.Native.Nat.{ℕ, ◌+◌, ◌-◌, ◌/◌, ◌≤◌}
 use lib.ListN.{length, get_or, length-set}
 use Rattle.gf64.specs.Field.{sum}
-use Rattle.poly.proofs.Filling.{filled, filled-start}
-use Rattle.transform.specs.Transform.{secondAdded}
-use Rattle.transform.proofs.Entries.{second-next, second-end}
+use Rattle.poly.proofs.Filling.{filled, filled_start}
+use Rattle.transform.specs.Transform.{second_added}
+use Rattle.transform.proofs.Entries.{second_next, second_end}
 use Rattle.multiplier.specs.Table.{Multiples}
 use borrow.Author.Rules.{rules}
 use native.Mathlib.Omega.{arith}
@@ -16,7 +16,7 @@ use Rattle.transform_steps.proofs.add_by_table.Tie as tie
 abbrev invariant-loop : tie.invariant-loop
 invariant-loop slice₀ table half i₀ slice i =
     (length slice₀ ≡ half + half) × (i ≤ half)
-    × ((c : ℕ) → Multiples c table → slice ≡ filled (secondAdded c half slice₀) slice₀ i)
+    × ((c : ℕ) → Multiples c table → slice ≡ filled (second_added c half slice₀) slice₀ i)
     × (length slice ≡ length slice₀)
 
 abbrev decreases-loop : tie.decreases-loop
@@ -30,7 +30,7 @@ loop-holds c =
     let s = c.before.before.args.slice.now in (
       omega (arith, c.before.before.requires),
       omega arith,
-      λ m table. filled-start (secondAdded m (length s / 2) s) s,
+      λ m table. filled_start (second_added m (length s / 2) s) s,
       refl,
     )
 
@@ -72,7 +72,7 @@ loop-again c =
     let v = sum (get_or l.slice l.i 0) c.times.result in (
       l.invariant.0,
       omega arith,
-      λ m table. second-next half s l.invariant.0 m l.slice l.i v (omega arith) (l.invariant.2 m table)
+      λ m table. second_next half s l.invariant.0 m l.slice l.i v (omega arith) (l.invariant.2 m table)
           (ap (sum (get_or l.slice l.i 0)) (c.times.ensures m table)),
       length-set l.slice l.i v ∙ l.invariant.3,
     )
@@ -85,7 +85,7 @@ returns c =
     let start = c.before.before.before.before in
     let a = start.args in
     let l = c.before.loop in
-    second-end (length a.slice.now / 2) a.slice.now l.invariant.0 a.c.0 l.slice l.i (omega arith)
+    second_end (length a.slice.now / 2) a.slice.now l.invariant.0 a.c.0 l.slice l.i (omega arith)
     (l.invariant.2 a.c.0 c.before.before.multiples.ensures)
 
 pub add-by-table-spec : {M : Type 1} → statement M

@@ -5,8 +5,8 @@ use Prim.Native.Nat.{◌+◌, ◌-◌, ◌/◌, ◌≤◌}
 use lib.ListN.{length, get_or, length-set}
 use Rattle.gf64.specs.Field.{sum}
 use Rattle.poly.proofs.Filling.{filled}
-use Rattle.transform.specs.Transform.{firstAdded}
-use Rattle.transform.proofs.Entries.{first-start, first_next, first-end}
+use Rattle.transform.specs.Transform.{first_added}
+use Rattle.transform.proofs.Entries.{first_start, first_next, first_end}
 use borrow.Author.Rules.{rules}
 use native.Mathlib.Omega.{arith}
 use Rattle.transform_steps.proofs.add_first.Statement.{statement}
@@ -14,7 +14,7 @@ use Rattle.transform_steps.proofs.add_first.Tie as tie
 
 abbrev invariant-loop : tie.invariant-loop
 invariant-loop slice₀ half i₀ slice i =
-    (length slice₀ ≡ half + half) × (i ≤ half) × (slice ≡ filled (firstAdded half slice₀) slice₀ (half + i))
+    (length slice₀ ≡ half + half) × (i ≤ half) × (slice ≡ filled (first_added half slice₀) slice₀ (half + i))
     × (length slice ≡ length slice₀)
 
 abbrev decreases-loop : tie.decreases-loop
@@ -25,7 +25,7 @@ loop-holds c =
     let a = c.args in
     let two : length a.slice.now ≡ length a.slice.now / 2 + length a.slice.now / 2 =
     omega (arith, c.requires) in
-    (two, omega arith, first-start (length a.slice.now / 2) a.slice.now two, refl)
+    (two, omega arith, first_start (length a.slice.now / 2) a.slice.now two, refl)
 
 add-slice : tie.Need-overflow-add-slice invariant-loop decreases-loop
 add-slice c = search rules
@@ -76,7 +76,7 @@ returns : tie.Need-returns invariant-loop decreases-loop
 returns c =
     let a = c.before.before.args in
     let l = c.before.loop in
-    first-end (length a.slice.now / 2) a.slice.now l.invariant.0 l.slice l.i (omega arith) l.invariant.2
+    first_end (length a.slice.now / 2) a.slice.now l.invariant.0 l.slice l.i (omega arith) l.invariant.2
 
 pub add-first-spec : {M : Type 1} → statement M
 add-first-spec =

@@ -4,9 +4,9 @@ use mathlib.Core.Path.{◌≡◌, refl, ap, ◌∙◌}
 use Prim.Native.Nat.{◌+◌, ◌-◌, ◌/◌, ◌≤◌}
 use lib.ListN.{length, get_or, length-set}
 use Rattle.gf64.specs.Field.{sum, product}
-use Rattle.poly.proofs.Filling.{filled, filled-start}
-use Rattle.transform.specs.Transform.{secondAdded}
-use Rattle.transform.proofs.Entries.{second-next, second-end}
+use Rattle.poly.proofs.Filling.{filled, filled_start}
+use Rattle.transform.specs.Transform.{second_added}
+use Rattle.transform.proofs.Entries.{second_next, second_end}
 use borrow.Author.Rules.{rules}
 use native.Mathlib.Omega.{arith}
 use Rattle.transform_steps.proofs.add_products.Statement.{statement}
@@ -14,7 +14,7 @@ use Rattle.transform_steps.proofs.add_products.Tie as tie
 
 abbrev invariant-loop : tie.invariant-loop
 invariant-loop c slice₀ half i₀ slice i =
-    (length slice₀ ≡ half + half) × (i ≤ half) × (slice ≡ filled (secondAdded c.0 half slice₀) slice₀ i)
+    (length slice₀ ≡ half + half) × (i ≤ half) × (slice ≡ filled (second_added c.0 half slice₀) slice₀ i)
     × (length slice ≡ length slice₀)
 
 abbrev decreases-loop : tie.decreases-loop
@@ -25,7 +25,7 @@ loop-holds c =
     let a = c.before.args in (
       omega (arith, c.before.requires),
       omega arith,
-      filled-start (secondAdded a.c.0 (length
+      filled_start (second_added a.c.0 (length
           a.slice.now / 2) a.slice.now) a.slice.now,
       refl,
     )
@@ -68,7 +68,7 @@ loop-again c =
     let v = sum (get_or l.slice l.i 0) c.before.product.result.0 in (
       l.invariant.0,
       omega arith,
-      second-next half a.slice.now l.invariant.0 a.c.0 l.slice l.i v (omega arith) l.invariant.2
+      second_next half a.slice.now l.invariant.0 a.c.0 l.slice l.i v (omega arith) l.invariant.2
           (ap (sum (get_or l.slice l.i 0)) c.before.product.ensures.0),
       length-set l.slice l.i v ∙ l.invariant.3,
     )
@@ -80,7 +80,7 @@ returns : tie.Need-returns invariant-loop decreases-loop
 returns c =
     let a = c.before.before.before.args in
     let l = c.before.loop in
-    second-end (length a.slice.now / 2) a.slice.now l.invariant.0 a.c.0 l.slice l.i (omega arith)
+    second_end (length a.slice.now / 2) a.slice.now l.invariant.0 a.c.0 l.slice l.i (omega arith)
     l.invariant.2
 
 pub add-products-spec : {M : Type 1} → statement M

@@ -4,10 +4,10 @@ use mathlib.Core.Path.{◌≡◌, refl, sym, ap, ◌∙◌}
 use Prim.Native.Nat.{◌+◌, ◌-◌, ◌/◌, ◌≤◌}
 use lib.ListN.{length, get_or, length-set}
 use Rattle.gf64.specs.Field.{sum}
-use Rattle.gf64.proofs.Ring.{product-one-l}
-use Rattle.poly.proofs.Filling.{filled, filled-start}
-use Rattle.transform.specs.Transform.{secondAdded}
-use Rattle.transform.proofs.Entries.{second-next, second-end}
+use Rattle.gf64.proofs.Ring.{product_one_l}
+use Rattle.poly.proofs.Filling.{filled, filled_start}
+use Rattle.transform.specs.Transform.{second_added}
+use Rattle.transform.proofs.Entries.{second_next, second_end}
 use borrow.Author.Rules.{rules}
 use native.Mathlib.Omega.{arith}
 use Rattle.transform_steps.proofs.add_second.Statement.{statement}
@@ -15,7 +15,7 @@ use Rattle.transform_steps.proofs.add_second.Tie as tie
 
 abbrev invariant-loop : tie.invariant-loop
 invariant-loop slice₀ half i₀ slice i =
-    (length slice₀ ≡ half + half) × (i ≤ half) × (slice ≡ filled (secondAdded 1 half slice₀) slice₀ i)
+    (length slice₀ ≡ half + half) × (i ≤ half) × (slice ≡ filled (second_added 1 half slice₀) slice₀ i)
     × (length slice ≡ length slice₀)
 
 abbrev decreases-loop : tie.decreases-loop
@@ -26,7 +26,7 @@ loop-holds c =
     let a = c.args in (
       omega (arith, c.requires),
       omega arith,
-      filled-start (secondAdded 1 (length a.slice.now / 2)
+      filled_start (second_added 1 (length a.slice.now / 2)
           a.slice.now) a.slice.now,
       refl,
     )
@@ -66,9 +66,9 @@ loop-again c =
     let v = sum (get_or l.slice l.i 0) (get_or l.slice (half + l.i) 0) in (
       l.invariant.0,
       omega arith,
-      second-next half a.slice.now l.invariant.0 1 l.slice l.i v (omega arith) l.invariant.2
+      second_next half a.slice.now l.invariant.0 1 l.slice l.i v (omega arith) l.invariant.2
           (ap (sum (get_or l.slice l.i 0))
-          (sym (product-one-l (get_or l.slice (half + l.i) 0) (omega (
+          (sym (product_one_l (get_or l.slice (half + l.i) 0) (omega (
             arith,
             c.slice-known2.given
                 (half + l.i),
@@ -83,7 +83,7 @@ returns : tie.Need-returns invariant-loop decreases-loop
 returns c =
     let a = c.before.before.args in
     let l = c.before.loop in
-    second-end (length a.slice.now / 2) a.slice.now l.invariant.0 1 l.slice l.i (omega arith) l.invariant.2
+    second_end (length a.slice.now / 2) a.slice.now l.invariant.0 1 l.slice l.i (omega arith) l.invariant.2
 
 pub add-second-spec : {M : Type 1} → statement M
 add-second-spec =

@@ -6,8 +6,8 @@ use lib.ListN.{length, length-set}
 use Rattle.gf64.specs.Field.{product}
 use Rattle.poly.specs.Carrier.{gf64}
 use Rattle.poly.specs.Polynomial.{scale}
-use Rattle.poly.proofs.Filling.{filled, filled-start}
-use Rattle.transform.proofs.Entries.{scaled-next, scaled-end}
+use Rattle.poly.proofs.Filling.{filled, filled_start}
+use Rattle.transform.proofs.Entries.{scaled_next, scaled_end}
 use borrow.Author.Rules.{rules}
 use native.Mathlib.Omega.{arith}
 use Rattle.transform_steps.proofs.scale_by_products.Statement.{statement}
@@ -23,7 +23,7 @@ decreases-loop c part₀ i₀ part i = length part₀ - i
 loop-holds : tie.Need-loop-init invariant-loop decreases-loop
 loop-holds c =
     let a = c.before.args in
-    (search rules, filled-start (scale gf64 a.c.0 a.part.now) a.part.now, refl)
+    (search rules, filled_start (scale gf64 a.c.0 a.part.now) a.part.now, refl)
 
 mul-t4 : tie.Need-overflow-mul-t4 invariant-loop decreases-loop
 mul-t4 c = search rules
@@ -51,7 +51,7 @@ loop-again c =
     let a = c.before.before.before.before.before.args in
     let l = c.before.before.before.loop in (
       search rules,
-      scaled-next a.c.0 a.part.now l.part l.i c.product.result.0 (omega (arith, l.invariant.2))
+      scaled_next a.c.0 a.part.now l.part l.i c.product.result.0 (omega (arith, l.invariant.2))
           l.invariant.1
           c.product.ensures.0,
       length-set l.part l.i c.product.result.0 ∙ l.invariant.2,
@@ -64,7 +64,7 @@ returns : tie.Need-returns invariant-loop decreases-loop
 returns c =
     let a = c.before.before.before.args in
     let l = c.before.loop in
-    scaled-end a.c.0 a.part.now l.part l.i (omega (arith, l.invariant.2)) l.invariant.1
+    scaled_end a.c.0 a.part.now l.part l.i (omega (arith, l.invariant.2)) l.invariant.1
 
 pub scale-by-products-spec : {M : Type 1} → statement M
 scale-by-products-spec =

@@ -5,8 +5,8 @@ use Prim.Native.Nat.{ℕ, ◌-◌, ◌≤◌}
 use lib.ListN.{length, length-set}
 use Rattle.poly.specs.Carrier.{gf64}
 use Rattle.poly.specs.Polynomial.{scale}
-use Rattle.poly.proofs.Filling.{filled, filled-start}
-use Rattle.transform.proofs.Entries.{scaled-next, scaled-end}
+use Rattle.poly.proofs.Filling.{filled, filled_start}
+use Rattle.transform.proofs.Entries.{scaled_next, scaled_end}
 use Rattle.multiplier.specs.Table.{Multiples}
 use borrow.Author.Rules.{rules}
 use native.Mathlib.Omega.{arith}
@@ -27,7 +27,7 @@ multiples-requires c κs = search rules
 loop-holds : tie.Need-loop-init invariant-loop decreases-loop
 loop-holds c =
     let s = c.before.before.args.part.now in
-    (search rules, λ m table. filled-start (scale gf64 m s) s, refl)
+    (search rules, λ m table. filled_start (scale gf64 m s) s, refl)
 
 mul-b : tie.Need-overflow-mul-b invariant-loop decreases-loop
 mul-b c = search rules
@@ -55,7 +55,7 @@ loop-again c =
     let l = c.before.before.before.before.loop in
     let s = c.before.before.before.before.before.before.before.args.part.now in (
       search rules,
-      λ m table. scaled-next m s l.part l.i c.times.result (omega (arith, l.invariant.2)) (l.invariant.1 m table)
+      λ m table. scaled_next m s l.part l.i c.times.result (omega (arith, l.invariant.2)) (l.invariant.1 m table)
           (c.times.ensures m table),
       length-set l.part l.i c.times.result ∙ l.invariant.2,
     )
@@ -67,7 +67,7 @@ returns : tie.Need-returns invariant-loop decreases-loop
 returns c =
     let a = c.before.before.before.before.args in
     let l = c.before.loop in
-    scaled-end a.c.0 a.part.now l.part l.i (omega (arith, l.invariant.2))
+    scaled_end a.c.0 a.part.now l.part l.i (omega (arith, l.invariant.2))
     (l.invariant.1 a.c.0 c.before.before.multiples.ensures)
 
 pub scale-by-table-spec : {M : Type 1} → statement M

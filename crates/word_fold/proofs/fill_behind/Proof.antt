@@ -7,14 +7,14 @@ use lib.ListN.{length, take}
 use lib.Seq.{length-take-le}
 use Rattle.gf64.specs.Field.{IsElement, sum}
 use Rattle.poly.proofs.Entries.{all_take}
-use Rattle.fold.specs.Halving.{cosetValues}
-use Rattle.coset.proofs.Points.{all-elements}
-use Rattle.coset.proofs.Steps.{listed-not-zero}
-use Rattle.coset.proofs.Sizes.{size-shifted}
+use Rattle.fold.specs.Halving.{coset_values}
+use Rattle.coset.proofs.Points.{all_elements}
+use Rattle.coset.proofs.Steps.{listed_not_zero}
+use Rattle.coset.proofs.Sizes.{size_shifted}
 use Rattle.fold.specs.Theorems.{IsWord}
-use Rattle.fold.proofs.AllCosets.{Ready, length-inverses-taken, length-span-taken, length-upper, cosets-fit}
+use Rattle.fold.proofs.AllCosets.{Ready, length_inverses_taken, length_span_taken, length_upper, cosets_fit}
 use Rattle.fold.proofs.AllCosets.{entries_fit}
-use Rattle.fold.proofs.AllCosets.{upperOf, all-cosets}
+use Rattle.fold.proofs.AllCosets.{upper_of, all_cosets}
 use borrow.Author.Rules.{rules}
 use native.Mathlib.Omega.{arith}
 use Rattle.word_fold.proofs.fill_behind.Statement.{statement}
@@ -37,11 +37,11 @@ ready c =
       some = fits.some;
       few = fits.few;
       fits = fits.fits;
-      basis-fits = fits.basis-fits;
-      elements-are = fits.elements-are;
+      basis_fits = fits.basis_fits;
+      elements_are = fits.elements_are;
       inverted = c.before.before.inverses-of.ensures;
       spanned = c.Span-of.ensures;
-      sized = size-shifted (length (start_of c).args.elements.now) (omega (arith, fits.few));
+      sized = size_shifted (length (start_of c).args.elements.now) (omega (arith, fits.few));
     }
 
 three : (c : tie.After-span-of) → length c.before.before.inverses-of.result ≡ 3
@@ -50,8 +50,8 @@ three c = search rules
 eight : (c : tie.After-span-of) → length c.Span-of.result ≡ 8
 eight c = search rules
 
-challenge-element : (c : tie.Start) → IsElement c.args.challenge.0
-challenge-element c = search rules
+challenge_element : (c : tie.Start) → IsElement c.args.challenge.0
+challenge_element c = search rules
 
 -- the step's part of the basis, as it is lent
 lent : (c : tie.Start)
@@ -70,13 +70,13 @@ is_word c =
     let size = 2 ^ length start.args.basis.now in
     let joined = start.args.joined.now in
     record {
-      offset-element = search rules;
-      basis-elements = all-elements start.args.basis.now
+      offset_element = search rules;
+      basis_elements = all_elements start.args.basis.now
           (λ i. omega (arith, lists.before.shared-slice-known2.given i));
-      word-elements = all_take IsElement size joined
-          (all-elements joined (λ i. omega (arith, lists.slice-known.given i)));
+      word_elements = all_take IsElement size joined
+          (all_elements joined (λ i. omega (arith, lists.slice-known.given i)));
       independent = start.pre.step.independent;
-      count = length-take-le size joined (omega (arith, start.pre.both-fit));
+      count = length-take-le size joined (omega (arith, start.pre.both_fit));
     }
 
 shl-size : tie.Need-overflow-shl-size
@@ -89,9 +89,9 @@ inverses-of-requires c κs =
     let basis = start.args.basis.now in
     let fits = start.requires.step in (
       fits.few,
-      listed-not-zero (length start.args.elements.now) basis start.args.elements.now
-          (all-elements basis (λ i. omega (arith, known.shared-slice-known2.given i))) fits.independent
-          fits.elements-are,
+      listed_not_zero (length start.args.elements.now) basis start.args.elements.now
+          (all_elements basis (λ i. omega (arith, known.shared-slice-known2.given i))) fits.independent
+          fits.elements_are,
     )
 
 slice-aggregate-span-of : tie.Need-slice-aggregate-span-of
@@ -106,7 +106,7 @@ array-share-prefix-inverses : tie.Need-array-share-prefix-inverses
 array-share-prefix-inverses c = omega (arith, three c, (start_of c).requires.step.few)
 
 slice-aggregate-fill-cosets-behind : tie.Need-slice-aggregate-fill-cosets-behind
-slice-aggregate-fill-cosets-behind c = sym (length-inverses-taken (ready c.before))
+slice-aggregate-fill-cosets-behind c = sym (length_inverses_taken (ready c.before))
 
 array-share-prefix-span : tie.Need-array-share-prefix-span
 array-share-prefix-span c =
@@ -117,7 +117,7 @@ array-share-prefix-span c =
 slice-aggregate-fill-cosets-behind-2 : tie.Need-slice-aggregate-fill-cosets-behind-2
 slice-aggregate-fill-cosets-behind-2 c =
     let r = ready c.before.before in
-    r.sized ∙ sym (length-span-taken r)
+    r.sized ∙ sym (length_span_taken r)
 
 mul-fill-cosets-behind : tie.Need-overflow-mul-fill-cosets-behind
 mul-fill-cosets-behind c = search rules
@@ -135,8 +135,8 @@ fill-cosets-behind-requires : tie.Need-fill-cosets-behind-requires
 fill-cosets-behind-requires c κs =
     let made = c.before.before.before.before in
     let r = ready made in (
-      cosets-fit r,
-      (start_of made).requires.both-fit ∙ ap₂ (λ (m n : ℕ). m + 2 ^ n) (sym (entries_fit r)) (sym (length-upper r)),
+      cosets_fit r,
+      (start_of made).requires.both_fit ∙ ap₂ (λ (m n : ℕ). m + 2 ^ n) (sym (entries_fit r)) (sym (length_upper r)),
     )
 
 same_length : tie.Need-same-length
@@ -153,10 +153,10 @@ returns c =
     let moved = sum a.offset.0 a.challenge.0 in
     c.before.before.fill-cosets-behind.ensures
     ∙ ap (λ (size : ℕ). let front = take size a.joined.now in
-    front ++ cosetValues inverses span moved (upperOf a.elements.now a.basis.now) front) (entries_fit r)
+    front ++ coset_values inverses span moved (upper_of a.elements.now a.basis.now) front) (entries_fit r)
     ∙ ap (λ (values : List ℕ). layerOf (start_of made) ++ values)
-    (all-cosets r a.offset.0 (layerOf (start_of made)) a.challenge.0 (is_word made)
-    (challenge-element (start_of made)))
+    (all_cosets r a.offset.0 (layerOf (start_of made)) a.challenge.0 (is_word made)
+    (challenge_element (start_of made)))
 
 pub fill-behind-spec : {M : Type 1} → statement M
 fill-behind-spec =

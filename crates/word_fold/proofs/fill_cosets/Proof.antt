@@ -6,14 +6,14 @@ use Prim.Native.Nat.{ℕ, ◌+◌, ◌*◌, ◌-◌, ◌^◌, ◌≤◌, ◌<◌
 use lib.ListN.{length, get_or, take, drop, set, length-set}
 use lib.Count.{count_trailing_zeros}
 use Rattle.gf64.specs.Field.{sum}
-use Rattle.poly.proofs.Filling.{filled, filled-start, filled_next, filled-all}
+use Rattle.poly.proofs.Filling.{filled, filled_start, filled_next, filled_all}
 use Rattle.coset.specs.Coset.{point}
-use Rattle.coset.proofs.Dependence.{point-first}
-use Rattle.coset.proofs.Sequence.{point-stepped}
+use Rattle.coset.proofs.Dependence.{point_first}
+use Rattle.coset.proofs.Sequence.{point_stepped}
 use Rattle.coset_value.specs.declared.Coset.{Coset}
 use Rattle.coset_value.specs.Cosets.{numbers}
-use Rattle.coset_value.proofs.Cosets.{length-cosetValues, cosetValues-at, lent-part, length-lent-part, Part, part_of}
-use Rattle.fold.specs.Halving.{value_at, cosetValues}
+use Rattle.coset_value.proofs.Cosets.{length-coset_values, coset_values_at, lent_part, length_lent_part, Part, part_of}
+use Rattle.fold.specs.Halving.{value_at, coset_values}
 use borrow.Author.Rules.{rules}
 use native.Mathlib.Omega.{arith}
 use Rattle.word_fold.proofs.fill_cosets.Statement.{statement}
@@ -21,7 +21,7 @@ use Rattle.word_fold.proofs.fill_cosets.Tie as tie
 
 abbrev invariant-loop : tie.invariant-loop
 invariant-loop inverses span upper word challenge values₀ sums first₀ j₀ values first j =
-    let target = cosetValues inverses span (sum first₀.0 challenge.0) upper word in
+    let target = coset_values inverses span (sum first₀.0 challenge.0) upper word in
     (j ≤ length values₀) × (values ≡ filled target values₀ j) × (length values ≡ length values₀)
     × (j < length values₀ → first.0 ≡ point first₀.0 upper j)
 
@@ -35,12 +35,12 @@ start_of c = c.before.before.before.before.before.before.before
 abbrev valuesDue : tie.Start invariant-loop decreases-loop → List ℕ
 valuesDue c =
     let a = c.args in
-    cosetValues a.inverses.now a.span.now (sum a.offset.0 a.challenge.0) a.upper.now a.word.now
+    coset_values a.inverses.now a.span.now (sum a.offset.0 a.challenge.0) a.upper.now a.word.now
 
 as_many : (c : tie.Start invariant-loop decreases-loop) → length (valuesDue c) ≡ length c.args.values.now
 as_many c =
     let a = c.args in
-    length-cosetValues a.inverses.now a.span.now (sum a.offset.0 a.challenge.0) a.upper.now
+    length-coset_values a.inverses.now a.span.now (sum a.offset.0 a.challenge.0) a.upper.now
     a.word.now
     ∙ sym c.requires.1
 
@@ -68,9 +68,9 @@ loop-holds c =
     let start = c.before.before.before.before.before.before in
     let a = start.args in (
       search rules,
-      filled-start (valuesDue start) a.values.now,
+      filled_start (valuesDue start) a.values.now,
       refl,
-      λ h. sym (point-first a.offset.0 a.upper.now),
+      λ h. sym (point_first a.offset.0 a.upper.now),
     )
 
 mul-start : tie.Need-overflow-mul-start invariant-loop decreases-loop
@@ -96,7 +96,7 @@ read-requires c κs =
     let here = c.before in
     let a = (start_of here.before).args in
     let m = length a.span.now in
-    ((part_at here).eight, length-lent-part (here.before.loop.j * m) m a.word.now (part_at here).within)
+    ((part_at here).eight, length_lent_part (here.before.loop.j * m) m a.word.now (part_at here).within)
 
 value-at-requires : tie.Need-value-at-requires invariant-loop decreases-loop
 value-at-requires c κs =
@@ -137,10 +137,10 @@ loop-again c =
     ∙ ap (λ (r : Coset). value_at a.inverses.now (map (sum a.challenge.0) (numbers r.points))
     (numbers r.entries))
     read.read.ensures
-    ∙ cosetValues-at a.inverses.now a.span.now a.offset.0 a.challenge.0 a.upper.now a.word.now
+    ∙ coset_values_at a.inverses.now a.span.now a.offset.0 a.challenge.0 a.upper.now a.word.now
     start.pre.0
     l.j l.first.0 (take (l.j * m + m - l.j * m) (drop (l.j * m) a.word.now)) inside first
-    (lent-part (l.j * m) m a.word.now)
+    (lent_part (l.j * m) m a.word.now)
     in (
       search rules,
       ap (λ (held : List ℕ). set held l.j called.result.0) l.invariant.1
@@ -150,7 +150,7 @@ loop-again c =
       λ h. c.stepped.ensures
           ∙ ap (λ (sums : List ℕ). sum l.first.0 (get_or sums (count_trailing_zeros 64 (l.j + 1)) 0))
           here.before.before.prefix-sums.ensures
-          ∙ point-stepped a.offset.0 a.upper.now l.j l.first.0 start.pre.0.upper_fits first
+          ∙ point_stepped a.offset.0 a.upper.now l.j l.first.0 start.pre.0.upper_fits first
           (omega (arith, start.pre.1)),
     )
 
@@ -161,7 +161,7 @@ returns : tie.Need-returns invariant-loop decreases-loop
 returns c =
     let start = start_of c.before in
     let l = c.before.loop in
-    l.invariant.1 ∙ filled-all (valuesDue start) start.args.values.now l.j (omega (arith, l.invariant.2))
+    l.invariant.1 ∙ filled_all (valuesDue start) start.args.values.now l.j (omega (arith, l.invariant.2))
     (as_many start)
 
 pub fill-cosets-spec : {M : Type 1} → statement M

@@ -7,15 +7,15 @@ use lib.ListN.{length, get_or, take, drop, set}
 use lib.Count.{count_trailing_zeros}
 use Rattle.gf64.specs.Field.{sum}
 use Rattle.coset.specs.Coset.{point}
-use Rattle.coset.proofs.Dependence.{point-first}
-use Rattle.coset.proofs.Sequence.{point-stepped}
-use Rattle.coset.proofs.Sizes.{size-shifted}
+use Rattle.coset.proofs.Dependence.{point_first}
+use Rattle.coset.proofs.Sequence.{point_stepped}
+use Rattle.coset.proofs.Sizes.{size_shifted}
 use Rattle.coset_value.specs.declared.Coset.{Coset}
 use Rattle.coset_value.specs.Cosets.{numbers}
-use Rattle.coset_value.proofs.Cosets.{length-cosetValues, cosetValues-at, lent-part, length-lent-part, entries-few}
+use Rattle.coset_value.proofs.Cosets.{length-coset_values, coset_values_at, lent_part, length_lent_part, entries_few}
 use Rattle.coset_value.proofs.Cosets.{Part, part_of}
-use Rattle.fold.specs.Halving.{value_at, cosetValues}
-use Rattle.word_fold.proofs.Behind.{Behind, behind-start, behind-next, behind-part, behind-all}
+use Rattle.fold.specs.Halving.{value_at, coset_values}
+use Rattle.word_fold.proofs.Behind.{Behind, behind_start, behind_next, behind_part, behind_all}
 use borrow.Author.Rules.{rules}
 use native.Mathlib.Omega.{arith}
 use Rattle.word_fold.proofs.fill_cosets_behind.Statement.{statement}
@@ -24,7 +24,7 @@ use Rattle.word_fold.proofs.fill_cosets_behind.Tie as tie
 abbrev invariant-loop : tie.invariant-loop
 invariant-loop inverses span upper challenge joined₀ sums count size point₀ j₀ joined first j =
     let whole = 2 ^ length upper * length span in
-    let target = cosetValues inverses span (sum point₀.0 challenge.0) upper (take whole joined₀) in
+    let target = coset_values inverses span (sum point₀.0 challenge.0) upper (take whole joined₀) in
     (j ≤ 2 ^ length upper) × Behind whole target joined₀ joined j
     × (j < 2 ^ length upper → first.0 ≡ point point₀.0 upper j)
 
@@ -32,8 +32,8 @@ abbrev decreases-loop : tie.decreases-loop
 decreases-loop inverses span upper challenge joined₀ sums count size point₀ j₀ joined first j = 2 ^ length upper - j
 
 -- how many cosets there are, and how many entries the layer has, as the code has them
-count-is : (k : ℕ) → k ≤ 20 → 1 * 2 ^ k % 2 ^ 64 ≡ 2 ^ k
-count-is k h = size-shifted k (omega arith)
+count_is : (k : ℕ) → k ≤ 20 → 1 * 2 ^ k % 2 ^ 64 ≡ 2 ^ k
+count_is k h = size_shifted k (omega arith)
 
 abbrev start_of : tie.At-loop invariant-loop decreases-loop → tie.Start invariant-loop decreases-loop
 start_of c = c.before.before.before.before.before.before
@@ -45,7 +45,7 @@ abbrev whole : tie.Start invariant-loop decreases-loop → ℕ
 whole c = cosets c * length c.args.span.now
 
 counted : (c : tie.Start invariant-loop decreases-loop) → 1 * cosets c % 2 ^ 64 ≡ cosets c
-counted c = count-is (length c.args.upper.now) c.requires.0.upper_fits
+counted c = count_is (length c.args.upper.now) c.requires.0.upper_fits
 
 sized : (c : tie.Start invariant-loop decreases-loop) → 1 * cosets c % 2 ^ 64 * length c.args.span.now ≡ whole c
 sized c = ap (λ (n : ℕ). n * length c.args.span.now) (counted c)
@@ -55,13 +55,13 @@ abbrev valuesDue : tie.Start invariant-loop decreases-loop → List ℕ
 valuesDue c =
     let a = c.args in
     let moved = sum a.offset.0 a.challenge.0 in
-    cosetValues a.inverses.now a.span.now moved a.upper.now (take (whole c) a.joined.now)
+    coset_values a.inverses.now a.span.now moved a.upper.now (take (whole c) a.joined.now)
 
 as_many : (c : tie.Start invariant-loop decreases-loop) → length (valuesDue c) ≡ cosets c
 as_many c =
     let a = c.args in
     let moved = sum a.offset.0 a.challenge.0 in
-    length-cosetValues a.inverses.now a.span.now moved a.upper.now (take (whole c) a.joined.now)
+    length-coset_values a.inverses.now a.span.now moved a.upper.now (take (whole c) a.joined.now)
 
 -- in the loop there is a coset left, whose entries lie in the layer
 below : (c : tie.In-loop invariant-loop decreases-loop) → c.before.loop.j < cosets (start_of c.before)
@@ -85,16 +85,16 @@ shl-count c = omega (arith, c.before.before.before.before.before.requires.0.uppe
 mul-size : tie.Need-overflow-mul-size invariant-loop decreases-loop
 mul-size c =
     let start = c.before.before.before.before.before in
-    omega (arith, sized start, (entries-few start.requires.0).1)
+    omega (arith, sized start, (entries_few start.requires.0).1)
 
 loop-holds : tie.Need-loop-init invariant-loop decreases-loop
 loop-holds c =
     let start = c.before.before.before.before.before in
     let a = start.args in (
       search rules,
-      behind-start (whole start) (valuesDue start) a.joined.now
+      behind_start (whole start) (valuesDue start) a.joined.now
           (start.requires.1 ∙ ap (λ (n : ℕ). whole start + n) (sym (as_many start))),
-      λ h. sym (point-first a.offset.0 a.upper.now),
+      λ h. sym (point_first a.offset.0 a.upper.now),
     )
 
 mul-start : tie.Need-overflow-mul-start invariant-loop decreases-loop
@@ -120,7 +120,7 @@ read-requires c κs =
     let here = c.before.before in
     let l = here.before.loop in
     let m = length (start_of here.before).args.span.now in
-    ((part_at here).eight, length-lent-part (l.j * m) m l.joined (omega (arith, (part_at here).within, long here)))
+    ((part_at here).eight, length_lent_part (l.j * m) m l.joined (omega (arith, (part_at here).within, long here)))
 
 value-at-requires : tie.Need-value-at-requires invariant-loop decreases-loop
 value-at-requires c κs =
@@ -172,21 +172,21 @@ loop-again c =
     ∙ ap (λ (r : Coset). value_at a.inverses.now (map (sum a.challenge.0) (numbers r.points))
     (numbers r.entries))
     read.read.ensures
-    ∙ cosetValues-at a.inverses.now a.span.now a.offset.0 a.challenge.0 a.upper.now layer
+    ∙ coset_values_at a.inverses.now a.span.now a.offset.0 a.challenge.0 a.upper.now layer
     start.pre.0
     l.j l.point.0 (take (l.j * m + m - l.j * m) (drop (l.j * m) l.joined)) (below here) first
-    (lent-part (l.j * m) m l.joined ∙ behind-part l.invariant.1 (l.j * m) m (part_at here).within)
+    (lent_part (l.j * m) m l.joined ∙ behind_part l.invariant.1 (l.j * m) m (part_at here).within)
     in (
       omega (arith, below here),
       subst
           (λ (n : ℕ). Behind (whole start) (valuesDue start) a.joined.now
           (set l.joined (n + l.j) called.result.0) (l.j + 1))
           (sym (sized start))
-          (behind-next l.invariant.1 called.result.0 (omega (arith, below here, as_many start)) stored),
+          (behind_next l.invariant.1 called.result.0 (omega (arith, below here, as_many start)) stored),
       λ h. c.stepped.ensures
           ∙ ap (λ (sums : List ℕ). sum l.point.0 (get_or sums (count_trailing_zeros 64 (l.j + 1)) 0))
           here.before.before.prefix-sums.ensures
-          ∙ point-stepped a.offset.0 a.upper.now l.j l.point.0 start.pre.0.upper_fits first
+          ∙ point_stepped a.offset.0 a.upper.now l.j l.point.0 start.pre.0.upper_fits first
           (omega arith),
     )
 
@@ -196,7 +196,7 @@ same_length c = search rules
 returns : tie.Need-returns invariant-loop decreases-loop
 returns c =
     let start = start_of c.before in
-    behind-all c.before.loop.invariant.1 (omega (arith, as_many start, counted start))
+    behind_all c.before.loop.invariant.1 (omega (arith, as_many start, counted start))
 
 pub fill-cosets-behind-spec : {M : Type 1} → statement M
 fill-cosets-behind-spec =

@@ -5,13 +5,13 @@ use lib.Pow.{pow_mono}
 use lib.ListN.{length, take}
 use lib.Seq.{length-take-le}
 use Rattle.gf64.specs.Field.{IsElement}
-use Rattle.coset.proofs.Points.{all-elements}
-use Rattle.coset.proofs.Steps.{listed-not-zero}
-use Rattle.coset.proofs.Sizes.{size-shifted}
+use Rattle.coset.proofs.Points.{all_elements}
+use Rattle.coset.proofs.Steps.{listed_not_zero}
+use Rattle.coset.proofs.Sizes.{size_shifted}
 use Rattle.fold.specs.Theorems.{IsWord}
-use Rattle.fold.proofs.AllCosets.{Ready, length-inverses-taken, length-span-taken, length-upper, cosets-fit}
+use Rattle.fold.proofs.AllCosets.{Ready, length_inverses_taken, length_span_taken, length_upper, cosets_fit}
 use Rattle.fold.proofs.AllCosets.{entries_fit}
-use Rattle.fold.proofs.AllCosets.{all-cosets}
+use Rattle.fold.proofs.AllCosets.{all_cosets}
 use borrow.Author.Rules.{rules}
 use native.Mathlib.Omega.{arith}
 use Rattle.word_fold.proofs.fill_values.Statement.{statement}
@@ -34,11 +34,11 @@ ready c =
       some = fits.some;
       few = fits.few;
       fits = fits.fits;
-      basis-fits = fits.basis-fits;
-      elements-are = fits.elements-are;
+      basis_fits = fits.basis_fits;
+      elements_are = fits.elements_are;
       inverted = c.before.before.inverses-of.ensures;
       spanned = c.Span-of.ensures;
-      sized = size-shifted (length (start_of c).args.elements.now) (omega (arith, fits.few));
+      sized = size_shifted (length (start_of c).args.elements.now) (omega (arith, fits.few));
     }
 
 three : (c : tie.After-span-of) → length c.before.before.inverses-of.result ≡ 3
@@ -47,8 +47,8 @@ three c = search rules
 eight : (c : tie.After-span-of) → length c.Span-of.result ≡ 8
 eight c = search rules
 
-challenge-element : (c : tie.Start) → IsElement c.args.challenge.0
-challenge-element c = search rules
+challenge_element : (c : tie.Start) → IsElement c.args.challenge.0
+challenge_element c = search rules
 
 -- the step's part of the basis, as it is lent
 lent : (c : tie.Start)
@@ -61,10 +61,10 @@ is_word c =
     let start = start_of c in
     let lists = c.before.before.before.before in
     record {
-      offset-element = search rules;
-      basis-elements = all-elements start.args.basis.now
+      offset_element = search rules;
+      basis_elements = all_elements start.args.basis.now
           (λ i. omega (arith, lists.before.shared-slice-known2.given i));
-      word-elements = all-elements start.args.word.now (λ i. omega (arith, lists.shared-slice-known3.given i));
+      word_elements = all_elements start.args.word.now (λ i. omega (arith, lists.shared-slice-known3.given i));
       independent = start.pre.step.independent;
       count = start.pre.word_fits;
     }
@@ -79,9 +79,9 @@ inverses-of-requires c κs =
     let basis = start.args.basis.now in
     let fits = start.requires.step in (
       fits.few,
-      listed-not-zero (length start.args.elements.now) basis start.args.elements.now
-          (all-elements basis (λ i. omega (arith, known.shared-slice-known2.given i))) fits.independent
-          fits.elements-are,
+      listed_not_zero (length start.args.elements.now) basis start.args.elements.now
+          (all_elements basis (λ i. omega (arith, known.shared-slice-known2.given i))) fits.independent
+          fits.elements_are,
     )
 
 slice-aggregate-span-of : tie.Need-slice-aggregate-span-of
@@ -96,7 +96,7 @@ array-share-prefix-inverses : tie.Need-array-share-prefix-inverses
 array-share-prefix-inverses c = omega (arith, three c, (start_of c).requires.step.few)
 
 slice-aggregate-fill-cosets : tie.Need-slice-aggregate-fill-cosets
-slice-aggregate-fill-cosets c = sym (length-inverses-taken (ready c.before))
+slice-aggregate-fill-cosets c = sym (length_inverses_taken (ready c.before))
 
 array-share-prefix-span : tie.Need-array-share-prefix-span
 array-share-prefix-span c =
@@ -107,7 +107,7 @@ array-share-prefix-span c =
 slice-aggregate-fill-cosets-2 : tie.Need-slice-aggregate-fill-cosets-2
 slice-aggregate-fill-cosets-2 c =
     let r = ready c.before.before in
-    r.sized ∙ sym (length-span-taken r)
+    r.sized ∙ sym (length_span_taken r)
 
 mul-fill-cosets : tie.Need-overflow-mul-fill-cosets
 mul-fill-cosets c = search rules
@@ -126,7 +126,7 @@ fill-cosets-requires c κs =
     let made = c.before.before.before.before in
     let r = ready made in
     let pre = (start_of made).requires in
-    (cosets-fit r, pre.values-fit ∙ ap (λ (n : ℕ). 2 ^ n) (sym (length-upper r)), pre.word_fits ∙ sym (entries_fit r))
+    (cosets_fit r, pre.values_fit ∙ ap (λ (n : ℕ). 2 ^ n) (sym (length_upper r)), pre.word_fits ∙ sym (entries_fit r))
 
 same_length : tie.Need-same-length
 same_length c = search rules
@@ -136,8 +136,8 @@ returns c =
     let made = c.before.before.before.before.before.before.before in
     let a = (start_of made).args in
     c.before.before.fill-cosets.ensures
-    ∙ all-cosets (ready made) a.offset.0 a.word.now a.challenge.0 (is_word made)
-    (challenge-element (start_of made))
+    ∙ all_cosets (ready made) a.offset.0 a.word.now a.challenge.0 (is_word made)
+    (challenge_element (start_of made))
 
 pub fill-values-spec : {M : Type 1} → statement M
 fill-values-spec =

@@ -3,11 +3,11 @@ use mathlib.Core.Path.{◌≡◌, sym, ◌∙◌}
 use borrow.Author.Rules.{rules}
 use Rattle.refusal.specs.declared.Outcome.{Outcome}
 use Rattle.refusal.specs.declared.Outcome.TheVariants.{Done}
-use Rattle.refusal.proofs.Checks.{then-passed, then-refused}
+use Rattle.refusal.proofs.Checks.{then_passed, then_refused}
 use Rattle.fri.specs.Run.{Run}
 use Rattle.layout.specs.Parameters.{run_of}
-use Rattle.run_checks.proofs.Lists.{of-lists, lists-then, lists-valid}
-use Rattle.writer.proofs.Checks.{after-lists, sized-is}
+use Rattle.run_checks.proofs.Lists.{of_lists, lists_then, lists_valid}
+use Rattle.writer.proofs.Checks.{after_lists, sized_is}
 use Rattle.writer.proofs.checked.Statement.{statement}
 use Rattle.writer.proofs.checked.Tie as tie
 
@@ -24,11 +24,11 @@ run_at c =
 
 -- what the checks after those of lists 1 to 5 give
 abbrev after-at : tie.After-checked-lists → Outcome
-after-at c = let a = (start_of c).args in after-lists (run_at c) a.queries.now a.size
+after-at c = let a = (start_of c).args in after_lists (run_at c) a.queries.now a.size
 
 -- the checks of parameters and lists 1 to 5 passed
 abbrev Passed : tie.After-enum-told → Type 0
-Passed c = of-lists (run_at c.before.before) ≡ Done
+Passed c = of_lists (run_at c.before.before) ≡ Done
 
 passed : (c : tie.After-enum-told) → Passed c
 passed c =
@@ -43,7 +43,7 @@ enum_told : tie.Need-enum-told
 enum_told c = search rules
 
 checked-after-lists-requires : tie.Need-checked-after-lists-requires
-checked-after-lists-requires c κs = lists-valid (run_at c.before.before) (passed c)
+checked-after-lists-requires c κs = lists_valid (run_at c.before.before) (passed c)
 
 enum-known-lists : tie.Need-enum-known-lists
 enum-known-lists c = search rules
@@ -53,16 +53,16 @@ returns c =
     let first = c.before.before.before in
     let a = (start_of first).args in
     let run = run_at first in
-    c.checked-after-lists.ensures ∙ sized-is run a.queries.now a.size (passed c.before)
-    ∙ then-passed (of-lists run) (after-at first) (passed c.before) ∙ lists-then run (after-at first)
+    c.checked-after-lists.ensures ∙ sized_is run a.queries.now a.size (passed c.before)
+    ∙ then_passed (of_lists run) (after-at first) (passed c.before) ∙ lists_then run (after-at first)
 
 returns-2 : tie.Need-returns-2
 returns-2 c =
     let first = c.before.before.before in
     let run = run_at first in
     let refused = c.before.lists.given in
-    then-refused (of-lists run) (after-at first) refused.0.0 (sym first.checked-lists.ensures ∙ refused.1)
-    ∙ lists-then run (after-at first)
+    then_refused (of_lists run) (after-at first) refused.0.0 (sym first.checked-lists.ensures ∙ refused.1)
+    ∙ lists_then run (after-at first)
 
 pub checked-spec : {M : Type 1} → statement M
 checked-spec =

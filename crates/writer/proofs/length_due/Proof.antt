@@ -3,11 +3,11 @@ use mathlib.Core.Path.{◌≡◌, ap, ◌∙◌}
 use native.Mathlib.Nat.{le_of_eq}
 use native.Mathlib.Omega.{arith}
 use borrow.Author.Rules.{rules}
-use Rattle.coset.proofs.Sizes.{size-shifted}
-use Rattle.fri.specs.Layout.{layerStart, storeLength}
-use Rattle.layout.specs.Parameters.{stepsBy}
-use Rattle.layout.proofs.Sizes.{few-rounds, one-round, start-few, storeLength-is}
-use Rattle.writer.proofs.Lengths.{last-few, word_small}
+use Rattle.coset.proofs.Sizes.{size_shifted}
+use Rattle.fri.specs.Layout.{layer_start, store_length}
+use Rattle.layout.specs.Parameters.{steps_by}
+use Rattle.layout.proofs.Sizes.{few_rounds, one_round, start_few, store_length_is}
+use Rattle.writer.proofs.Lengths.{last_few, word_small}
 use Rattle.writer.proofs.length_due.Statement.{statement}
 use Rattle.writer.proofs.length_due.Tie as tie
 
@@ -22,7 +22,7 @@ layer-start-requires c κs =
     let rounds = c.before in
     let start = rounds.before in (
       start.requires.0,
-      omega (arith, rounds.rounds.ensures, one-round start.args.parameters start.requires.0),
+      omega (arith, rounds.rounds.ensures, one_round start.args.parameters start.requires.0),
       le_of_eq rounds.rounds.ensures,
     )
 
@@ -36,12 +36,12 @@ bytes-of-requires c κs =
     let p = start.args.parameters in
     let v = start.requires.0 in
     let r = rounds.rounds in (
-      v.k-most,
-      omega (arith, r.ensures, few-rounds p v),
+      v.k_most,
+      omega (arith, r.ensures, few_rounds p v),
       start.requires.1,
       word_small p v,
-      omega (arith, c.before.layer-start.ensures, start-few p v r.result (le_of_eq r.ensures)),
-      omega (arith, c.last-count.ensures, last-few p v),
+      omega (arith, c.before.layer-start.ensures, start_few p v r.result (le_of_eq r.ensures)),
+      omega (arith, c.last-count.ensures, last_few p v),
     )
 
 returns : tie.Need-returns
@@ -49,15 +49,15 @@ returns c =
     let rounds = c.before.before.before.before in
     let start = rounds.before in
     let p = start.args.parameters in
-    let steps = stepsBy p in
-    let store : c.before.before.layer-start.result ≡ storeLength p.k steps =
-    c.before.before.layer-start.ensures ∙ ap (layerStart p.k steps) rounds.rounds.ensures
-    ∙ storeLength-is p.k steps in
+    let steps = steps_by p in
+    let store : c.before.before.layer-start.result ≡ store_length p.k steps =
+    c.before.before.layer-start.ensures ∙ ap (layer_start p.k steps) rounds.rounds.ensures
+    ∙ store_length_is p.k steps in
     omega (
       arith,
       c.bytes_of.ensures,
       rounds.rounds.ensures,
-      size-shifted p.k (omega (arith, start.requires.0.k-most)),
+      size_shifted p.k (omega (arith, start.requires.0.k_most)),
       store,
       c.before.last-count.ensures,
     )

@@ -7,30 +7,30 @@ use borrow.Author.Rules.{rules}
 use borrow.Author.Tests.{lt-ltb, le-ltb}
 use Rattle.refusal.specs.declared.Outcome.{Outcome}
 use Rattle.refusal.specs.declared.Outcome.TheVariants.{Done, Refused}
-use Rattle.fri.specs.Checks.{parametersOutcome}
-use Rattle.fri.proofs.Checks.{parameters-valid}
+use Rattle.fri.specs.Checks.{parameters_outcome}
+use Rattle.fri.proofs.Checks.{parameters_valid}
 use Rattle.layout.specs.declared.Parameters.{Parameters}
-use Rattle.layout.specs.Parameters.{stepsBy}
-use Rattle.written.specs.Transcript.{transcriptLength}
-use Rattle.writer.specs.Lengths.{or_zero, transcriptLengthOf}
+use Rattle.layout.specs.Parameters.{steps_by}
+use Rattle.written.specs.Transcript.{transcript_length}
+use Rattle.writer.specs.Lengths.{or_zero, transcript_length_of}
 use Rattle.writer.proofs.transcript_length.Statement.{statement}
 use Rattle.writer.proofs.transcript_length.Tie as tie
 
 -- what the two tests answer decides
 length-where : (p : Parameters) (queries : ℕ) (outcome : Outcome) (few : Bool)
-    → parametersOutcome p.k p.rate p.step ≡ outcome → ltb queries (2 ^ 60) ≡ few
-    → or_zero outcome (cond few (transcriptLength p.k p.rate (stepsBy p) queries) 0)
-    ≡ transcriptLengthOf p queries
+    → parameters_outcome p.k p.rate p.step ≡ outcome → ltb queries (2 ^ 60) ≡ few
+    → or_zero outcome (cond few (transcript_length p.k p.rate (steps_by p) queries) 0)
+    ≡ transcript_length_of p queries
 length-where p queries outcome few e f =
     sym
-    (ap₂ (λ (o : Outcome) (t : Bool). or_zero o (cond t (transcriptLength p.k p.rate (stepsBy p) queries) 0)) e f)
+    (ap₂ (λ (o : Outcome) (t : Bool). or_zero o (cond t (transcript_length p.k p.rate (steps_by p) queries) 0)) e f)
 
 -- the parameters are in range
 abbrev InRange : tie.After-enum-told → Type 0
-InRange c = let p = c.before.before.before.args.parameters in parametersOutcome p.k p.rate p.step ≡ Done
+InRange c = let p = c.before.before.before.args.parameters in parameters_outcome p.k p.rate p.step ≡ Done
 
-in-range : (c : tie.After-enum-told) → InRange c
-in-range c =
+in_range : (c : tie.After-enum-told) → InRange c
+in_range c =
     let done : c.before.before.checked.result ≡ Done = search rules in
     sym c.before.before.checked.ensures ∙ done
 
@@ -43,13 +43,13 @@ enum_told c = search rules
 returns : tie.Need-returns
 returns c =
     let a = c.before.before.before.before.args in
-    length-where a.parameters a.queries Done false (in-range c.before)
+    length-where a.parameters a.queries Done false (in_range c.before)
     (le-ltb a.queries (2 ^ 60) c.if1.true)
 
 length-due-requires : tie.Need-length-due-requires
 length-due-requires c κs =
     let p = c.before.before.before.before.args.parameters in
-    (parameters-valid p.k p.rate p.step (in-range c.before), c.if1.false)
+    (parameters_valid p.k p.rate p.step (in_range c.before), c.if1.false)
 
 enum-told-2 : tie.Need-enum-told-2
 enum-told-2 c = search rules
@@ -59,7 +59,7 @@ returns-2 c =
     let few = c.before in
     let a = few.before.before.before.before.args in
     c.length-due.ensures
-    ∙ length-where a.parameters a.queries Done true (in-range few.before)
+    ∙ length-where a.parameters a.queries Done true (in_range few.before)
     (lt-ltb a.queries (2 ^ 60) few.if1.false)
 
 returns-3 : tie.Need-returns-3

@@ -4,13 +4,13 @@ use lib.ListN.{length}
 use borrow.Author.Rules.{rules}
 use Rattle.refusal.specs.declared.Outcome.{Outcome}
 use Rattle.refusal.specs.declared.Outcome.TheVariants.{Done}
-use Rattle.refusal.proofs.Checks.{done-holds, refused-holds}
+use Rattle.refusal.proofs.Checks.{done_holds, refused_holds}
 use Rattle.fri.specs.Run.{Run}
 use Rattle.layout.specs.Parameters.{run_of}
-use Rattle.written.specs.Transcript.{transcriptOf}
-use Rattle.written.specs.Writer.{writeOutcome}
-use Rattle.run_checks.proofs.Lists.{lists-valid, lists-fit}
-use Rattle.writer.proofs.Checks.{passed-lists, passed-size}
+use Rattle.written.specs.Transcript.{transcript_of}
+use Rattle.written.specs.Writer.{write_outcome}
+use Rattle.run_checks.proofs.Lists.{lists_valid, lists_fit}
+use Rattle.writer.proofs.Checks.{passed_lists, passed_size}
 use Rattle.writer.proofs.write.Statement.{statement}
 use Rattle.writer.proofs.write.Tie as tie
 
@@ -27,7 +27,7 @@ run_at c =
 
 -- what is answered
 abbrev answer_at : tie.After-checked → Outcome
-answer_at c = let a = (start_of c).args in writeOutcome (run_at c) a.queries.now (length a.bytes.now)
+answer_at c = let a = (start_of c).args in write_outcome (run_at c) a.queries.now (length a.bytes.now)
 
 -- the checks passed
 abbrev Passed : tie.After-enum-told → Type 0
@@ -53,8 +53,8 @@ put-transcript-requires c κs =
     let run = run_at checked in
     let asked = a.queries.now in
     let size = length a.bytes.now in
-    let lists = (passed-lists run asked size (passed told)).0 in
-    (lists-valid run lists, lists-fit run lists, passed-size run asked size (passed told))
+    let lists = (passed_lists run asked size (passed told)).0 in
+    (lists_valid run lists, lists_fit run lists, passed_size run asked size (passed told))
 
 enum-known-outcome : tie.Need-enum-known-outcome
 enum-known-outcome c = search rules
@@ -71,7 +71,7 @@ returns c =
     record {
       answer = sym (passed told);
       bytes =
-          done-holds (answer_at checked) (transcriptOf (run_at checked) a.queries.now) a.bytes.now
+          done_holds (answer_at checked) (transcript_of (run_at checked) a.queries.now) a.bytes.now
           f.new.1.1.1.1.1.1.1.1.0 (passed told) f.ensures;
     }
 
@@ -84,7 +84,7 @@ returns-2 c =
     record {
       answer = sym refused;
       bytes =
-          refused-holds (answer_at checked) told.0.0 (transcriptOf (run_at checked) a.queries.now)
+          refused_holds (answer_at checked) told.0.0 (transcript_of (run_at checked) a.queries.now)
           a.bytes.now refused;
     }
 

@@ -3,7 +3,7 @@ use Prim.Native.Nat.{◌+◌, ◌-◌, ◌/◌}
 use mathlib.Core.Path.{◌≡◌, subst}
 use native.Mathlib.Omega.{arith}
 use borrow.Author.Rules.{rules}
-use Rattle.line_text.proofs.Decimals.{Counting, counting-start, counting-next, counting-end}
+use Rattle.line_text.proofs.Decimals.{Counting, counting_start, counting_next, counting_end}
 use Rattle.writing.proofs.places.Statement.{statement}
 use Rattle.writing.proofs.places.Tie as tie
 
@@ -14,7 +14,7 @@ abbrev decreases-loop : tie.decreases-loop
 decreases-loop n count₀ rest₀ count rest = rest
 
 loop-holds : tie.Need-loop-init invariant-loop decreases-loop
-loop-holds c = counting-start c.args.n (search rules)
+loop-holds c = counting_start c.args.n (search rules)
 
 add-count : tie.Need-overflow-add-count invariant-loop decreases-loop
 add-count c = search rules
@@ -28,13 +28,13 @@ loop-again c =
     let l = c.before.loop in
     let less : 20 - l.count - 1 ≡ 20 - (l.count + 1) = omega arith in
     subst (Counting n (l.count + 1) (l.rest / 10)) less
-    (counting-next n l.count l.rest (20 - l.count) l.invariant (omega arith))
+    (counting_next n l.count l.rest (20 - l.count) l.invariant (omega arith))
 
 returns : tie.Need-returns invariant-loop decreases-loop
 returns c =
     let l = c.before.loop in
     let n = c.before.before.args.n in
-    (counting-end n l.count l.rest (20 - l.count) l.invariant (omega arith), search rules)
+    (counting_end n l.count l.rest (20 - l.count) l.invariant (omega arith), search rules)
 
 pub places-spec : {M : Type 1} → statement M
 places-spec =

@@ -7,7 +7,7 @@ use native.Mathlib.Omega.{arith}
 use lib.ListN.{length}
 use borrow.Author.Rules.{rules}
 use Rattle.line_text.specs.Digits.{digits}
-use Rattle.writing.proofs.Filling.{Filling, filling-start, filling-next, filling-end}
+use Rattle.writing.proofs.Filling.{Filling, filling_start, filling_next, filling_end}
 use Rattle.writing.proofs.put_digits.Statement.{statement}
 use Rattle.writing.proofs.put_digits.Tie as tie
 
@@ -21,7 +21,7 @@ decreases-loop n base width at out₀ rest₀ left₀ out rest left = left
 loop-holds : tie.Need-loop-init invariant-loop decreases-loop
 loop-holds c =
     let a = c.before.args in
-    let filling = filling-start a.out.now a.base a.width a.n a.at c.before.requires.1 in
+    let filling = filling_start a.out.now a.base a.width a.n a.at c.before.requires.1 in
     (search rules, search rules, refl, filling)
 
 rem-digit : tie.Need-nonzero-rem-digit invariant-loop decreases-loop
@@ -57,7 +57,7 @@ loop-again c =
       search rules,
       omega (arith, div-le_self l.rest a.base),
       search rules,
-      filling-next a.out.now a.base a.width a.n a.at room l.out l.rest l.left
+      filling_next a.out.now a.base a.width a.n a.at room l.out l.rest l.left
           c.digit.result (omega arith) (omega arith) c.digit.ensures l.invariant.3,
     )
 
@@ -72,7 +72,7 @@ returns c =
     let a = c.before.before.before.args in
     let l = c.before.loop in
     let room = c.before.before.before.requires.1 in
-    filling-end a.out.now a.base a.width a.n a.at room l.out l.rest l.left
+    filling_end a.out.now a.base a.width a.n a.at room l.out l.rest l.left
     (omega arith) l.invariant.3
 
 pub put-digits-spec : {M : Type 1} → statement M

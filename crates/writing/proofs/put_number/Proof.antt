@@ -4,7 +4,7 @@ use Prim.Native.Nat.{ℕ}
 use native.Mathlib.Omega.{arith}
 use borrow.Author.Rules.{rules}
 use Rattle.line_text.specs.Digits.{bytes, digits, decimal}
-use Rattle.placing.proofs.Placing.{put-append, put_same}
+use Rattle.placing.proofs.Placing.{put_append, put_same}
 use Rattle.line_text.proofs.Decimals.{length_digits}
 use Rattle.writing.proofs.put_number.Statement.{statement}
 use Rattle.writing.proofs.put_number.Tie as tie
@@ -31,7 +31,7 @@ returns c =
     let space = c.before.before.before.before.before.before.before.put.ensures in
     let places = c.before.before.before.before.places in
     let number = c.before.before.put-digits.ensures in (
-      put-append space (put_same number (ap (λ (width : ℕ). digits 10 width n) places.ensures.0)),
+      put_append space (put_same number (ap (λ (width : ℕ). digits 10 width n) places.ensures.0)),
       omega (arith, space.ends, number.ends, length_digits 10 places.result n, places.ensures.1),
     )
 

@@ -2,7 +2,7 @@
 use native.Mathlib.Omega.{arith}
 use lib.ListN.{length-set}
 use borrow.Author.Rules.{rules}
-use Rattle.c_answers.proofs.Five.{five-stores}
+use Rattle.c_answers.proofs.Five.{five_stores}
 use Rattle.c_answers.proofs.Answer.write.Statement.{statement}
 use Rattle.c_answers.proofs.Answer.write.Tie as tie
 
@@ -25,7 +25,7 @@ same_length : tie.Need-same-length
 same_length c = search rules
 
 returns : tie.Need-returns
-returns c = five-stores c.args.lent.now _ _ _ _ _ c.requires
+returns c = five_stores c.args.lent.now _ _ _ _ _ c.requires
 
 pub write_spec : {M : Type 1} → statement M
 write_spec =

@@ -7,11 +7,11 @@ use lib.ListN.{get_or}
 use Rattle.gf64.specs.Field.{product}
 use Rattle.poly.specs.Carrier.{gf64}
 use Rattle.poly.specs.Polynomial.{padded}
-use Rattle.fold.specs.Halving.{halvedPoints, halvedEntries}
+use Rattle.fold.specs.Halving.{halved_points, halved_entries}
 use Rattle.coset_value.specs.Cosets.{elements, numbers}
-use Rattle.coset_value.proofs.Arrays.{begun, begun-start, begun-next, begun_all, number_at}
-use Rattle.coset_value.proofs.Cosets.{coset-equal, length-halvedPoints, halvedPoints-at, length-halvedEntries}
-use Rattle.coset_value.proofs.Cosets.{halvedEntries-at}
+use Rattle.coset_value.proofs.Arrays.{begun, begun_start, begun_next, begun_all, number_at}
+use Rattle.coset_value.proofs.Cosets.{coset_equal, length-halved_points, halved_points_at, length-halved_entries}
+use Rattle.coset_value.proofs.Cosets.{halved_entries_at}
 use borrow.Author.Rules.{rules}
 use native.Mathlib.Omega.{arith}
 use Rattle.coset_value.proofs.Coset.halved.Statement.{statement}
@@ -20,8 +20,8 @@ use Rattle.coset_value.proofs.Coset.halved.Tie as tie
 abbrev invariant-loop : tie.invariant-loop
 invariant-loop inverse self half points₀ entries₀ i₀ points entries i =
     let ps = numbers self.points in
-    (i ≤ half) × (half ≡ self.count / 2) × (half ≤ 4) × (points ≡ begun (halvedPoints half ps) i)
-    × (entries ≡ begun (halvedEntries inverse.0 half ps (numbers self.entries)) i)
+    (i ≤ half) × (half ≡ self.count / 2) × (half ≤ 4) × (points ≡ begun (halved_points half ps) i)
+    × (entries ≡ begun (halved_entries inverse.0 half ps (numbers self.entries)) i)
 
 abbrev decreases-loop : tie.decreases-loop
 decreases-loop inverse self half points₀ entries₀ i₀ points entries i = half - i
@@ -34,8 +34,8 @@ loop-holds c =
       search rules,
       refl,
       omega (arith, c.requires),
-      begun-start (halvedPoints half points),
-      begun-start (halvedEntries a.inverse.0 half points (numbers a.t1.entries)),
+      begun_start (halved_points half points),
+      begun_start (halved_entries a.inverse.0 half points (numbers a.t1.entries)),
     )
 
 mul-product : tie.Need-overflow-mul-product invariant-loop decreases-loop
@@ -90,20 +90,20 @@ loop-again c =
     let half = a.t1.count / 2 in
     let points = numbers a.t1.points in
     let entries = numbers a.t1.entries in
-    let count = length-halvedPoints half points in
-    let count' = length-halvedEntries a.inverse.0 half points entries in (
+    let count = length-halved_points half points in
+    let count' = length-halved_entries a.inverse.0 half points entries in (
       search rules,
       l.invariant.1,
       l.invariant.2,
-      begun-next (halvedPoints half points) l.points l.i c.before.product.result l.invariant.3
+      begun_next (halved_points half points) l.points l.i c.before.product.result l.invariant.3
           (omega (arith, count)) (omega (arith, count, l.invariant.2))
           (c.before.product.ensures.0
           ∙ ap₂ product (number_at a.t1.points (l.i * 2))
           (number_at a.t1.points (l.i * 2 + 1) ∙ ap (λ (n : ℕ). get_or points n 0) (add-one (l.i * 2)))
-          ∙ sym (halvedPoints-at half points l.i (omega arith))),
-      begun-next (halvedEntries a.inverse.0 half points entries) l.entries l.i c.line.result l.invariant.4
+          ∙ sym (halved_points_at half points l.i (omega arith))),
+      begun_next (halved_entries a.inverse.0 half points entries) l.entries l.i c.line.result l.invariant.4
           (omega (arith, count')) (omega (arith, count', l.invariant.2))
-          (c.line.ensures ∙ sym (halvedEntries-at a.inverse.0 half points entries l.i (omega arith))),
+          (c.line.ensures ∙ sym (halved_entries_at a.inverse.0 half points entries l.i (omega arith))),
     )
 
 returns : tie.Need-returns invariant-loop decreases-loop
@@ -113,12 +113,12 @@ returns c =
     let half = a.t1.count / 2 in
     let points = numbers a.t1.points in
     let entries = numbers a.t1.entries in
-    let count = length-halvedPoints half points in
-    let count' = length-halvedEntries a.inverse.0 half points entries in
-    let lines = halvedEntries a.inverse.0 half points entries in
-    coset-equal l.points (elements (padded gf64 8 (halvedPoints half points))) l.entries
+    let count = length-halved_points half points in
+    let count' = length-halved_entries a.inverse.0 half points entries in
+    let lines = halved_entries a.inverse.0 half points entries in
+    coset_equal l.points (elements (padded gf64 8 (halved_points half points))) l.entries
     (elements (padded gf64 8 lines)) half half
-    (begun_all (halvedPoints half points) l.points l.i l.invariant.3 (omega (arith, count))
+    (begun_all (halved_points half points) l.points l.i l.invariant.3 (omega (arith, count))
     (omega (arith, count, l.invariant.2)))
     (begun_all lines l.entries l.i l.invariant.4 (omega (arith, count')) (omega (arith, count', l.invariant.2)))
     refl

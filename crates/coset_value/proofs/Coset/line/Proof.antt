@@ -4,7 +4,7 @@ use Prim.Native.Nat.{ℕ, suc, ◌+◌, ◌*◌}
 use native.Mathlib.Numerals.{add-one}
 use lib.ListN.{get_or}
 use Rattle.gf64.specs.Field.{sum, product}
-use Rattle.fold.proofs.Lines.{line-is}
+use Rattle.fold.proofs.Lines.{line_is}
 use Rattle.coset_value.specs.Cosets.{numbers}
 use Rattle.coset_value.proofs.Arrays.{number_at}
 use borrow.Author.Rules.{rules}
@@ -70,7 +70,7 @@ returns c =
     (c.before.before.before.product.ensures.0
     ∙ ap (λ (s : ℕ). product s a.inverse.0)
     (c.before.before.before.before.sum.ensures ∙ ap₂ sum first second)))
-    ∙ line-is a.inverse.0 m u v
+    ∙ line_is a.inverse.0 m u v
 
 pub line-spec : {M : Type 1} → statement M
 line-spec =

@@ -9,7 +9,7 @@ use Rattle.gf64.specs.Field.{sum}
 use Rattle.poly.proofs.Filling.{get_d_map}
 use Rattle.field.specs.declared.Element.{Element}
 use Rattle.coset_value.specs.Cosets.{numbers}
-use Rattle.coset_value.proofs.Arrays.{begun, begun-start, begun-next, begun_all, length-numbers, number_at}
+use Rattle.coset_value.proofs.Arrays.{begun, begun_start, begun_next, begun_all, length-numbers, number_at}
 use Rattle.coset_value.proofs.Cosets.{coset}
 use borrow.Author.Rules.{rules}
 use native.Mathlib.Omega.{arith}
@@ -30,7 +30,7 @@ eight c = simp length-map at c.well-formed.0.1.1.0.1.0.1
 loop-holds : tie.Need-loop-init invariant-loop decreases-loop
 loop-holds c =
     let a = c.args in
-    (search rules, begun-start (map (sum a.challenge.0) (take a.t1.count (numbers a.t1.points))))
+    (search rules, begun_start (map (sum a.challenge.0) (take a.t1.count (numbers a.t1.points))))
 
 mul-sum : tie.Need-overflow-mul-sum invariant-loop decreases-loop
 mul-sum c = search rules
@@ -64,7 +64,7 @@ loop-again c =
     let count : length used ≡ a.t1.count = length-take-le a.t1.count points fits in
     let all = length-map used (sum a.challenge.0) in (
       search rules,
-      begun-next (map (sum a.challenge.0) used) l.points l.i c.sum.result l.invariant.1
+      begun_next (map (sum a.challenge.0) used) l.points l.i c.sum.result l.invariant.1
           (omega (arith, all, count)) (omega (arith, all, count, c.before.before.before.before.requires))
           (c.sum.ensures
           ∙ ap (sum a.challenge.0)

@@ -9,8 +9,8 @@ use Rattle.poly.specs.Carrier.{gf64}
 use Rattle.poly.specs.Polynomial.{padded}
 use Rattle.poly.proofs.Filling.{get_d_map}
 use Rattle.coset_value.specs.Cosets.{element, elements}
-use Rattle.coset_value.proofs.Arrays.{begun, begun-start, begun-next, begun_all}
-use Rattle.coset_value.proofs.Cosets.{coset-equal}
+use Rattle.coset_value.proofs.Arrays.{begun, begun_start, begun_next, begun_all}
+use Rattle.coset_value.proofs.Cosets.{coset_equal}
 use borrow.Author.Rules.{rules}
 use native.Mathlib.Omega.{arith}
 use Rattle.coset_value.proofs.Coset.read.Statement.{statement}
@@ -26,7 +26,7 @@ decreases-loop span first part points₀ entries₀ i₀ points entries i = leng
 loop-holds : tie.Need-loop-init invariant-loop decreases-loop
 loop-holds c =
     let a = c.before.before.args in
-    (search rules, begun-start (map (sum a.first.0) a.span.now), begun-start a.part.now)
+    (search rules, begun_start (map (sum a.first.0) a.span.now), begun_start a.part.now)
 
 mul-t8 : tie.Need-overflow-mul-t8 invariant-loop decreases-loop
 mul-t8 c = search rules
@@ -70,10 +70,10 @@ loop-again c =
     let points = map (sum a.first.0) a.span.now in
     let count = length-map a.span.now (sum a.first.0) in (
       search rules,
-      begun-next points l.points l.i point.result l.invariant.1 (omega (arith, count))
+      begun_next points l.points l.i point.result l.invariant.1 (omega (arith, count))
           (omega (arith, count, start.requires.0))
           (point.ensures ∙ sym (get_d_map (sum a.first.0) a.span.now l.i (omega arith))),
-      begun-next a.part.now l.entries l.i (element (get_or a.part.now l.i 0)) l.invariant.2
+      begun_next a.part.now l.entries l.i (element (get_or a.part.now l.i 0)) l.invariant.2
           (omega (arith, start.requires.1)) (omega (arith, start.requires.0, start.requires.1)) refl,
     )
 
@@ -85,7 +85,7 @@ returns c =
     let points = map (sum a.first.0) a.span.now in
     let count = length-map a.span.now (sum a.first.0) in
     let end : l.i ≡ length a.span.now = omega arith in
-    coset-equal l.points (elements (padded gf64 8 points)) l.entries (elements (padded gf64 8 a.part.now))
+    coset_equal l.points (elements (padded gf64 8 points)) l.entries (elements (padded gf64 8 a.part.now))
     l.i (length a.span.now)
     (begun_all points l.points l.i l.invariant.1 (omega (arith, count)) (omega (arith, count, start.requires.0)))
     (begun_all a.part.now l.entries l.i l.invariant.2 (omega (arith, start.requires.1))

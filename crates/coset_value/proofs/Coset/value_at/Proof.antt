@@ -9,7 +9,7 @@ use Rattle.fold.specs.Halving.{line_at, value_at}
 use Rattle.coset_value.specs.declared.Coset.{Coset}
 use Rattle.coset_value.specs.Cosets.{numbers}
 use Rattle.coset_value.proofs.Arrays.{length-numbers}
-use Rattle.coset_value.proofs.Cosets.{value-next, value-last, value-moved, halved-count}
+use Rattle.coset_value.proofs.Cosets.{value_next, value_last, value_moved, halved_count}
 use borrow.Author.Rules.{rules}
 use native.Mathlib.Omega.{arith}
 use Rattle.coset_value.proofs.Coset.value_at.Statement.{statement}
@@ -73,14 +73,14 @@ loop-again c =
     let inverses = start.args.inverses.now in
     let n = l.coset.count / 2 in
     let count : n ≡ 2 ^ (length inverses - suc l.t) =
-    halved-count (length inverses) l.t l.coset.count (omega (arith, l.invariant.1, start.requires.0)) l.invariant.2 in (
+    halved_count (length inverses) l.t l.coset.count (omega (arith, l.invariant.1, start.requires.0)) l.invariant.2 in (
       search rules,
       l.invariant.1,
       ap (λ (r : Coset). r.count) c.halved.ensures ∙ count
           ∙ ap (λ (m : ℕ). 2 ^ (length inverses - m)) (sym (add-one l.t)),
       ap (λ (r : Coset). value_at (drop (l.t + 1) inverses) (numbers r.points) (numbers r.entries))
           c.halved.ensures
-          ∙ value-next inverses l.t n (numbers l.coset.points) (numbers l.coset.entries)
+          ∙ value_next inverses l.t n (numbers l.coset.points) (numbers l.coset.entries)
           (omega (arith, l.invariant.1, start.requires.0)) count
           ∙ l.invariant.3,
     )
@@ -109,11 +109,11 @@ returns c =
     c.line.ensures
     ∙ ap (λ (n : ℕ). line_at (get_or inverses n 0) (get_or points 0 0) (get_or entries 0 0) (get_or entries 1 0))
     (omega (arith, end))
-    ∙ value-last inverses l.t points entries end
+    ∙ value_last inverses l.t points entries end
     ∙ l.invariant.3
     ∙ ap (λ (r : Coset). value_at inverses (numbers r.points) (numbers r.entries))
     c.before.before.before.before.moved.ensures
-    ∙ value-moved inverses a.challenge.0 (numbers a.self.points) (numbers a.self.entries) a.self.count
+    ∙ value_moved inverses a.challenge.0 (numbers a.self.points) (numbers a.self.entries) a.self.count
     start.requires.2 fits
 
 pub value-at-spec : {M : Type 1} → statement M

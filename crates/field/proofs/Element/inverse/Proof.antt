@@ -4,8 +4,8 @@ use mathlib.Core.Path.{refl, sym, ap, ◌∙◌}
 use native.Mathlib.Omega.{arith}
 use borrow.Author.Rules.{rules}
 use Rattle.gf64.specs.Field.{product, inverse}
-use Rattle.gf64.proofs.Inverse.{inverse-right, inverse-zero}
-use Rattle.field.proofs.Ones.{ones-first, ones-join, ones-last}
+use Rattle.gf64.proofs.Inverse.{inverse_right, inverse-zero}
+use Rattle.field.proofs.Ones.{ones_first, ones_join, ones_last}
 use Rattle.field.proofs.Element.inverse.Statement.{statement}
 use Rattle.field.proofs.Element.inverse.Tie as tie
 
@@ -53,20 +53,20 @@ returns-2 c =
     let at1 = at2.before in
     let start = at1.before.before.before.before in
     let a = start.args.self.0 in
-    let one = ones-first a (omega (arith, start.well-formed)) in
-    let two = ones-join a 1 1 _ _ _ one one at1.raised.ensures in
-    let three = ones-join a 2 1 _ _ _ two one at2.raised2.ensures in
-    let six = ones-join a 3 3 _ _ _ three three at3.raised3.ensures in
-    let twelve = ones-join a 6 6 _ _ _ six six at4.raised4.ensures in
-    let fifteen = ones-join a 12 3 _ _ _ twelve three at5.raised5.ensures in
-    let thirty = ones-join a 15 15 _ _ _ fifteen fifteen at6.raised6.ensures in
-    let sixty = ones-join a 30 30 _ _ _ thirty thirty at7.raised7.ensures in
-    let value = ones-last a _ _ (ones-join a 60 3 _ _ _ sixty three at8.raised8.ensures) c.squared.ensures in (
+    let one = ones_first a (omega (arith, start.well-formed)) in
+    let two = ones_join a 1 1 _ _ _ one one at1.raised.ensures in
+    let three = ones_join a 2 1 _ _ _ two one at2.raised2.ensures in
+    let six = ones_join a 3 3 _ _ _ three three at3.raised3.ensures in
+    let twelve = ones_join a 6 6 _ _ _ six six at4.raised4.ensures in
+    let fifteen = ones_join a 12 3 _ _ _ twelve three at5.raised5.ensures in
+    let thirty = ones_join a 15 15 _ _ _ fifteen fifteen at6.raised6.ensures in
+    let sixty = ones_join a 30 30 _ _ _ thirty thirty at7.raised7.ensures in
+    let value = ones_last a _ _ (ones_join a 60 3 _ _ _ sixty three at8.raised8.ensures) c.squared.ensures in (
       value,
       (
         λ z. value ∙ ap inverse z ∙ inverse-zero,
         λ nonzero. ap (product a) value
-            ∙ inverse-right a (omega (arith, start.well-formed)) nonzero,
+            ∙ inverse_right a (omega (arith, start.well-formed)) nonzero,
       ),
     )
 

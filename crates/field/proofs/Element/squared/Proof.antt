@@ -4,7 +4,7 @@ use Prim.Native.Nat.{ℕ, ◌-◌, ◌^◌, ◌≤◌}
 use native.Mathlib.Omega.{arith}
 use borrow.Author.Rules.{rules}
 use Rattle.gf64.specs.Field.{power}
-use Rattle.field.proofs.Ones.{ones-first, squared-once-more}
+use Rattle.field.proofs.Ones.{ones_first, squared_once_more}
 use Rattle.field.proofs.Element.squared.Statement.{statement}
 use Rattle.field.proofs.Element.squared.Tie as tie
 
@@ -15,7 +15,7 @@ abbrev decreases-loop : tie.decreases-loop
 decreases-loop n x₀ i₀ x i = n - i
 
 loop-holds : tie.Need-loop-init invariant-loop decreases-loop
-loop-holds c = (search rules, ones-first c.args.self.0 (search rules))
+loop-holds c = (search rules, ones_first c.args.self.0 (search rules))
 
 square-requires : tie.Need-square-requires invariant-loop decreases-loop
 square-requires c κs = search rules
@@ -30,7 +30,7 @@ loop-again : tie.Need-loop-preserved invariant-loop decreases-loop
 loop-again c = (
   search rules,
   c.square.ensures
-      ∙ squared-once-more _ c.before.before.loop.i _ c.before.before.loop.invariant.1,
+      ∙ squared_once_more _ c.before.before.loop.i _ c.before.before.loop.invariant.1,
 )
 
 returns : tie.Need-returns invariant-loop decreases-loop

@@ -1,6 +1,6 @@
 -- `field::reduction::reduced` meets its contract. Assumes nothing.
 use borrow.Author.Rules.{rules}
-use Rattle.field.proofs.Remainders.{reduced-together}
+use Rattle.field.proofs.Remainders.{reduced_together}
 use Rattle.field.proofs.reduction.reduced.Statement.{statement}
 use Rattle.field.proofs.reduction.reduced.Tie as tie
 
@@ -12,7 +12,7 @@ times-reduction-requires-2 c κs = search rules
 
 returns : tie.Need-returns
 returns c =
-    reduced-together _ _ _ _ _ _ (search rules) (search rules) (search rules) (search rules)
+    reduced_together _ _ _ _ _ _ (search rules) (search rules) (search rules) (search rules)
     c.before.before.before.before.times-reduction.ensures
     c.before.before.times-reduction2.ensures
 

@@ -6,9 +6,9 @@ use Prim.Native.Nat.{ℕ, ◌-◌, ◌%◌, ◌^◌, ◌≤◌}
 use native.Mathlib.Omega.{arith}
 use borrow.Author.Rules.{rules}
 use Rattle.gf64.specs.Polynomial.{carryless, reduction}
-use Rattle.gf64.proofs.Carryless.{carryless-zero-l}
+use Rattle.gf64.proofs.Carryless.{carryless-zero_l}
 use Rattle.carryless.specs.Window.{wide_of}
-use Rattle.field.proofs.Remainders.{bit-set, bit-clear}
+use Rattle.field.proofs.Remainders.{bit_set, bit_clear}
 use Rattle.field.proofs.reduction.times_reduction.Statement.{statement}
 use Rattle.field.proofs.reduction.times_reduction.Tie as tie
 
@@ -19,7 +19,7 @@ abbrev decreases-loop : tie.decreases-loop
 decreases-loop a w₀ i₀ w i = 5 - i
 
 loop-holds : tie.Need-loop-init invariant-loop decreases-loop
-loop-holds c = (search rules, sym (carryless-zero-l c.args.a))
+loop-holds c = (search rules, sym (carryless-zero_l c.args.a))
 
 shr-if1 : tie.Need-overflow-shr-if1 invariant-loop decreases-loop
 shr-if1 c = search rules
@@ -40,8 +40,8 @@ loop-again c =
     let w = c.before.before.before.loop.w in
     let inv = c.before.before.before.loop.invariant.1 in (
       search rules,
-      ⊎_elim (λ k. ap wide_of k.2 ∙ k.1.ensures ∙ bit-set reduction i a (wide_of w) k.0.taken inv)
-          (λ k. ap wide_of k.1 ∙ bit-clear reduction i a (wide_of w) (omega (arith, k.0.left)) inv) c.if1.branch,
+      ⊎_elim (λ k. ap wide_of k.2 ∙ k.1.ensures ∙ bit_set reduction i a (wide_of w) k.0.taken inv)
+          (λ k. ap wide_of k.1 ∙ bit_clear reduction i a (wide_of w) (omega (arith, k.0.left)) inv) c.if1.branch,
     )
 
 returns : tie.Need-returns invariant-loop decreases-loop

@@ -1,9 +1,9 @@
 -- `LayerCoset::next` meets its contract. Assumes nothing.
-use Rattle.layer_cosets.proofs.LayerCosets.{coset-equal}
-use Rattle.layer_cosets.specs.Cosets.{basisOf}
-use Rattle.coset.proofs.Subspace.{elements-taken, nextOffset-through, length-nextBasis}
-use Rattle.coset.specs.Steps.{composedMaps}
-use Rattle.coset.specs.Subspace.{nextOffset, nextBasis}
+use Rattle.layer_cosets.proofs.LayerCosets.{coset_equal}
+use Rattle.layer_cosets.specs.Cosets.{basis_of}
+use Rattle.coset.proofs.Subspace.{elements_taken, next_offset_through, length-next_basis}
+use Rattle.coset.specs.Steps.{composed_maps}
+use Rattle.coset.specs.Subspace.{next_offset, next_basis}
 use lib.Seq.{length-take-le}
 use lib.ListN.{length}
 use Prim.Native.Nat.{ℕ, ◌-◌, ◌≤◌}
@@ -24,7 +24,7 @@ fits c =
     omega (arith, twenty, c.requires.2)
 
 abbrev Whole : tie.Start → Type 0
-Whole c = length (basisOf c.args.self) ≡ c.args.self.dimension
+Whole c = length (basis_of c.args.self) ≡ c.args.self.dimension
 
 whole : (c : tie.Start) → Whole c
 whole c = length-take-le c.args.self.dimension c.args.self.basis (fits c)
@@ -65,18 +65,18 @@ returns c =
     let start = first.before in
     let self = start.args.self in
     let step = start.args.step in
-    let basis = basisOf self in
+    let basis = basis_of self in
     let maps = c.before.before.composed-maps in
     let elements = first.step-elements in
     let taken =
-    elements-taken step basis elements.result (omega (arith, whole start, start.requires.1)) elements.ensures
+    elements_taken step basis elements.result (omega (arith, whole start, start.requires.1)) elements.ensures
     in
-    coset-equal maps.result.0 c.next-basis.result (self.dimension - step)
-    (nextOffset step self.offset.0 basis) (nextBasis step basis)
-    (maps.ensures ∙ ap (λ (es : List ℕ). composedMaps es self.offset.0) taken
-    ∙ sym (nextOffset-through step self.offset.0 basis (search rules)))
+    coset_equal maps.result.0 c.next-basis.result (self.dimension - step)
+    (next_offset step self.offset.0 basis) (next_basis step basis)
+    (maps.ensures ∙ ap (λ (es : List ℕ). composed_maps es self.offset.0) taken
+    ∙ sym (next_offset_through step self.offset.0 basis (search rules)))
     c.next-basis.ensures
-    (ap (λ (n : ℕ). n - step) (sym (whole start)) ∙ sym (length-nextBasis step basis))
+    (ap (λ (n : ℕ). n - step) (sym (whole start)) ∙ sym (length-next_basis step basis))
 
 pub next-spec : {M : Type 1} → statement M
 next-spec =

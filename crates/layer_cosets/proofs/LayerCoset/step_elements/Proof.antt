@@ -1,5 +1,5 @@
 -- `LayerCoset::step_elements` meets its contract. Assumes nothing.
-use Rattle.layer_cosets.specs.Cosets.{basisOf}
+use Rattle.layer_cosets.specs.Cosets.{basis_of}
 use lib.Seq.{length-take-le}
 use lib.ListN.{length}
 use Prim.Native.Nat.{◌≤◌}
@@ -19,7 +19,7 @@ fits c =
     omega (arith, twenty, c.requires.2)
 
 abbrev Whole : tie.Start → Type 0
-Whole c = length (basisOf c.args.self) ≡ c.args.self.dimension
+Whole c = length (basis_of c.args.self) ≡ c.args.self.dimension
 
 whole : (c : tie.Start) → Whole c
 whole c = length-take-le c.args.self.dimension c.args.self.basis (fits c)

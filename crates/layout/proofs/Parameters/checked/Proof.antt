@@ -1,5 +1,5 @@
 -- `Parameters::checked` meets its contract. Assumes nothing.
-use Rattle.fri.proofs.Checks.{parameters-pass, k-refused, rate-refused, step-refused, too-small-refused}
+use Rattle.fri.proofs.Checks.{parameters_pass, k_refused, rate_refused, step_refused, too_small_refused}
 use borrow.Author.Tests.{ltb-true, ltb-false}
 use mathlib.Core.Logic.{inl, inr, ⊎_elim}
 use mathlib.Core.Path.{sym}
@@ -21,8 +21,8 @@ RateFits c =
     let rate = c.before.before.before.before.before.before.before.before.args.self.rate in
     (1 ≤ rate) × (rate ≤ 6)
 
-rate-fits : (c : tie.Else4) → RateFits c
-rate-fits c =
+rate_fits : (c : tie.Else4) → RateFits c
+rate_fits c =
     let a = c.before.before.before.before.before.before.before.before.args.self in
     (c.before.before.if3.false, ltb-false 6 a.rate c.if4.false)
 
@@ -42,7 +42,7 @@ returns : tie.Need-returns
 returns c =
     let a = c.before.before.args.self in
     let outside = ⊎_elim (λ t. inl t.taken) (λ t. inr (ltb-true 20 a.k t.2.taken)) c.if1.branch in
-    sym (k-refused a.k a.rate a.step outside)
+    sym (k_refused a.k a.rate a.step outside)
 
 returns-2 : tie.Need-returns-2
 returns-2 c =
@@ -50,7 +50,7 @@ returns-2 c =
     let a = second.before.before.before.before.args.self in
     let k = dimension-fits second in
     let outside = ⊎_elim (λ t. inl t.taken) (λ t. inr (ltb-true 6 a.rate t.2.taken)) c.if3.branch in
-    sym (rate-refused a.k a.rate a.step k.0 k.1 outside)
+    sym (rate_refused a.k a.rate a.step k.0 k.1 outside)
 
 returns-3 : tie.Need-returns-3
 returns-3 c =
@@ -58,13 +58,13 @@ returns-3 c =
     let second = fourth.before.before.before.before in
     let a = second.before.before.before.before.args.self in
     let k = dimension-fits second in
-    let rate = rate-fits fourth in
+    let rate = rate_fits fourth in
     let outside = ⊎_elim (λ t. inl t.taken) (λ t. inr (ltb-true 3 a.step t.2.taken)) c.if5.branch in
-    sym (step-refused a.k a.rate a.step k.0 k.1 rate.0 rate.1 outside)
+    sym (step_refused a.k a.rate a.step k.0 k.1 rate.0 rate.1 outside)
 
 add-if7 : tie.Need-overflow-add-if7
 add-if7 c =
-    let sixth = c.before in omega (arith, (rate-fits sixth.before.before.before.before).1, (step_fits sixth).1)
+    let sixth = c.before in omega (arith, (rate_fits sixth.before.before.before.before).1, (step_fits sixth).1)
 
 returns-4 : tie.Need-returns-4
 returns-4 c =
@@ -73,9 +73,9 @@ returns-4 c =
     let second = fourth.before.before.before.before in
     let a = second.before.before.before.before.args.self in
     let k = dimension-fits second in
-    let rate = rate-fits fourth in
+    let rate = rate_fits fourth in
     let step = step_fits sixth in
-    sym (too-small-refused a.k a.rate a.step k.0 k.1 rate.0 rate.1 step.0 step.1
+    sym (too_small_refused a.k a.rate a.step k.0 k.1 rate.0 rate.1 step.0 step.1
     c.if7.true)
 
 returns-5 : tie.Need-returns-5
@@ -85,15 +85,15 @@ returns-5 c =
     let second = fourth.before.before.before.before in
     let a = second.before.before.before.before.args.self in
     sym
-    (parameters-pass a.k a.rate a.step
+    (parameters_pass a.k a.rate a.step
     (record {
-      k-least = (dimension-fits second).0;
-      k-most = (dimension-fits second).1;
-      rate-least = (rate-fits fourth).0;
-      rate-most = (rate-fits fourth).1;
-      step-least = (step_fits sixth).0;
-      step-most = (step_fits sixth).1;
-      k-enough = c.if7.false;
+      k_least = (dimension-fits second).0;
+      k_most = (dimension-fits second).1;
+      rate_least = (rate_fits fourth).0;
+      rate_most = (rate_fits fourth).1;
+      step_least = (step_fits sixth).0;
+      step_most = (step_fits sixth).1;
+      k_enough = c.if7.false;
     }))
 
 pub checked-spec : {M : Type 1} → statement M

@@ -1,10 +1,10 @@
 -- `Parameters::layer_start` meets its contract. The loop's invariant: the start is that of layer `before`. Assumes
 -- nothing.
-use Rattle.layout.proofs.Sizes.{dimension-most, layer-small, start-few, start-of-first}
-use Rattle.layout.specs.Parameters.{stepsBy}
-use Rattle.fri.proofs.Layouts.{start-next}
-use Rattle.fri.specs.Layout.{dimension, layerStart}
-use Rattle.coset.proofs.Sizes.{size-shifted}
+use Rattle.layout.proofs.Sizes.{dimension_most, layer_small, start_few, start_of_first}
+use Rattle.layout.specs.Parameters.{steps_by}
+use Rattle.fri.proofs.Layouts.{start_next}
+use Rattle.fri.specs.Layout.{dimension, layer_start}
+use Rattle.coset.proofs.Sizes.{size_shifted}
 use native.Mathlib.Numerals.{add-one}
 use Prim.Native.Nat.{ℕ, ◌+◌, ◌*◌, ◌-◌, ◌%◌, ◌^◌, ◌≤◌}
 use mathlib.Core.Path.{◌≡◌, sym, ap, ap₂, ◌∙◌}
@@ -15,7 +15,7 @@ use Rattle.layout.proofs.Parameters.layer_start.Tie as tie
 
 abbrev invariant-loop : tie.invariant-loop
 invariant-loop self i start₀ before₀ start before =
-    (1 ≤ before) × (before ≤ i) × (start ≡ layerStart self.k (stepsBy self) before)
+    (1 ≤ before) × (before ≤ i) × (start ≡ layer_start self.k (steps_by self) before)
 
 abbrev decreases-loop : tie.decreases-loop
 decreases-loop self i start₀ before₀ start before = i - before
@@ -30,20 +30,20 @@ small c =
     omega (
       arith,
       c.dimension.ensures,
-      dimension-most start.args.self start.requires.0 c.before.before.loop.before,
+      dimension_most start.args.self start.requires.0 c.before.before.loop.before,
     )
 
 abbrev SizeIs : tie.After-dimension invariant-loop decreases-loop → Type 0
 SizeIs c =
     let p = c.before.before.before.args.self in
-    1 * 2 ^ c.dimension.result % 2 ^ 64 ≡ 2 ^ dimension p.k (stepsBy p) c.before.before.loop.before
+    1 * 2 ^ c.dimension.result % 2 ^ 64 ≡ 2 ^ dimension p.k (steps_by p) c.before.before.loop.before
 
 size_is : (c : tie.After-dimension invariant-loop decreases-loop) → SizeIs c
 size_is c =
-    size-shifted c.dimension.result (omega (arith, small c)) ∙ ap (λ (n : ℕ). 2 ^ n) c.dimension.ensures
+    size_shifted c.dimension.result (omega (arith, small c)) ∙ ap (λ (n : ℕ). 2 ^ n) c.dimension.ensures
 
 loop-holds : tie.Need-loop-init invariant-loop decreases-loop
-loop-holds c = (search rules, c.requires.1, start-of-first c.args.self.k (stepsBy c.args.self))
+loop-holds c = (search rules, c.requires.1, start_of_first c.args.self.k (steps_by c.args.self))
 
 dimension-requires : tie.Need-dimension-requires invariant-loop decreases-loop
 dimension-requires c κs =
@@ -59,8 +59,8 @@ add_start c =
     let p = start.args.self in
     let l = c.before.before.loop in
     let size = size_is c in
-    let few = start-few p start.requires.0 l.before (omega (arith, start.requires.2)) in
-    omega (arith, size, layer-small p.k (stepsBy p) l.before start.requires.0.k-most, l.invariant.2, few)
+    let few = start_few p start.requires.0 l.before (omega (arith, start.requires.2)) in
+    omega (arith, size, layer_small p.k (steps_by p) l.before start.requires.0.k_most, l.invariant.2, few)
 
 add-before : tie.Need-overflow-add-before invariant-loop decreases-loop
 add-before c = search rules
@@ -76,8 +76,8 @@ loop-again c =
     let size = size_is c in (
       search rules,
       search rules,
-      ap₂ (λ (m n : ℕ). m + n) l.invariant.2 size ∙ sym (start-next p.k (stepsBy p) l.before l.invariant.0)
-          ∙ ap (layerStart p.k (stepsBy p)) (sym (add-one l.before)),
+      ap₂ (λ (m n : ℕ). m + n) l.invariant.2 size ∙ sym (start_next p.k (steps_by p) l.before l.invariant.0)
+          ∙ ap (layer_start p.k (steps_by p)) (sym (add-one l.before)),
     )
 
 returns : tie.Need-returns invariant-loop decreases-loop
@@ -86,7 +86,7 @@ returns c =
     let p = start.args.self in
     let l = c.before.loop in
     let end : l.before ≡ start.args.i = omega arith in
-    l.invariant.2 ∙ ap (layerStart p.k (stepsBy p)) end
+    l.invariant.2 ∙ ap (layer_start p.k (steps_by p)) end
 
 pub layer-start-spec : {M : Type 1} → statement M
 layer-start-spec =

@@ -1,13 +1,13 @@
 -- `Parameters::lengths` meets its contract. Assumes nothing.
-use Rattle.layout.proofs.Sizes.{one-round, storeLength-is}
+use Rattle.layout.proofs.Sizes.{one_round, store_length_is}
 use Rattle.layout.specs.declared.Lengths.{Lengths}
 use Rattle.layout.specs.declared.Parameters.{Parameters}
-use Rattle.layout.specs.Lengths.{orZeros, lengthsDue, lengthsOf}
-use Rattle.layout.specs.Parameters.{stepsBy, Valid}
-use Rattle.fri.proofs.Checks.{parameters-valid}
-use Rattle.fri.proofs.Layouts.{length-steps}
-use Rattle.fri.specs.Layout.{layerStart}
-use Rattle.fri.specs.Checks.{parametersOutcome}
+use Rattle.layout.specs.Lengths.{or_zeros, lengths_due, lengths_of}
+use Rattle.layout.specs.Parameters.{steps_by, Valid}
+use Rattle.fri.proofs.Checks.{parameters_valid}
+use Rattle.fri.proofs.Layouts.{length_steps}
+use Rattle.fri.specs.Layout.{layer_start}
+use Rattle.fri.specs.Checks.{parameters_outcome}
 use Rattle.refusal.specs.declared.Outcome.{Outcome}
 use Rattle.refusal.specs.declared.Outcome.TheVariants.{Done, Refused}
 use native.Mathlib.Nat.{le_of_eq}
@@ -20,13 +20,13 @@ use Rattle.layout.proofs.Parameters.lengths.Tie as tie
 
 -- what the checks answer decides
 lengths-where : (p : Parameters) (outcome : Outcome) (lengths : Lengths)
-    → parametersOutcome p.k p.rate p.step ≡ outcome → lengths ≡ orZeros outcome (lengthsDue p)
-    → lengths ≡ lengthsOf p
-lengths-where p outcome lengths e f = f ∙ sym (ap (λ (o : Outcome). orZeros o (lengthsDue p)) e)
+    → parameters_outcome p.k p.rate p.step ≡ outcome → lengths ≡ or_zeros outcome (lengths_due p)
+    → lengths ≡ lengths_of p
+lengths-where p outcome lengths e f = f ∙ sym (ap (λ (o : Outcome). or_zeros o (lengths_due p)) e)
 
 -- the checks passed, so the parameters are valid
 abbrev Passed : tie.After-enum-told → Type 0
-Passed c = let p = c.before.before.before.args.self in parametersOutcome p.k p.rate p.step ≡ Done
+Passed c = let p = c.before.before.before.args.self in parameters_outcome p.k p.rate p.step ≡ Done
 
 passed : (c : tie.After-enum-told) → Passed c
 passed c =
@@ -39,7 +39,7 @@ ValidAt c = Valid c.before.before.before.args.self
 valid : (c : tie.After-enum-told) → ValidAt c
 valid c =
     let p = c.before.before.before.args.self in
-    parameters-valid p.k p.rate p.step (passed c)
+    parameters_valid p.k p.rate p.step (passed c)
 
 checked-requires : tie.Need-checked-requires
 checked-requires c κs = search rules
@@ -55,7 +55,7 @@ layer-start-requires c κs =
     let told = c.before in
     let v = valid told in (
       v,
-      omega (arith, c.rounds.ensures, one-round told.before.before.before.args.self v),
+      omega (arith, c.rounds.ensures, one_round told.before.before.before.args.self v),
       le_of_eq c.rounds.ensures,
     )
 
@@ -69,14 +69,14 @@ returns : tie.Need-returns
 returns c =
     let told = c.before.before.before in
     let p = told.before.before.before.args.self in
-    let due = lengthsDue p in
+    let due = lengths_due p in
     let rounds = c.before.before.rounds in
     let start = c.before.layer-start in
-    let ends = ap (layerStart p.k (stepsBy p)) rounds.ensures ∙ storeLength-is p.k (stepsBy p) in
+    let ends = ap (layer_start p.k (steps_by p)) rounds.ensures ∙ store_length_is p.k (steps_by p) in
     lengths-where p Done (record { rounds = rounds.result; store = start.result; last = c.last-count.result })
     (passed told)
     (ap₂ (λ (r s : ℕ). record { rounds = r; store = s; last = c.last-count.result })
-    (rounds.ensures ∙ length-steps p.k p.rate p.step) (start.ensures ∙ ends)
+    (rounds.ensures ∙ length_steps p.k p.rate p.step) (start.ensures ∙ ends)
     ∙ ap (λ (d : ℕ). record { rounds = due.rounds; store = due.store; last = d }) c.last-count.ensures)
 
 returns-2 : tie.Need-returns-2

@@ -47,8 +47,8 @@ use denote.Triple.Clauses.{ensured, lasts}
 use Rattle.fri.specs.declared.Verdict.{Verdict}
 use Rattle.fri.specs.contracts.Verdict as R
 use Rattle.fri.proofs.Verdict.TheLaws as R'
-use Rattle.sections.specs.Views.{sectionsIn}
-use Rattle.transcript.specs.Judge.{transcriptVerdict}
+use Rattle.sections.specs.Views.{sections_in}
+use Rattle.transcript.specs.Judge.{transcript_verdict}
 use Rattle.reader.specs.declared.Reader.{Reader}
 use Rattle.reader.specs.contracts.Reader as T
 use Rattle.reader.proofs.Reader.TheLaws as T'
@@ -82,7 +82,7 @@ module _ {M : Type 1} {𝓤 : Ura M} (𝓛 : Logic 𝓤) (mem : Memory → SProp
   Through = triple_of 𝓛 through.signature (through.spec 𝓛 mem run)
 
 module _ {M : Type 1} {𝓤 : Ura M} (𝓛 : Logic 𝓤) (mem : Memory → SProp 𝓤)
-    (run : Routine → Fun 𝓤) (κ : Lft) (q : Share) (d : Reader) (found : d.sections ≡ sectionsIn d.bytes.now) where
+    (run : Routine → Fun 𝓤) (κ : Lft) (q : Share) (d : Reader) (found : d.sections ≡ sections_in d.bytes.now) where
   open 𝓛 use {H}
 
   abbrev κs : Lfts 1
@@ -142,7 +142,7 @@ module _ {M : Type 1} {𝓤 : Ura M} (𝓛 : Logic 𝓤) (mem : Memory → SProp
 
   -- of the callee's `ensured`, the clause alone: it has no `&mut`, so what is said of last values is dropped
   abbrev Said : Verdict → Type 0
-  Said r = r ≡ transcriptVerdict d.bytes.now
+  Said r = r ≡ transcript_verdict d.bytes.now
 
   said : (r : Verdict) → ent 𝓤 (Ensured r) (fact 𝓤 (Said r))
   said r = ex_e 𝓤 _ (λ ws. snd∗ 𝓤 (sem 𝓛 (lasts through.ended κs vd ws)) (fact 𝓤 (Said r)))

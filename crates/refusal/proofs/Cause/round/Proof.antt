@@ -8,9 +8,9 @@ use types.Run.{OneOf, miss}
 use denote.Enum.Declared.{tag_of}
 use borrow.Author.Rules.{rules}
 use Rattle.refusal.specs.declared.Position.TheVariants.{Absent}
-use Rattle.refusal.specs.Numbers.{number_of, roundOf}
+use Rattle.refusal.specs.Numbers.{number_of, round_of}
 use Rattle.refusal.specs.contracts.Cause.{the_type}
-use Rattle.refusal.proofs.Theorems.{round-or-none}
+use Rattle.refusal.proofs.Theorems.{round_or_none}
 use Rattle.refusal.proofs.Cause.round.Statement.{statement}
 use Rattle.refusal.proofs.Cause.round.Tie as tie
 
@@ -18,7 +18,7 @@ enum-known-self : tie.Need-enum-known-self
 enum-known-self c = search rules
 
 returns : tie.Need-returns
-returns c = ap roundOf (sym c.before.self.given.1)
+returns c = ap round_of (sym c.before.self.given.1)
 
 -- the positions of the other constructors
 abbrev others : List ℕ
@@ -30,7 +30,7 @@ returns-2 c =
     ⊎_elim
     (λ (t : (number_of cause ≡ 11) × (tag_of the_type cause ≡ 10)).
     absurd (miss others 10 tt (subst (OneOf others) t.1 c.match.keys2)))
-    (λ (none : roundOf cause ≡ Absent). sym none) (round-or-none cause)
+    (λ (none : round_of cause ≡ Absent). sym none) (round_or_none cause)
 
 pub round-spec : {M : Type 1} → statement M
 round-spec = tie.close (tie.spec enum-known-self returns returns-2)

@@ -1,5 +1,5 @@
 -- `Round::folded` meets its contract. Assumes nothing.
-use Rattle.round_checks.proofs.StepSizes.{size_of, size_is, size-most, size-some, size-eight, between-within}
+use Rattle.round_checks.proofs.StepSizes.{size_of, size_is, size_most, size_some, size_eight, between_within}
 use Rattle.coset_value.proofs.Cosets.{value_read}
 use Rattle.coset_value.specs.Cosets.{numbers}
 use Rattle.coset_value.specs.declared.Coset.{Coset}
@@ -25,7 +25,7 @@ three c = search rules
 span-lent : (c : tie.Start) → length (take (size_of c.args.step) c.args.self.span) ≡ size_of c.args.step
 span-lent c =
     length-take-le (size_of c.args.step) c.args.self.span
-    (omega (arith, eight c, size-eight c.args.step c.requires.1))
+    (omega (arith, eight c, size_eight c.args.step c.requires.1))
 
 span-whole : (c : tie.Start) → length (take (size_of c.args.step) c.args.self.span) ≡ 2 ^ c.args.step
 span-whole c = span-lent c ∙ size_is c.args.step c.requires.1
@@ -39,7 +39,7 @@ points-fit : (c : tie.Start) → length (take (size_of c.args.step) c.args.self.
 points-fit c = span-whole c ∙ ap (λ (n : ℕ). 2 ^ n) (sym (inverses-lent c))
 
 at-most-eight : (c : tie.Start) → length (take (size_of c.args.step) c.args.self.span) ≤ 8
-at-most-eight c = omega (arith, span-whole c, size-most c.args.step c.requires.1)
+at-most-eight c = omega (arith, span-whole c, size_most c.args.step c.requires.1)
 
 shl-size : tie.Need-overflow-shl-size
 shl-size c = search rules
@@ -47,17 +47,17 @@ shl-size c = search rules
 rem-between : tie.Need-nonzero-rem-between
 rem-between c =
     let start = c.before.before.before.before in
-    omega (arith, size-some start.args.step start.requires.1)
+    omega (arith, size_some start.args.step start.requires.1)
 
 mul-between : tie.Need-overflow-mul-between
 mul-between c =
     let start = c.before.before.before.before in
-    omega (arith, between-within start.args.step start.requires.1 start.args.here.index)
+    omega (arith, between_within start.args.step start.requires.1 start.args.here.index)
 
 array-read-between : tie.Need-array-read-between
 array-read-between c =
     let start = c.before.before.before.before in
-    omega (arith, between-within start.args.step start.requires.1 start.args.here.index)
+    omega (arith, between_within start.args.step start.requires.1 start.args.here.index)
 
 sum-requires : tie.Need-sum-requires
 sum-requires c κs = search rules
@@ -65,7 +65,7 @@ sum-requires c κs = search rules
 array-share-prefix-span : tie.Need-array-share-prefix-span
 array-share-prefix-span c =
     let start = c.before.before.before.before.before in
-    omega (arith, eight start, size-eight start.args.step start.requires.1)
+    omega (arith, eight start, size_eight start.args.step start.requires.1)
 
 slice-aggregate-read : tie.Need-slice-aggregate-read
 slice-aggregate-read c = sym (span-lent c.before.before.before.before.before.before)

@@ -1,5 +1,5 @@
 -- `Round::found` meets its contract. Assumes nothing.
-use Rattle.round_checks.specs.Rounds.{valueRead}
+use Rattle.round_checks.specs.Rounds.{value_read}
 use lib.ListN.{length}
 use Prim.Native.Nat.{◌+◌, ◌<◌}
 use mathlib.Core.Bool.{Bool}
@@ -14,17 +14,17 @@ InStore c =
     let a = c.before.before.before.before.before.args in
     a.self.next + a.next.index < length a.store.now
 
-in-store : (c : tie.After-struct-known2) → InStore c
-in-store c = c.before.before.before.before.before.requires c.before.before.if1.true
+in_store : (c : tie.After-struct-known2) → InStore c
+in_store c = c.before.before.before.before.before.requires c.before.before.if1.true
 
 add_at : tie.Need-overflow-add-at
-add_at c = search (rules, in-store c)
+add_at c = search (rules, in_store c)
 
 mul-t9 : tie.Need-overflow-mul-t9
-mul-t9 c = search (rules, in-store c)
+mul-t9 c = search (rules, in_store c)
 
 shared-slice-read-t11 : tie.Need-shared-slice-read-t11
-shared-slice-read-t11 c = search (rules, in-store c.before)
+shared-slice-read-t11 c = search (rules, in_store c.before)
 
 evaluate-requires : tie.Need-evaluate-requires
 evaluate-requires c κs = search rules
@@ -33,13 +33,13 @@ returns : tie.Need-returns
 returns c =
     let stored = c.before.before.before in
     let a = stored.before.before.before.args in
-    sym (ap (λ (t : Bool). valueRead a.self a.next t a.store.now a.last.now) stored.if1.true)
+    sym (ap (λ (t : Bool). value_read a.self a.next t a.store.now a.last.now) stored.if1.true)
 
 returns-2 : tie.Need-returns-2
 returns-2 c =
     let a = c.before.before.before.before.args in
     c.evaluate.ensures
-    ∙ sym (ap (λ (t : Bool). valueRead a.self a.next t a.store.now a.last.now) c.before.if1.false)
+    ∙ sym (ap (λ (t : Bool). value_read a.self a.next t a.store.now a.last.now) c.before.if1.false)
 
 pub found-spec : {M : Type 1} → statement M
 found-spec =

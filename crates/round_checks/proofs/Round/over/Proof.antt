@@ -1,8 +1,8 @@
 -- `Round::over` meets its contract. Assumes nothing.
-use Rattle.round_checks.proofs.Tables.{round-equal}
-use Rattle.layer_cosets.specs.Cosets.{basisOf}
-use Rattle.coset.proofs.Subspace.{elements-taken}
-use Rattle.coset.specs.Steps.{stepElements}
+use Rattle.round_checks.proofs.Tables.{round_equal}
+use Rattle.layer_cosets.specs.Cosets.{basis_of}
+use Rattle.coset.proofs.Subspace.{elements_taken}
+use Rattle.coset.specs.Steps.{step_elements}
 use Rattle.coset.specs.Coset.{points}
 use Rattle.poly.specs.Polynomial.{All, padded}
 use Rattle.poly.specs.Carrier.{gf64}
@@ -38,15 +38,15 @@ basis-whole start =
 abbrev ElementsAre : tie.After-step-elements → Type 0
 ElementsAre c =
     let a = c.before.args in
-    take a.step c.step-elements.result ≡ stepElements a.step (basisOf a.coset)
+    take a.step c.step-elements.result ≡ step_elements a.step (basis_of a.coset)
 
-elements-are : (c : tie.After-step-elements) → ElementsAre c
-elements-are c =
+elements_are : (c : tie.After-step-elements) → ElementsAre c
+elements_are c =
     let start = c.before in
     let a = start.args in
-    let whole : length (basisOf a.coset) ≡ a.coset.dimension =
+    let whole : length (basis_of a.coset) ≡ a.coset.dimension =
     length-take-le a.coset.dimension a.coset.basis (omega (arith, twenty start, start.requires.2)) in
-    elements-taken a.step (basisOf a.coset) c.step-elements.result (omega (arith, whole, start.requires.1))
+    elements_taken a.step (basis_of a.coset) c.step-elements.result (omega (arith, whole, start.requires.1))
     c.step-elements.ensures
 
 step-elements-requires : tie.Need-step-elements-requires
@@ -62,7 +62,7 @@ inverses-of-requires : tie.Need-inverses-of-requires
 inverses-of-requires c κs =
     let made = c.before.before in (
       omega (arith, made.before.requires.0, elements-whole made),
-      subst (All (λ e. e ≢ 0)) (sym (elements-are made)) made.before.requires.3,
+      subst (All (λ e. e ≢ 0)) (sym (elements_are made)) made.before.requires.3,
     )
 
 array-share-prefix-basis : tie.Need-array-share-prefix-basis
@@ -85,9 +85,9 @@ returns c =
     let start = made.before in
     let a = start.args in
     let step = a.step in
-    let basis = basisOf a.coset in
-    let elements = elements-are made in
-    round-equal step basis a.challenge.0 a.start a.next made.step-elements.result
+    let basis = basis_of a.coset in
+    let elements = elements_are made in
+    round_equal step basis a.challenge.0 a.start a.next made.step-elements.result
     inverses.inverses-of.result c.Span-of.result
     made.step-elements.ensures
     (inverses.inverses-of.ensures ∙ ap (λ (es : List ℕ). padded gf64 3 (map inverse es)) elements)
