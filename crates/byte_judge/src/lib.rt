@@ -1,4 +1,6 @@
 // The verdict on the run that the bytes of a transcript carry.
+#![tactic(auto)]
+
 ghost use Rattle.std.specs.Prelude.{◌≡◌};
 ghost use Rattle.refusal.specs.declared.Outcome.TheVariants as outcomes;
 ghost use Rattle.fri.specs.Judge.{verdict_of};

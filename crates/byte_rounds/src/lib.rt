@@ -1,5 +1,7 @@
 // The round checks of a run whose layers lie in the bytes of a transcript. A coset's entries are read from the bytes as
 // they are needed.
+#![tactic(auto)]
+
 ghost use Rattle.std.specs.Prelude.{◌≡◌, ◌+◌, ◌*◌, ◌^◌, ◌≤◌, length};
 ghost use Rattle.refusal.specs.declared.Outcome.TheVariants as outcomes;
 ghost use Rattle.fri.specs.Layout.{dimension};

@@ -1,4 +1,6 @@
 // The five numbers by which the C interface answers.
+#![tactic(auto)]
+
 ghost use Rattle.std.specs.Prelude.{◌≡◌, length};
 ghost use Rattle.c_answers.specs.Answers.{orNone, answerOfValue, answerOfCause, answerOfFolded};
 ghost use Rattle.c_answers.specs.Answers.{answerOfOutcome, answerOfProved, answerOfPart, answerOfVerdict};

@@ -1,4 +1,6 @@
 // The C interface: encoding and interpolation. include/razgwilh.h says the same to C.
+#![tactic(auto)]
+
 ghost use Rattle.std.specs.Prelude.{◌≡◌};
 ghost use Rattle.reed_solomon.specs.Answers.{encodeOutcome, interpolateOutcome, valuesAfter, coefficientsAfter};
 ghost use Rattle.c_answers.specs.Answers.{answerOfOutcome, answered, whereAnswered};

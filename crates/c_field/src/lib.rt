@@ -1,4 +1,6 @@
 // The C interface: the field and the inverses of a list. include/razgwilh.h says the same to C.
+#![tactic(auto)]
+
 ghost use Rattle.std.specs.Prelude.{◌≡◌, map};
 ghost use Rattle.gf64.specs.Field.{sum, product, inverse};
 ghost use Rattle.c_answers.specs.Answers.{answerOfValue, answered};

@@ -1,4 +1,6 @@
 // The C interface: the fold of a word. include/razgwilh.h says the same to C.
+#![tactic(auto)]
+
 ghost use Rattle.lone_fold.specs.Calls.{FoldCall};
 ghost use Rattle.c_fold.specs.Calls.{FoldAnswered};
 

@@ -1,4 +1,6 @@
 // The C interface: the judges over lists and over the bytes of a transcript. include/razgwilh.h says the same to C.
+#![tactic(auto)]
+
 ghost use Rattle.std.specs.Prelude.{◌≡◌};
 ghost use Rattle.fri.specs.Judge.{verdict_of};
 ghost use Rattle.layout.specs.Parameters.{run_of};

@@ -1,4 +1,6 @@
 // The C interface: the lengths of a run and the layer lookup. include/razgwilh.h says the same to C.
+#![tactic(auto)]
+
 ghost use Rattle.std.specs.Prelude.{◌≡◌, length};
 ghost use Rattle.layout.specs.Parts.{part_of};
 ghost use Rattle.layout.specs.Lengths.{lengths_of};

@@ -1,4 +1,6 @@
 // The C interface: the prover. include/razgwilh.h says the same to C.
+#![tactic(auto)]
+
 ghost use Rattle.layout.specs.Parameters.{run_of};
 ghost use Rattle.c_prover.specs.Calls.{ProofAnswered};
 

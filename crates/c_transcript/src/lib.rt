@@ -1,4 +1,6 @@
 // The C interface: writing a transcript, and its marking sheet. include/razgwilh.h says the same to C.
+#![tactic(auto)]
+
 ghost use Rattle.std.specs.Prelude.{◌≡◌, length};
 ghost use Rattle.layout.specs.Parameters.{run_of};
 ghost use Rattle.sheet_text.specs.Sheet.{transcript_sheet, in_front};

@@ -1,5 +1,7 @@
 // The product of two polynomials over GF(2), by a window of four bits, and the square of one, by moving its bits apart;
 // both before their reduction.
+#![tactic(auto)]
+
 ghost use Rattle.std.specs.Prelude.{◌≡◌, ◌*◌, ◌%◌, ◌^◌, ◌<◌};
 ghost use Rattle.std.specs.Int.Bits.{bit_xor};
 ghost use Rattle.gf64.specs.Polynomial.{carryless};

@@ -1,4 +1,6 @@
 // Encoding and interpolation over a coset of at most 2^20 points, given by its offset and its basis.
+#![tactic(auto)]
+
 ghost use Rattle.std.specs.Prelude.{◌≡◌, cond, ℕ, ◌^◌, ◌≤◌, ◌<◌, leb, length, replicate};
 ghost use Rattle.poly.specs.Carrier.{gf64};
 ghost use Rattle.poly.specs.Polynomial.{padded};

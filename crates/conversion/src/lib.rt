@@ -1,6 +1,8 @@
 // The conversion of the additive transform: from the powers of X to the products of the z_j, and back. z_j is the
 // subspace polynomial of the first j basis elements, divided by its value e_j at basis element j. Regrouping is a
 // recursion on halves of the slice.
+#![tactic(auto)]
+
 ghost use Rattle.std.specs.Prelude.{◌≡◌, ◌+◌, ◌/◌, ◌%◌, ◌^◌, ◌≤◌, ◌<◌, length};
 ghost use Rattle.transform.specs.Transform.{quarters, quarters_back, regrouped, regrouped_back, scaled_runs};
 ghost use Rattle.transform.specs.Transform.{converted, converted_back, ratio_of};

@@ -1,6 +1,8 @@
 // The halves of the additive transform: from the products of the z_j to values at the points of a coset, and back, by
 // recursion on halves of the slice, the dimension falling. z_j is the subspace polynomial of the first j basis
 // elements, divided by its value e_j at basis element j.
+#![tactic(auto)]
+
 ghost use Rattle.std.specs.Prelude.{◌≡◌, ◌+◌, ◌^◌, ◌≤◌, ◌<◌, length};
 ghost use Rattle.poly.specs.Carrier.{gf64};
 ghost use Rattle.poly.specs.Polynomial.{DegreeBelow};

@@ -1,6 +1,8 @@
 // Encoding and interpolation over a coset of at most 2^20 points, in the place of the list, by the additive transform:
 // the coset is split in halves until one point is left. Local lists: two of twenty here, and a
 // table of 64 below.
+#![tactic(auto)]
+
 ghost use Rattle.std.specs.Prelude.{◌≡◌, map, ◌^◌, ◌≤◌, length};
 ghost use Rattle.gf64.specs.Field.{inverse};
 ghost use Rattle.poly.specs.Carrier.{gf64};

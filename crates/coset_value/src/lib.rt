@@ -2,6 +2,8 @@
 // and 2 i + 1 become one point, and their entries the value of the line through the two. The points are moved by the
 // challenge before that, each is its sum with it: the maps X · (X - e) that halve the points are additive, so the
 // halved points are moved as well, by the image of the challenge, and no halving needs the challenge itself.
+#![tactic(auto)]
+
 ghost use Rattle.std.specs.Prelude.{◌≡◌, ◌≢◌, map, suc, ◌*◌, ◌/◌, ◌^◌, ◌≤◌, length, get_or, take};
 ghost use Rattle.gf64.specs.Field.{sum, inverse};
 ghost use Rattle.poly.specs.Carrier.{gf64};

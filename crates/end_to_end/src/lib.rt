@@ -1,5 +1,7 @@
 // The prover and the judges together: what a judge answers on what the prover left, over lists, and as the bytes that
 // the writer makes of them.
+#![tactic(auto)]
+
 ghost use Rattle.layout.specs.Parameters.{run_of};
 ghost use Rattle.end_to_end.specs.Judged.{ProvedThenJudged, ProvedThenWritten};
 

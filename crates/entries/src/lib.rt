@@ -1,6 +1,8 @@
 // Counts and entries in bytes, little-endian. Bytes beyond the end count as zeros, so that every place may be read. Up
 // to 2^62, far beyond where sections end (2^40), the sums of places do not wrap. An entry whose bytes are all there is
 // read behind one test, by sums of products that compile to one load.
+#![tactic(auto)]
+
 ghost use Rattle.std.specs.Prelude.{◌≡◌, ◌+◌, ◌*◌, ◌^◌, ◌≤◌, ◌<◌, length, get_or};
 ghost use Rattle.transcript.specs.Numerals.{count_at, entry_at, entries_at};
 

@@ -1,12 +1,14 @@
 // The field of 2^64 elements: a polynomial over GF(2) of degree below 64, bit i the coefficient of t^i,
 // modulo t^64 + t^4 + t^3 + t + 1.
+#![tactic(auto)]
+
 pub mod reduction;
 
 ghost use Rattle.std.specs.Prelude.{◌≡◌, ◌≢◌, ◌^◌};
 ghost use Rattle.gf64.specs.Polynomial.{remainder};
 ghost use Rattle.gf64.specs.Field.{sum, product, power, inverse};
 
-#[derive(Drop)]
+#[derive(Clone, Copy)]
 pub struct Element(pub u64);
 
 impl Element {
@@ -25,7 +27,7 @@ impl Element {
 
     pub fn product(self, other: Element) -> Element
         ensures value { result.0 ≡ product self.0 other.0 }
-        ensures* constant { do ⌜ (← (⟦Element::REDUCTION.0⟧).entry) ≡ remainder (2 ^ 64) ⌝ }
+        ensures constant { Self.REDUCTION.0 ≡ remainder (2 ^ 64) }
     {
         Element(reduction::product(self.0, other.0))
     }
@@ -33,13 +35,8 @@ impl Element {
     // The inverse, self^(2^64 - 2); as in AES, zero has zero for its inverse.
     pub fn inverse(self) -> Element
         ensures value { result.0 ≡ inverse self.0 }
-        ensures* of_zero { do
-          zero ← (⟦Element::ZERO.0⟧).entry
-          ⌜ (self.0 ≡ zero → result.0 ≡ zero) ⌝ }
-        ensures* inverts { do
-          zero ← (⟦Element::ZERO.0⟧).entry
-          one ← (⟦Element::ONE.0⟧).entry
-          ⌜ (self.0 ≢ zero → product self.0 result.0 ≡ one) ⌝ }
+        ensures of_zero { self.0 ≡ Self.ZERO.0 → result.0 ≡ Self.ZERO.0 }
+        ensures inverts { self.0 ≢ Self.ZERO.0 → product self.0 result.0 ≡ Self.ONE.0 }
     {
         if self.0 == Element::ZERO.0 {
             return Element::ZERO;

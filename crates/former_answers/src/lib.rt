@@ -1,1 +1,2 @@
 // What was answered before a request of document 02, compared with what is answered now. No code.
+#![tactic(auto)]

@@ -1,5 +1,7 @@
 // The protocol over lists as definitions (specs/) and theorems about them (proofs/), demand 3 among them.
 // The code here is what a judging answers.
+#![tactic(auto)]
+
 use refusal::Cause;
 
 // What a judging answers.

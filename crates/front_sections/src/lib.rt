@@ -1,5 +1,7 @@
 // The refusals of sections 1 to 4: in each the count's bytes (1), its value (2, or 9 in section 4), the entries' bytes
 // (1), their values.
+#![tactic(auto)]
+
 ghost use Rattle.std.specs.Prelude.{◌≡◌, ◌^◌, ◌≤◌, length};
 ghost use Rattle.coset.specs.Answers.{basisOutcome};
 ghost use Rattle.fri.specs.Checks.{indices_outcome};

@@ -1,4 +1,6 @@
 // The layers of a prover: the word folded at one challenge after the other.
+#![tactic(auto)]
+
 ghost use Rattle.std.specs.Prelude.{◌≡◌, ◌++◌, suc, ◌-◌, ◌^◌, length, take};
 ghost use Rattle.fri.specs.Layout.{dimension, layer_start};
 ghost use Rattle.fri.specs.Run.{Run, steps_in, rounds_in};

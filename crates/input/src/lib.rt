@@ -1,4 +1,6 @@
 // Reading an input, for the programs: all bytes of standard input, as far as a lent list has room for them.
+#![tactic(auto)]
+
 ghost use Rattle.std.specs.Prelude.{◌≡◌, ◌-◌, ◌≤◌, length};
 ghost use Rattle.libc.specs.Io.{Moved};
 ghost use Rattle.input.specs.Reading.{read_after, Over};

@@ -1,6 +1,8 @@
 // The judging program: reads a transcript from standard input and prints a header and the verdict's line. One byte over
 // the limit of 65,536 is read, so that a longer input is known; what follows it decides nothing. Where a read fails
 // nothing is printed.
+#![tactic(auto)]
+
 ghost use Rattle.std.specs.Prelude.{◌≡◌, ◌+◌, ◌≤◌, length, take};
 ghost use Rattle.transcript.specs.Judge.{input_limit};
 ghost use Rattle.input.specs.Reading.{Over, Prints};

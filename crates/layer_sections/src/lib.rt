@@ -1,5 +1,7 @@
 // The refusals before the round checks: sections 1 to 4, then those of the layers and the last one, then bytes after
 // it (3).
+#![tactic(auto)]
+
 ghost use Rattle.std.specs.Prelude.{◌≡◌};
 ghost use Rattle.transcript.specs.Sections.{section_start, layer_section, transcript_rounds};
 ghost use Rattle.transcript.specs.Checks.{end_outcome, layers_outcome, transcript_outcome};

@@ -1,4 +1,6 @@
 // The parameters of a run, and where each of its layers lies in the store.
+#![tactic(auto)]
+
 ghost use Rattle.std.specs.Prelude.{◌≡◌, ◌≤◌, length};
 ghost use Rattle.fri.specs.Layout.{dimension, last_count, layer_start};
 ghost use Rattle.fri.specs.Checks.{parameters_outcome};

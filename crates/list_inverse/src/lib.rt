@@ -1,5 +1,7 @@
 // The inverses of a list of elements, in its place: by blocks of 64, with one inverse for each block and three products
 // for each element.
+#![tactic(auto)]
+
 ghost use Rattle.std.specs.Prelude.{◌≡◌, ◌≢◌, ◌++◌, map, ◌≤◌, length, drop};
 ghost use Rattle.gf64.specs.Field.{inverse};
 ghost use Rattle.poly.specs.Polynomial.{All};

@@ -1,5 +1,7 @@
 // The judge over lists: all checks in order, then the round checks query by query, and the verdict with the entries
 // read.
+#![tactic(auto)]
+
 ghost use Rattle.std.specs.Prelude.{◌≡◌};
 ghost use Rattle.fri.specs.Run.{Run};
 ghost use Rattle.fri.specs.Judge.{checks_outcome, verdict_of};

@@ -1,4 +1,6 @@
 // The fold of a word over a coset of at most 2^20 points, with its refusals.
+#![tactic(auto)]
+
 ghost use Rattle.std.specs.Prelude.{◌≡◌, ◌≤◌, length};
 ghost use Rattle.refusal.specs.Checks.{and_then};
 ghost use Rattle.coset.specs.Answers.{basisOutcome};

@@ -1,4 +1,6 @@
 // The marking sheet of a transcript, put into a lent list of bytes: a line for every query and every round.
+#![tactic(auto)]
+
 ghost use Rattle.std.specs.Prelude.{◌≡◌, length};
 ghost use Rattle.refusal.specs.declared.Outcome.TheVariants as outcomes;
 ghost use Rattle.transcript.specs.Checks.{transcript_outcome};

@@ -1,4 +1,6 @@
 // The product by a fixed element, by a table of its multiples: for a run of products by one element.
+#![tactic(auto)]
+
 ghost use Rattle.std.specs.Prelude.{◌≡◌, ◌+◌, ◌*◌, ◌^◌, ◌≤◌, ◌<◌, length};
 ghost use Rattle.gf64.specs.Field.{product};
 ghost use Rattle.multiplier.specs.Table.{RowFilled, BlockFilled, Multiples, ProductBy};

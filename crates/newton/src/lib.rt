@@ -1,4 +1,6 @@
 // Interpolation over a coset of at most 2^12 points, in the place of the values: Newton's form, then its expansion.
+#![tactic(auto)]
+
 ghost use Rattle.std.specs.Prelude.{◌≡◌, ◌≢◌, ◌^◌, ◌≤◌, length, take};
 ghost use Rattle.poly.specs.Carrier.{gf64};
 ghost use Rattle.poly.specs.Polynomial.{All};

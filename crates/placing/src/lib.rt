@@ -1,4 +1,6 @@
 // Puts a text into a lent list of bytes and answers where it ends, so that texts can stand one behind the other.
+#![tactic(auto)]
+
 ghost use Rattle.std.specs.Prelude.{◌+◌, ◌≤◌, length};
 ghost use Rattle.placing.specs.Put.{Put};
 

@@ -1,4 +1,6 @@
 // The points of a coset, by index and in sequence.
+#![tactic(auto)]
+
 ghost use Rattle.std.specs.Prelude.{◌≡◌, get_or, take};
 ghost use Rattle.std.specs.Int.Count.{count_trailing_zeros};
 ghost use Rattle.gf64.specs.Field.{sum};

@@ -1,4 +1,6 @@
 // Polynomials over the field of 2^64 elements, as lists of coefficients, constant first.
+#![tactic(auto)]
+
 ghost use Rattle.std.specs.Prelude.{◌≡◌, ◌++◌, min, ◌≤◌, length, drop};
 ghost use Rattle.poly.specs.Carrier.{gf64};
 ghost use Rattle.poly.specs.Polynomial.{evaluate};

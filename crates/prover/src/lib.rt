@@ -1,5 +1,7 @@
 // The prover: it folds a word at the challenges and leaves layers 1 to r - 1 in the store and, in a list of their
 // own, the first d coefficients of layer r's interpolant.
+#![tactic(auto)]
+
 ghost use Rattle.std.specs.Prelude.{◌≡◌, ◌^◌, ◌≤◌, length};
 ghost use Rattle.fri.specs.Layout.{dimension};
 ghost use Rattle.refusal.specs.declared.Outcome.TheVariants as outcomes;

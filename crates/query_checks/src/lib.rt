@@ -1,5 +1,7 @@
 // The checks of a query list: how many queries there are (9), that each index is below 2^k (10), and that no two
 // queries share a first_layer coset (17).
+#![tactic(auto)]
+
 ghost use Rattle.std.specs.Prelude.{◌≡◌, ◌&&◌, ◌≤◌, leb};
 ghost use Rattle.fri.specs.Checks.{first_outside, among, visited_cosets, first_shared, outcome_of_shared};
 ghost use Rattle.fri.specs.Checks.{indices_outcome, queries_outcome};

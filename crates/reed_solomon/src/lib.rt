@@ -1,1 +1,2 @@
 // Encoding and interpolation over a coset as definitions (specs/) and theorems about them (proofs/). No code.
+#![tactic(auto)]

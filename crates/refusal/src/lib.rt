@@ -1,5 +1,7 @@
 // The causes of a refusal, each with its number and its place. A number, once given, keeps its cause for good: 15, the
 // inverse of zero, and 16, a later layer's basis is dependent, are retired and not used again.
+#![tactic(auto)]
+
 ghost use Rattle.std.specs.Prelude.{◌≡◌};
 ghost use Rattle.refusal.specs.Numbers.{number_of, place_of, round_of};
 

@@ -1,5 +1,7 @@
 // What the judge over lists and the one over bytes have in common: what is computed once for each round, before the
 // queries, a query's index and point in a layer, and the cosets that a query has read.
+#![tactic(auto)]
+
 ghost use Rattle.std.specs.Prelude.{◌≡◌, ◌≢◌, true, ◌+◌, ◌^◌, ◌≤◌, ◌<◌, min, length};
 ghost use Rattle.poly.specs.Polynomial.{All};
 ghost use Rattle.coset.specs.Span.{Independent};

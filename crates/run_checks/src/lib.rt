@@ -1,4 +1,6 @@
 // The checks that prover, judge and writer have in common, in the order of the papers.
+#![tactic(auto)]
+
 ghost use Rattle.std.specs.Prelude.{◌≡◌};
 ghost use Rattle.refusal.specs.Checks.{and_then};
 ghost use Rattle.fri.specs.Checks.{parameters_outcome, lengths_outcome, run_outcome};

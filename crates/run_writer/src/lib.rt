@@ -1,5 +1,7 @@
 // The sections of a run and its queries, one behind the other, where parameters are in range and all lists have the
 // lengths due.
+#![tactic(auto)]
+
 ghost use Rattle.std.specs.Prelude.{◌≡◌, ◌∷◌, ◌+◌, ◌*◌, ◌-◌, ◌≤◌, length};
 ghost use Rattle.fri.specs.Run.{Run};
 ghost use Rattle.fri.specs.Theorems.{Fit};

@@ -1,5 +1,7 @@
 // Counts, entries and sections put into a lent list of bytes, little-endian. Each function answers where it ends, so
 // that the next can stand behind it.
+#![tactic(auto)]
+
 ghost use Rattle.std.specs.Prelude.{◌+◌, ◌*◌, ◌≤◌, length};
 ghost use Rattle.placing.specs.Put.{Put};
 ghost use Rattle.written.specs.Bytes.{count_bytes, entry_bytes, entries_bytes, section_bytes};

@@ -1,4 +1,6 @@
 // The sections of a transcript: where they begin, and whether their counts and bytes are right.
+#![tactic(auto)]
+
 ghost use Rattle.std.specs.Prelude.{◌≡◌, ◌^◌, ◌≤◌};
 ghost use Rattle.transcript.specs.Sections.{section_start, section_end, section_count};
 ghost use Rattle.transcript.specs.Checks.{section_outcome, due_outcome};

@@ -1,6 +1,8 @@
 // The marking program: reads a transcript from standard input and prints its marking sheet. One byte over the limit of
 // 65,536 is read, so that a longer input is known; what follows it decides nothing. Where a read fails nothing is
 // printed.
+#![tactic(auto)]
+
 ghost use Rattle.std.specs.Prelude.{◌≡◌, ◌+◌, ◌≤◌, length, take};
 ghost use Rattle.transcript.specs.Judge.{input_limit};
 ghost use Rattle.sheet_text.specs.Sheet.{sheet_of, largest_sheet};

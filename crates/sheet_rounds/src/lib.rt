@@ -1,4 +1,6 @@
 // The lines of the marking sheet of a run whose layers lie in the bytes of a transcript.
+#![tactic(auto)]
+
 ghost use Rattle.std.specs.Prelude.{◌≡◌, ◌≤◌, length};
 ghost use Rattle.refusal.specs.declared.Outcome.TheVariants as outcomes;
 ghost use Rattle.fri.specs.Run.{Run};

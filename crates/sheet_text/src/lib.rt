@@ -1,1 +1,2 @@
 // The marking sheet, by its bytes: definitions (specs/) and theorems about them (proofs/).
+#![tactic(auto)]

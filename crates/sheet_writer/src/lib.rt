@@ -1,5 +1,7 @@
 // A line of the marking sheet put into a lent list of bytes. Each function answers where it ends, so that the next can
 // stand behind it.
+#![tactic(auto)]
+
 ghost use Rattle.std.specs.Prelude.{◌≡◌, ◌+◌, ◌^◌, ◌≤◌, ◌<◌, length};
 ghost use Rattle.line_text.specs.Digits.{decimal};
 ghost use Rattle.placing.specs.Put.{Put};

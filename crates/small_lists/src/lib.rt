@@ -1,4 +1,6 @@
 // The small lists of a transcript, read into arrays: all but the layers, whose entries stay in the bytes.
+#![tactic(auto)]
+
 ghost use Rattle.std.specs.Prelude.{◌≡◌, ◌^◌, ◌≤◌};
 ghost use Rattle.refusal.specs.declared.Outcome.TheVariants as outcomes;
 ghost use Rattle.poly.specs.Carrier.{gf64};

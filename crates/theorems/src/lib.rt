@@ -1,1 +1,2 @@
 // Every theorem of the project in one record, and its value. No code.
+#![tactic(auto)]

@@ -1,1 +1,2 @@
 // The additive transform: specs/ has its definitions, proofs/ its theorems.
+#![tactic(auto)]

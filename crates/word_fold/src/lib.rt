@@ -1,4 +1,6 @@
 // The fold of a word whose lists fit, into a list of its own or behind the word.
+#![tactic(auto)]
+
 ghost use Rattle.std.specs.Prelude.{◌≡◌, ◌++◌, ◌+◌, ◌*◌, ◌^◌, length, take};
 ghost use Rattle.gf64.specs.Field.{sum};
 ghost use Rattle.fold.specs.Fold.{folded};

@@ -1,5 +1,7 @@
 // The writer: it puts the transcript of a run and its queries into a lent list of bytes of exactly the needed length,
 // which is told beforehand.
+#![tactic(auto)]
+
 ghost use Rattle.std.specs.Prelude.{◌≡◌, ◌+◌, ◌*◌, ◌^◌, ◌≤◌, ◌<◌};
 ghost use Rattle.layout.specs.Parameters.{steps_by, Valid, run_of};
 ghost use Rattle.written.specs.Transcript.{transcript_length};

@@ -1,4 +1,6 @@
 // Puts numbers into a lent list of bytes, in ASCII, and answers where their digits end.
+#![tactic(auto)]
+
 ghost use Rattle.std.specs.Prelude.{◌≡◌, ◌++◌, ◌+◌, ◌≤◌, ◌<◌, length};
 ghost use Rattle.line_text.specs.Digits.{bytes, digits, places_within, decimal};
 ghost use Rattle.line_text.specs.Digits.{digit as digitOf};
