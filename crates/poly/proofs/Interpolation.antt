@@ -64,7 +64,7 @@ module _ {A : Type 0} (F : Operations A) (Element : A → Type 0) (L : Laws A F 
   at_own_point x y q =
       evaluate-times_linear F Element L y x q x
       ∙ ap (λ (v : A). y ⊕ v)
-      (ap (λ (v : A). v ⊗ evaluate F q x) (L.Sum-self x) ∙ product-zero_l F Element L (evaluate F q x))
+      (ap (λ (v : A). v ⊗ evaluate F q x) (L.sum_self x) ∙ product-zero_l F Element L (evaluate F q x))
       ∙ sum-zero_r F Element L y
 
   -- where q has the divided difference for its value, y + (x' + x) · q is y'

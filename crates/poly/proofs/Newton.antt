@@ -117,7 +117,7 @@ module _ {A : Type 0} (F : Operations A) (Element : A → Type 0) (L : Laws A F 
   unfolding newton_value
   own_point x c points cs =
       ap (λ (s : A). c ⊕ s)
-      (ap (λ (s : A). s ⊗ newton_value F points cs x) (L.Sum-self x)
+      (ap (λ (s : A). s ⊗ newton_value F points cs x) (L.sum_self x)
       ∙ product-zero_l F Element L (newton_value F points cs x))
       ∙ sum-zero_r F Element L c
 

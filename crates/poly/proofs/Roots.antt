@@ -143,7 +143,7 @@ module _ {A : Type 0} (F : Operations A) (Element : A → Type 0) (L : Laws A F 
       → All (λ x. evaluate F (plus F p q) x ≡ 𝟘) points
   roots_of_sum p q [] e = record {}
   roots_of_sum p q (x ∷ points) e = (
-    evaluate-plus F Element L p q x ∙ ap (λ (v : A). v ⊕ evaluate F q x) (head_equal e) ∙ L.Sum-self (evaluate F q x),
+    evaluate-plus F Element L p q x ∙ ap (λ (v : A). v ⊕ evaluate F q x) (head_equal e) ∙ L.sum_self (evaluate F q x),
     roots_of_sum p q points (tail_equal e),
   )
     where

@@ -12,7 +12,7 @@ module _ {A : Type 0} (F : Operations A) (Element : A → Type 0) (L : Laws A F 
   sum-zero_r a = L.sum_commutative a 𝟘 ∙ L.sum_zero a
 
   pub sum_cancel : (a b : A) → a ⊕ (a ⊕ b) ≡ b
-  sum_cancel a b = sym (L.sum_associative a a b) ∙ ap (λ (s : A). s ⊕ b) (L.Sum-self a) ∙ L.sum_zero b
+  sum_cancel a b = sym (L.sum_associative a a b) ∙ ap (λ (s : A). s ⊕ b) (L.sum_self a) ∙ L.sum_zero b
 
   pub sum_left_comm : (a b c : A) → a ⊕ (b ⊕ c) ≡ b ⊕ (a ⊕ c)
   sum_left_comm a b c =
@@ -36,7 +36,7 @@ module _ {A : Type 0} (F : Operations A) (Element : A → Type 0) (L : Laws A F 
   product-zero_r a =
       sym (sum_cancel (a ⊗ 𝟘) (a ⊗ 𝟘))
       ∙ ap (λ (s : A). a ⊗ 𝟘 ⊕ s) (sym (L.distributive a 𝟘 𝟘) ∙ ap (λ (s : A). a ⊗ s) (L.sum_zero 𝟘))
-      ∙ L.Sum-self (a ⊗ 𝟘)
+      ∙ L.sum_self (a ⊗ 𝟘)
 
   pub product-zero_l : (a : A) → 𝟘 ⊗ a ≡ 𝟘
   product-zero_l a = L.product_commutative 𝟘 a ∙ product-zero_r a

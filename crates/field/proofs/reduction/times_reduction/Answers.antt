@@ -1,0 +1,31 @@
+-- `field::reduction::times_reduction` meets its contract. The loop's invariant: w is the product by the i low bits of
+-- the reduction constant. Assumes nothing.
+use mathlib.Core.Path.{◌≡◌, sym, ap, ◌∙◌}
+use mathlib.Core.Logic.{⊎_elim}
+use Prim.Native.Nat.{ℕ, ◌-◌, ◌%◌, ◌^◌, ◌≤◌}
+use native.Mathlib.Omega.{arith}
+use borrow.Author.Rules.{rules}
+use Rattle.gf64.specs.Polynomial.{carryless, reduction}
+use Rattle.gf64.proofs.Carryless.{carryless-zero_l}
+use Rattle.carryless.specs.Window.{wide_of}
+use Rattle.field.proofs.Remainders.{bit_set, bit_clear}
+use Rattle.field.proofs.reduction.times_reduction.Goals as goal
+
+pub loop-i-init : goal.loop-i-init
+loop-i-init c = (search rules, sym (carryless-zero_l c.args.a))
+
+pub loop-i-preserved : goal.loop-i-preserved
+loop-i-preserved c =
+    let a = c.args.a in
+    let i = c.loop-i.i in
+    let w = c.loop-i.w in
+    let inv = c.loop-i.invariant.1 in (
+      search rules,
+      ⊎_elim (λ k. ap wide_of k.2 ∙ k.1.ensures ∙ bit_set reduction i a (wide_of w) k.0.taken inv)
+          (λ k. ap wide_of k.1 ∙ bit_clear reduction i a (wide_of w) (omega (arith, k.0.left)) inv) c.if-i-eq1.branch,
+    )
+
+pub returns : goal.returns
+returns c =
+    let five : c.loop-i.i ≡ 5 = omega arith in
+    c.loop-i.invariant.1 ∙ ap (λ (i : ℕ). carryless (reduction % 2 ^ i) c.args.a) five
