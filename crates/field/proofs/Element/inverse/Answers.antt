@@ -11,33 +11,25 @@ use Rattle.field.proofs.Element.inverse.Goals as goal
 pub returns-then-self : goal.returns-then-self
 returns-then-self c =
     let zero = c.if-self.true in
-    (sym (ap inverse zero ∙ inverse-zero), (λ z. refl, λ nonzero. absurd (nonzero zero)))
+    record {
+      value = sym (ap inverse zero ∙ inverse-zero);
+      of_zero = λ z. refl;
+      inverts = λ nonzero. absurd (nonzero zero);
+    }
 
 pub returns : goal.returns
 returns c =
-    let at8 = c in
-    let at7 = at8 in
-    let at6 = at7 in
-    let at5 = at6 in
-    let at4 = at5 in
-    let at3 = at4 in
-    let at2 = at3 in
-    let at1 = at2 in
-    let start = at1 in
-    let a = start.args.self.0 in
-    let one = ones_first a (omega (arith, start.well-formed)) in
-    let two = ones_join a 1 1 _ _ _ one one at1.raised-ones_2.ensures in
-    let three = ones_join a 2 1 _ _ _ two one at2.raised-ones_3.ensures in
-    let six = ones_join a 3 3 _ _ _ three three at3.raised-ones_6.ensures in
-    let twelve = ones_join a 6 6 _ _ _ six six at4.raised-ones_12.ensures in
-    let fifteen = ones_join a 12 3 _ _ _ twelve three at5.raised-ones_15.ensures in
-    let thirty = ones_join a 15 15 _ _ _ fifteen fifteen at6.raised-ones_30.ensures in
-    let sixty = ones_join a 30 30 _ _ _ thirty thirty at7.raised-ones_60.ensures in
-    let value = ones_last a _ _ (ones_join a 60 3 _ _ _ sixty three at8.raised-ones_63.ensures) c.squared.ensures in (
-      value,
-      (
-        λ z. value ∙ ap inverse z ∙ inverse-zero,
-        λ nonzero. ap (product a) value
-            ∙ inverse_right a (omega (arith, start.well-formed)) nonzero,
-      ),
-    )
+    let a = c.args.self.0 in
+    let one = ones_first a (omega arith) in
+    let two = ones_join a 1 1 _ _ _ one one c.raised-ones_2.ensures in
+    let three = ones_join a 2 1 _ _ _ two one c.raised-ones_3.ensures in
+    let six = ones_join a 3 3 _ _ _ three three c.raised-ones_6.ensures in
+    let twelve = ones_join a 6 6 _ _ _ six six c.raised-ones_12.ensures in
+    let fifteen = ones_join a 12 3 _ _ _ twelve three c.raised-ones_15.ensures in
+    let thirty = ones_join a 15 15 _ _ _ fifteen fifteen c.raised-ones_30.ensures in
+    let sixty = ones_join a 30 30 _ _ _ thirty thirty c.raised-ones_60.ensures in
+    let value = ones_last a _ _ (ones_join a 60 3 _ _ _ sixty three c.raised-ones_63.ensures) c.squared.ensures in record {
+      value = value;
+      of_zero = λ z. value ∙ ap inverse z ∙ inverse-zero;
+      inverts = λ nonzero. ap (product a) value ∙ inverse_right a (omega arith) nonzero;
+    }

@@ -3,4 +3,4 @@ use borrow.Author.Rules.{rules}
 use Rattle.field.proofs.Element.inverse_of_nonzero.Goals as goal
 
 pub returns : goal.returns
-returns c = c.inverse.ensures.0
+returns c = c.inverse.ensures.value

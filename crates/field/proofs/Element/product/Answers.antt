@@ -5,4 +5,4 @@ use Rattle.gf64.proofs.Remainder.{remainder_t64}
 use Rattle.field.proofs.Element.product.Goals as goal
 
 pub returns : goal.returns
-returns c = (c.product.ensures, sym remainder_t64)
+returns c = record { value = c.product.ensures; constant = sym remainder_t64 }

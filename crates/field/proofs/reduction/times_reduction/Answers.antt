@@ -10,6 +10,7 @@ use Rattle.gf64.proofs.Carryless.{carryless-zero_l}
 use Rattle.carryless.specs.Window.{wide_of}
 use Rattle.field.proofs.Remainders.{bit_set, bit_clear}
 use Rattle.field.proofs.reduction.times_reduction.Goals as goal
+use Rattle.field.proofs.reduction.times_reduction.Goals.{then-i-eq1, else-i-eq1}
 
 pub loop-i-init : goal.loop-i-init
 loop-i-init c = (search rules, sym (carryless-zero_l c.args.a))
@@ -19,11 +20,11 @@ loop-i-preserved c =
     let a = c.args.a in
     let i = c.loop-i.i in
     let w = c.loop-i.w in
-    let inv = c.loop-i.invariant.1 in (
-      search rules,
-      ⊎_elim (λ k. ap wide_of k.2 ∙ k.1.ensures ∙ bit_set reduction i a (wide_of w) k.0.taken inv)
-          (λ k. ap wide_of k.1 ∙ bit_clear reduction i a (wide_of w) (omega (arith, k.0.left)) inv) c.if-i-eq1.branch,
-    )
+    let inv = c.loop-i.invariant.1 in
+    (omega arith,
+      elim c.if-i-eq1.branch [
+          then-i-eq1 k ↦ ap wide_of k.w-is ∙ k.plus_shifted-w.ensures ∙ bit_set reduction i a (wide_of w) k.if-i-eq1.true inv
+        | else-i-eq1 k ↦ ap wide_of k.w-is ∙ bit_clear reduction i a (wide_of w) (omega (arith, k.if-i-eq1.false)) inv ])
 
 pub returns : goal.returns
 returns c =
