@@ -19,7 +19,7 @@ loop-i-preserved c =
     let a = c.args in
     let l = c.loop-i in (
       search rules,
-      c.sum-value.ensures ∙ ap (sum (get_or a.coefficients.now (l.i - 1) 0)) c.product.ensures.0
+      c.sum-value.ensures ∙ ap (sum (get_or a.coefficients.now (l.i - 1) 0)) c.product.ensures.value
           ∙ horner_step a.coefficients.now l.i a.x.0 l.value.0 (omega arith) l.invariant.0 l.invariant.1,
     )
 
