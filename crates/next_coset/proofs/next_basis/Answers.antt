@@ -1,0 +1,35 @@
+-- `next_coset::next_basis` meets its contract. Assumes nothing.
+use Rattle.coset.proofs.Subspace.{next_padded}
+use Rattle.coset.proofs.Points.{all_elements}
+use lib.Seq.{length-take-le}
+use lib.ListN.{length, drop, length-drop}
+use Prim.Native.Nat.{◌-◌}
+use mathlib.Core.Path.{◌≡◌, sym}
+use borrow.Author.Rules.{rules}
+use native.Mathlib.Omega.{arith}
+use Rattle.next_coset.proofs.next_basis.Goals as goal
+
+pub slice_bounds-fill_images-end : goal.slice_bounds-fill_images-end
+slice_bounds-fill_images-end c =
+    let three : length c.step_elements-elements.result ≡ 3 = search rules in
+    sym (length-take-le c.args.step c.step_elements-elements.result
+    (omega (arith, three, c.requires.0)))
+
+pub fill_images-requires : goal.fill_images-requires
+fill_images-requires c =
+    let basis = c.args.basis.now in
+    omega (
+      arith,
+      c.requires.2,
+      length-take-le (length basis - c.args.step) (drop c.args.step basis)
+          (omega (arith, length-drop c.args.step basis)),
+    )
+
+pub returns : goal.returns
+returns c =
+    let basis = c.args.basis.now in
+    next_padded 20 c.args.step basis c.step_elements-elements.result
+    c.fill_images.new.images
+    (all_elements basis (λ i. omega
+    (arith, c.type_inv.basis i))) c.requires.1
+    c.step_elements-elements.ensures c.fill_images.ensures
