@@ -12,7 +12,7 @@ ghost use Rattle.layout.specs.Lengths.{lengths_of};
 use refusal::{Cause, Outcome};
 
 // k, R and η.
-#[derive(Drop)]
+#[derive(Clone, Copy)]
 pub struct Parameters {
     pub k: usize,
     pub rate: usize,
@@ -20,14 +20,14 @@ pub struct Parameters {
 }
 
 // A part of a list.
-#[derive(Drop)]
+#[derive(Clone, Copy)]
 pub struct Part {
     pub start: usize,
     pub length: usize,
 }
 
 // How many challenges, entries of the store and last coefficients a run has.
-#[derive(Drop)]
+#[derive(Clone, Copy)]
 pub struct Lengths {
     pub rounds: usize,
     pub store: usize,
