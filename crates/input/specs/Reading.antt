@@ -3,6 +3,11 @@ use Rattle.std.specs.Prelude.{◌≡◌, cond, List, [], ◌++◌, ℕ, zero, su
 use Rattle.input.specs.declared.Reading.{Reading}
 use Rattle.input.specs.declared.Reading.TheVariants.{More, Done, Failed}
 
+-- what a read into a list of this length may answer: how many bytes it put there, at most so many, or -1
+abbrev pub Moved : (size : ℕ) (got : ℤ) → Type 0
+Moved size (pos count) = count ≤ size
+Moved size (negsuc n) = n ≡ 0
+
 -- after count of size bytes a read answered this number: one below 0 is a failure, 0 is the end of the input,
 -- and at size there is no more room
 abbrev pub read_after : (count : ℕ) (got : ℤ) (size : ℕ) → Reading

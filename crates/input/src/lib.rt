@@ -2,13 +2,12 @@
 #![tactic(auto)]
 
 ghost use Rattle.std.specs.Prelude.{◌≡◌, ◌-◌, ◌≤◌, length};
-ghost use Rattle.libc.specs.Io.{Moved};
-ghost use Rattle.input.specs.Reading.{read_after, Over};
+ghost use Rattle.input.specs.Reading.{Moved, read_after, Over};
 
-use libc::STDIN_FILENO;
+use std::io::{Read, Stdin};
 
 // How far reading has come: so many bytes and there may be more, so many bytes and no more are read, or a read failed.
-#[derive(Drop)]
+#[derive(Clone, Copy)]
 pub enum Reading {
     More(usize),
     Done(usize),
@@ -16,17 +15,27 @@ pub enum Reading {
 }
 
 // Reads until the list is full or the input ends.
-pub fn read(input: &mut [u8]) -> Reading
+pub fn read(mut stdin: Stdin, input: &mut [u8]) -> Reading
     ensures { Over (length input.new) result }
 {
     let mut count: usize = 0;
     loop {
-        let got = libc::read(STDIN_FILENO, &mut input[count..]);
+        let got = read_once(&mut stdin, &mut input[count..]);
         let reading = after(count, got, input.len());
         let Reading::More(next) = reading else {
             return reading;
         };
         count = next;
+    }
+}
+
+// What one read into a lent list answers: how many bytes it put there, or -1 where it failed.
+fn read_once(stdin: &mut Stdin, list: &mut [u8]) -> isize
+    ensures { Moved (length list.new) result }
+{
+    match stdin.read(list) {
+        Ok(count) => count as isize,
+        Err(_) => -1,
     }
 }
 
