@@ -5,14 +5,14 @@
 use refusal::Cause;
 
 // What a judging answers.
-#[derive(Drop)]
+#[derive(Clone, Copy)]
 pub enum Answer {
     Accepted,
     Refused(Cause),
 }
 
 // The answer with the entries read.
-#[derive(Drop)]
+#[derive(Clone, Copy)]
 pub struct Verdict {
     pub answer: Answer,
     pub reads: u64,

@@ -7,7 +7,7 @@ ghost use Rattle.refusal.specs.Numbers.{number_of, place_of, round_of};
 
 // Why something was refused: one case for each number, in the order of the numbers. Sections and lists are counted from
 // 1, basis places, queries and rounds from 0.
-#[derive(Drop)]
+#[derive(Clone, Copy)]
 pub enum Cause {
     // 1: the bytes end in a count or its entries
     BytesEnd { section: usize },
@@ -43,14 +43,14 @@ pub enum Cause {
 }
 
 // What an operation answers that gives no value.
-#[derive(Drop)]
+#[derive(Clone, Copy)]
 pub enum Outcome {
     Done,
     Refused(Cause),
 }
 
 // A place or a round, where there is one.
-#[derive(Drop)]
+#[derive(Clone, Copy)]
 pub enum Position {
     At(usize),
     Absent,
