@@ -6,7 +6,7 @@ use field::Element;
 use refusal::Cause;
 
 // What a fold answers.
-#[derive(Drop)]
+#[derive(Clone, Copy)]
 pub enum Folded {
     NextOffset(Element),
     Refused(Cause),
