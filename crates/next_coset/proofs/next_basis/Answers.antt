@@ -9,12 +9,6 @@ use borrow.Author.Rules.{rules}
 use native.Mathlib.Omega.{arith}
 use Rattle.next_coset.proofs.next_basis.Goals as goal
 
-pub slice_bounds-fill_images-end : goal.slice_bounds-fill_images-end
-slice_bounds-fill_images-end c =
-    let three : length c.step_elements-elements.result ≡ 3 = search rules in
-    sym (length-take-le c.args.step c.step_elements-elements.result
-    (omega (arith, three, c.requires.0)))
-
 pub fill_images-requires : goal.fill_images-requires
 fill_images-requires c =
     let basis = c.args.basis.now in
