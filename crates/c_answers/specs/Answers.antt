@@ -6,7 +6,7 @@ use Rattle.refusal.specs.declared.Position.{Position}
 use Rattle.refusal.specs.declared.Position.TheVariants.{At, Absent}
 use Rattle.refusal.specs.Numbers.{number_of, place_of, round_of, number_of_outcome, place_of_outcome, round_of_outcome}
 use Rattle.fold.specs.declared.Folded.{Folded}
-use Rattle.fold.specs.Answers.{numberOfFolded, placeOfFolded, roundOfFolded, valueOfFolded}
+use Rattle.fold.specs.Answers.{number_of_folded, place_of_folded, round_of_folded, value_of_folded}
 use Rattle.fri.specs.declared.Verdict.{Verdict}
 use Rattle.fri.specs.Judge.{number_of_answer, place_of_answer, round_of_answer}
 use Rattle.layout.specs.declared.Part.{Part}
@@ -17,82 +17,82 @@ abbrev pub none : ℕ
 none = 2 ^ 64 - 1
 
 -- a place or a round is far below 2^64 - 1, being a small number, a degree or an index of a list
-abbrev pub orNone : (position : Position) → ℕ
-orNone (At n) = n
-orNone Absent = none
+abbrev pub or_none : (position : Position) → ℕ
+or_none (At n) = n
+or_none Absent = none
 
 -- it went well: `value` where the operation gives one, which may be any number, and `none` where it gives none
-abbrev pub answerOfValue : (reads value : ℕ) → Answer
-answerOfValue reads value = record { number = 0; place = none; round = none; reads = reads; value = value }
+abbrev pub answer_of_value : (reads value : ℕ) → Answer
+answer_of_value reads value = record { number = 0; place = none; round = none; reads = reads; value = value }
 
 -- it was refused: `reads` is 0 unless a round check failed
-abbrev pub answerOfCause : (cause : Cause) (reads : ℕ) → Answer
-answerOfCause cause reads =
+abbrev pub answer_of_cause : (cause : Cause) (reads : ℕ) → Answer
+answer_of_cause cause reads =
     record {
       number = number_of cause;
-      place = orNone (place_of cause);
-      round = orNone (round_of cause);
+      place = or_none (place_of cause);
+      round = or_none (round_of cause);
       reads = reads;
       value = none;
     }
 
 -- the answer of a fold, whose value is the next offset; only a judge counts reads
-abbrev pub answerOfFolded : (folded : Folded) → Answer
-answerOfFolded folded =
+abbrev pub answer_of_folded : (folded : Folded) → Answer
+answer_of_folded folded =
     record {
-      number = numberOfFolded folded;
-      place = orNone (placeOfFolded folded);
-      round = orNone (roundOfFolded folded);
+      number = number_of_folded folded;
+      place = or_none (place_of_folded folded);
+      round = or_none (round_of_folded folded);
       reads = 0;
-      value = valueOfFolded folded none;
+      value = value_of_folded folded none;
     }
 
 -- the answer of an operation that reads nothing and gives no value
-abbrev pub answerOfOutcome : (outcome : Outcome) → Answer
-answerOfOutcome outcome =
+abbrev pub answer_of_outcome : (outcome : Outcome) → Answer
+answer_of_outcome outcome =
     record {
       number = number_of_outcome outcome;
-      place = orNone (place_of_outcome outcome);
-      round = orNone (round_of_outcome outcome);
+      place = or_none (place_of_outcome outcome);
+      round = or_none (round_of_outcome outcome);
       reads = 0;
       value = none;
     }
 
 -- the answer of the prover: the degree that number 12 tells is its value too
-abbrev pub answerOfProved : (outcome : Outcome) → Answer
-answerOfProved outcome =
+abbrev pub answer_of_proved : (outcome : Outcome) → Answer
+answer_of_proved outcome =
     record {
       number = number_of_outcome outcome;
-      place = orNone (place_of_outcome outcome);
-      round = orNone (round_of_outcome outcome);
+      place = or_none (place_of_outcome outcome);
+      round = or_none (round_of_outcome outcome);
       reads = 0;
-      value = cond (eqb (number_of_outcome outcome) 12) (orNone (place_of_outcome outcome)) none;
+      value = cond (eqb (number_of_outcome outcome) 12) (or_none (place_of_outcome outcome)) none;
     }
 
 -- the answer of the layer lookup: where the part begins and how long it is
-abbrev pub answerOfPart : (part : Part) → Answer
-answerOfPart part = record { number = 0; place = part.start; round = none; reads = 0; value = part.length }
+abbrev pub answer_of_part : (part : Part) → Answer
+answer_of_part part = record { number = 0; place = part.start; round = none; reads = 0; value = part.length }
 
 -- the answer of a judging, with the entries read
-abbrev pub answerOfVerdict : (verdict : Verdict) → Answer
-answerOfVerdict verdict =
+abbrev pub answer_of_verdict : (verdict : Verdict) → Answer
+answer_of_verdict verdict =
     record {
       number = number_of_answer verdict.answer;
-      place = orNone (place_of_answer verdict.answer);
-      round = orNone (round_of_answer verdict.answer);
+      place = or_none (place_of_answer verdict.answer);
+      round = or_none (round_of_answer verdict.answer);
       reads = verdict.reads;
       value = none;
     }
 
 -- number, place, round, reads, value
-abbrev pub numbersOf : (a : Answer) → List ℕ
-numbersOf a = a.number ∷ a.place ∷ a.round ∷ a.reads ∷ a.value ∷ []
+abbrev pub numbers_of : (a : Answer) → List ℕ
+numbers_of a = a.number ∷ a.place ∷ a.round ∷ a.reads ∷ a.value ∷ []
 
 -- what the lent list holds afterwards: the five numbers, or what it held where its length is not 5
 abbrev pub answered : (a : Answer) (lent : List ℕ) → List ℕ
-answered a lent = cond (eqb (length lent) 5) (numbersOf a) lent
+answered a lent = cond (eqb (length lent) 5) (numbers_of a) lent
 
 -- what another lent list holds afterwards: what the operation leaves there, or what it held where the answer's list
 -- has not length 5
-abbrev pub whereAnswered : (lent left held : List ℕ) → List ℕ
-whereAnswered lent left held = cond (eqb (length lent) 5) left held
+abbrev pub where_answered : (lent left held : List ℕ) → List ℕ
+where_answered lent left held = cond (eqb (length lent) 5) left held

@@ -8,28 +8,28 @@ use Rattle.fri.specs.declared.Answer.TheVariants as answers
 use Rattle.fri.specs.Lookup.{layer_part}
 use Rattle.layout.specs.declared.Parameters.{Parameters}
 use Rattle.layout.specs.Parts.{part_of}
-use Rattle.c_answers.specs.Answers.{none, numbersOf, answerOfFolded, answerOfProved, answerOfPart}
-use Rattle.c_answers.specs.Answers.{answerOfVerdict}
+use Rattle.c_answers.specs.Answers.{none, numbers_of, answer_of_folded, answer_of_proved, answer_of_part}
+use Rattle.c_answers.specs.Answers.{answer_of_verdict}
 
 pub record FoldNumbers : Type 0 where
-  pub done : numbersOf (answerOfFolded (NextOffset (record { 0 = 0x48 }))) ≡ 0 ∷ none ∷ none ∷ 0 ∷ 0x48 ∷ []
-  pub wrong_length : numbersOf (answerOfFolded (Refused (WrongLength 7))) ≡ 13 ∷ 7 ∷ none ∷ 0 ∷ none ∷ []
+  pub done : numbers_of (answer_of_folded (NextOffset (record { 0 = 0x48 }))) ≡ 0 ∷ none ∷ none ∷ 0 ∷ 0x48 ∷ []
+  pub wrong_length : numbers_of (answer_of_folded (Refused (WrongLength 7))) ≡ 13 ∷ 7 ∷ none ∷ 0 ∷ none ∷ []
 
 -- prover, judge and lookup
 pub record RunNumbers : Type 0 where
-  pub proved : numbersOf (answerOfProved outcomes.Done) ≡ 0 ∷ none ∷ none ∷ 0 ∷ none ∷ []
+  pub proved : numbers_of (answer_of_proved outcomes.Done) ≡ 0 ∷ none ∷ none ∷ 0 ∷ none ∷ []
   -- the degree is place and value
-  pub degree : numbersOf (answerOfProved (outcomes.Refused (DegreeTooLarge 1))) ≡ 12 ∷ 1 ∷ none ∷ 0 ∷ 1 ∷ []
-  pub store : numbersOf (answerOfProved (outcomes.Refused (WrongLength 4))) ≡ 13 ∷ 4 ∷ none ∷ 0 ∷ none ∷ []
+  pub degree : numbers_of (answer_of_proved (outcomes.Refused (DegreeTooLarge 1))) ≡ 12 ∷ 1 ∷ none ∷ 0 ∷ 1 ∷ []
+  pub store : numbers_of (answer_of_proved (outcomes.Refused (WrongLength 4))) ≡ 13 ∷ 4 ∷ none ∷ 0 ∷ none ∷ []
   -- cases G and H
-  pub accepted : numbersOf (answerOfVerdict (record { answer = answers.Accepted; reads = 4 }))
+  pub accepted : numbers_of (answer_of_verdict (record { answer = answers.Accepted; reads = 4 }))
       ≡ 0 ∷ none ∷ none ∷ 4 ∷ none ∷ []
-  pub refused : numbersOf (answerOfVerdict (record { answer = answers.Refused (RoundCheckFails 1 0); reads = 4 }))
+  pub refused : numbers_of (answer_of_verdict (record { answer = answers.Refused (RoundCheckFails 1 0); reads = 4 }))
       ≡ 11 ∷ 1 ∷ 0 ∷ 4 ∷ none ∷ []
   -- two queries in one first_layer coset
-  pub shared : numbersOf (answerOfVerdict (record { answer = answers.Refused (CosetShared 1); reads = 0 }))
+  pub shared : numbers_of (answer_of_verdict (record { answer = answers.Refused (CosetShared 1); reads = 0 }))
       ≡ 17 ∷ 1 ∷ none ∷ 0 ∷ none ∷ []
   -- as many entries as the value says, from the place on, are what the lookup hands back
   pub part : (p : Parameters) (store : List ℕ) (i : ℕ)
-      → (let answer = answerOfPart (part_of p (length store) i) in take answer.value (drop answer.place store))
+      → (let answer = answer_of_part (part_of p (length store) i) in take answer.value (drop answer.place store))
       ≡ layer_part p.k p.rate p.step store i

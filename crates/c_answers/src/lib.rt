@@ -2,9 +2,9 @@
 #![tactic(auto)]
 
 ghost use Rattle.std.specs.Prelude.{◌≡◌, length};
-ghost use Rattle.c_answers.specs.Answers.{orNone, answerOfValue, answerOfCause, answerOfFolded};
-ghost use Rattle.c_answers.specs.Answers.{answerOfOutcome, answerOfProved, answerOfPart, answerOfVerdict};
-ghost use Rattle.c_answers.specs.Answers.{numbersOf};
+ghost use Rattle.c_answers.specs.Answers.{or_none, answer_of_value, answer_of_cause, answer_of_folded};
+ghost use Rattle.c_answers.specs.Answers.{answer_of_outcome, answer_of_proved, answer_of_part, answer_of_verdict};
+ghost use Rattle.c_answers.specs.Answers.{numbers_of};
 
 use fold::Folded;
 use fri::Verdict;
@@ -28,7 +28,7 @@ const DEGREE_TOO_LARGE: u64 = 12;
 const NONE: u64 = 0xffffffffffffffff;
 
 fn or_none(p: Position) -> u64
-    ensures { result ≡ orNone p }
+    ensures { result ≡ or_none p }
 {
     match p {
         Position::At(n) => n as u64,
@@ -41,7 +41,7 @@ impl Answer {
     pub const LENGTH: usize = 5;
 
     pub fn of_value(reads: u64, value: u64) -> Answer
-        ensures { result ≡ answerOfValue reads value }
+        ensures { result ≡ answer_of_value reads value }
     {
         Answer {
             number: 0,
@@ -53,7 +53,7 @@ impl Answer {
     }
 
     fn of_cause(cause: Cause, reads: u64) -> Answer
-        ensures { result ≡ answerOfCause cause reads }
+        ensures { result ≡ answer_of_cause cause reads }
     {
         Answer {
             number: cause.number(),
@@ -65,7 +65,7 @@ impl Answer {
     }
 
     pub fn of_folded(folded: Folded) -> Answer
-        ensures { result ≡ answerOfFolded folded }
+        ensures { result ≡ answer_of_folded folded }
     {
         match folded {
             Folded::NextOffset(offset) => Answer::of_value(0, offset.0),
@@ -74,7 +74,7 @@ impl Answer {
     }
 
     pub fn of_outcome(outcome: Outcome) -> Answer
-        ensures { result ≡ answerOfOutcome outcome }
+        ensures { result ≡ answer_of_outcome outcome }
     {
         match outcome {
             Outcome::Done => Answer::of_value(0, NONE),
@@ -84,7 +84,7 @@ impl Answer {
 
     // The degree that number 12 tells is the value too.
     pub fn of_proved(outcome: Outcome) -> Answer
-        ensures { result ≡ answerOfProved outcome }
+        ensures { result ≡ answer_of_proved outcome }
     {
         let answer = Answer::of_outcome(outcome);
         if answer.number != DEGREE_TOO_LARGE {
@@ -100,7 +100,7 @@ impl Answer {
     }
 
     pub fn of_part(part: Part) -> Answer
-        ensures { result ≡ answerOfPart part }
+        ensures { result ≡ answer_of_part part }
     {
         Answer {
             number: 0,
@@ -112,7 +112,7 @@ impl Answer {
     }
 
     pub fn of_verdict(verdict: Verdict) -> Answer
-        ensures { result ≡ answerOfVerdict verdict }
+        ensures { result ≡ answer_of_verdict verdict }
     {
         let answer = verdict.answer;
         match answer {
@@ -123,7 +123,7 @@ impl Answer {
 
     pub fn write(self, lent: &mut [u64])
         requires { length lent.old ≡ 5 }
-        ensures { lent.new ≡ numbersOf self }
+        ensures { lent.new ≡ numbers_of self }
     {
         lent[0] = self.number;
         lent[1] = self.place;

@@ -2,8 +2,8 @@
 #![tactic(auto)]
 
 ghost use Rattle.std.specs.Prelude.{◌≡◌};
-ghost use Rattle.reed_solomon.specs.Answers.{encodeOutcome, interpolateOutcome, valuesAfter, coefficientsAfter};
-ghost use Rattle.c_answers.specs.Answers.{answerOfOutcome, answered, whereAnswered};
+ghost use Rattle.reed_solomon.specs.Answers.{encode_outcome, interpolate_outcome, values_after, coefficients_after};
+ghost use Rattle.c_answers.specs.Answers.{answer_of_outcome, answered, where_answered};
 
 use c_answers::Answer;
 use field::Element;
@@ -16,10 +16,10 @@ pub extern "C" fn rz_encode(
     values: &mut [u64],
     answer: &mut [u64],
 )
-    ensures answer { let outcome = encodeOutcome basis.now coefficients.now values.old in
-        answer.new ≡ answered (answerOfOutcome outcome) answer.old }
-    ensures output { let after = valuesAfter offset basis.now coefficients.now values.old in
-        values.new ≡ whereAnswered answer.old after values.old }
+    ensures answer { let outcome = encode_outcome basis.now coefficients.now values.old in
+        answer.new ≡ answered (answer_of_outcome outcome) answer.old }
+    ensures output { let after = values_after offset basis.now coefficients.now values.old in
+        values.new ≡ where_answered answer.old after values.old }
 {
     if answer.len() != Answer::LENGTH {
         return;
@@ -36,10 +36,10 @@ pub extern "C" fn rz_interpolate(
     coefficients: &mut [u64],
     answer: &mut [u64],
 )
-    ensures answer { let outcome = interpolateOutcome basis.now word.now coefficients.old in
-        answer.new ≡ answered (answerOfOutcome outcome) answer.old }
-    ensures output { let after = coefficientsAfter offset basis.now word.now coefficients.old in
-        coefficients.new ≡ whereAnswered answer.old after coefficients.old }
+    ensures answer { let outcome = interpolate_outcome basis.now word.now coefficients.old in
+        answer.new ≡ answered (answer_of_outcome outcome) answer.old }
+    ensures output { let after = coefficients_after offset basis.now word.now coefficients.old in
+        coefficients.new ≡ where_answered answer.old after coefficients.old }
 {
     if answer.len() != Answer::LENGTH {
         return;

@@ -3,7 +3,7 @@
 
 ghost use Rattle.std.specs.Prelude.{◌≡◌, map};
 ghost use Rattle.gf64.specs.Field.{sum, product, inverse};
-ghost use Rattle.c_answers.specs.Answers.{answerOfValue, answered};
+ghost use Rattle.c_answers.specs.Answers.{answer_of_value, answered};
 
 use c_answers::Answer;
 use field::Element;
@@ -24,7 +24,7 @@ pub extern "C" fn rz_product(a: u64, b: u64) -> u64
 
 #[unsafe(no_mangle)]
 pub extern "C" fn rz_inverse(a: u64, answer: &mut [u64])
-    ensures { answer.new ≡ answered (answerOfValue 0 (inverse a)) answer.old }
+    ensures { answer.new ≡ answered (answer_of_value 0 (inverse a)) answer.old }
 {
     if answer.len() != Answer::LENGTH {
         return;

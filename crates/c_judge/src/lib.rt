@@ -5,7 +5,7 @@ ghost use Rattle.std.specs.Prelude.{◌≡◌};
 ghost use Rattle.fri.specs.Judge.{verdict_of};
 ghost use Rattle.layout.specs.Parameters.{run_of};
 ghost use Rattle.transcript.specs.Judge.{transcript_verdict};
-ghost use Rattle.c_answers.specs.Answers.{answerOfVerdict, answered};
+ghost use Rattle.c_answers.specs.Answers.{answer_of_verdict, answered};
 
 use c_answers::Answer;
 use field::Element;
@@ -28,7 +28,7 @@ pub extern "C" fn rz_judge(
     ensures { let run = run_of (record { k = k; rate = rate; step = step }) offset basis.now
         challenges.now word.now store.now last.now in
         let verdict = verdict_of run queries.now in
-        answer.new ≡ answered (answerOfVerdict verdict) answer.old }
+        answer.new ≡ answered (answer_of_verdict verdict) answer.old }
 {
     if answer.len() != Answer::LENGTH {
         return;
@@ -50,7 +50,7 @@ pub extern "C" fn rz_judge(
 #[unsafe(no_mangle)]
 pub extern "C" fn rz_judge_transcript(bytes: &[u8], answer: &mut [u64])
     ensures { let verdict = transcript_verdict bytes.now in
-        answer.new ≡ answered (answerOfVerdict verdict) answer.old }
+        answer.new ≡ answered (answer_of_verdict verdict) answer.old }
 {
     if answer.len() != Answer::LENGTH {
         return;

@@ -4,7 +4,7 @@
 ghost use Rattle.std.specs.Prelude.{◌≡◌, length};
 ghost use Rattle.layout.specs.Parts.{part_of};
 ghost use Rattle.layout.specs.Lengths.{lengths_of};
-ghost use Rattle.c_answers.specs.Answers.{answerOfPart, answered};
+ghost use Rattle.c_answers.specs.Answers.{answer_of_part, answered};
 
 use c_answers::Answer;
 use layout::Parameters;
@@ -43,7 +43,7 @@ pub extern "C" fn rz_layer(
     answer: &mut [u64],
 )
     ensures { let part = part_of (record { k = k; rate = rate; step = step }) (length store.now) i in
-        answer.new ≡ answered (answerOfPart part) answer.old }
+        answer.new ≡ answered (answer_of_part part) answer.old }
 {
     if answer.len() != Answer::LENGTH {
         return;

@@ -4,8 +4,8 @@
 ghost use Rattle.std.specs.Prelude.{◌≡◌, cond, ℕ, ◌^◌, ◌≤◌, ◌<◌, leb, length, replicate};
 ghost use Rattle.poly.specs.Carrier.{gf64};
 ghost use Rattle.poly.specs.Polynomial.{padded};
-ghost use Rattle.reed_solomon.specs.Answers.{checked, encodeOutcome, interpolateOutcome, valuesAfter};
-ghost use Rattle.reed_solomon.specs.Answers.{coefficientsAfter};
+ghost use Rattle.reed_solomon.specs.Answers.{checked, encode_outcome, interpolate_outcome, values_after};
+ghost use Rattle.reed_solomon.specs.Answers.{coefficients_after};
 
 use field::Element;
 use refusal::{Cause, Outcome};
@@ -14,9 +14,9 @@ use refusal::{Cause, Outcome};
 // left off are zero. Refused, in this order: k over 20 (4); over 2^k coefficients or other than 2^k values (13, list
 // 3 or 6); a dependent basis (8). A refusal leaves the values as they were.
 pub fn encode(offset: Element, basis: &[u64], coefficients: &[u64], values: &mut [u64]) -> Outcome
-    ensures answer { result ≡ encodeOutcome basis.now coefficients.now values.old }
+    ensures answer { result ≡ encode_outcome basis.now coefficients.now values.old }
     ensures output { values.new
-        ≡ valuesAfter offset.0 basis.now coefficients.now values.old }
+        ≡ values_after offset.0 basis.now coefficients.now values.old }
 {
     let size = size_of(basis.len());
     let outcome = checked(basis, coefficients.len() <= size, values.len() == size);
@@ -40,9 +40,9 @@ pub fn interpolate(
     word: &[u64],
     coefficients: &mut [u64],
 ) -> Outcome
-    ensures answer { result ≡ interpolateOutcome basis.now word.now coefficients.old }
+    ensures answer { result ≡ interpolate_outcome basis.now word.now coefficients.old }
     ensures output { coefficients.new
-        ≡ coefficientsAfter offset.0 basis.now word.now coefficients.old }
+        ≡ coefficients_after offset.0 basis.now word.now coefficients.old }
 {
     let size = size_of(basis.len());
     let outcome = checked(basis, word.len() == size, coefficients.len() == size);

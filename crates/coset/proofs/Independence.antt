@@ -9,19 +9,19 @@ use Rattle.refusal.specs.declared.Position.TheVariants.{At, Absent}
 use Rattle.refusal.specs.Numbers.{number_of_outcome}
 use Rattle.refusal.proofs.Checks.{refused_not_done}
 use Rattle.coset.specs.Span.{first_dependent, Independent}
-use Rattle.coset.specs.Answers.{outcomeOfBasis, basisOutcome}
+use Rattle.coset.specs.Answers.{outcome_of_basis, basis_outcome}
 
-pub independent_of : (basis : List ℕ) → basisOutcome basis ≡ Done → Independent basis
+pub independent_of : (basis : List ℕ) → basis_outcome basis ≡ Done → Independent basis
 independent_of basis e = by (first_dependent basis) e
   where
-    by : (p : Position) → outcomeOfBasis p ≡ Done → p ≡ Absent
+    by : (p : Position) → outcome_of_basis p ≡ Done → p ≡ Absent
     by (At place) f = absurd (refused_not_done (BasisDependent place) f)
     by Absent f = refl
 
 -- what holds of 0 and of 8 holds of its number
-pub basis_number : (P : ℕ → Type 0) → P 0 → P 8 → (basis : List ℕ) → P (number_of_outcome (basisOutcome basis))
+pub basis_number : (P : ℕ → Type 0) → P 0 → P 8 → (basis : List ℕ) → P (number_of_outcome (basis_outcome basis))
 basis_number P p0 p8 basis = by (first_dependent basis)
   where
-    by : (p : Position) → P (number_of_outcome (outcomeOfBasis p))
+    by : (p : Position) → P (number_of_outcome (outcome_of_basis p))
     by (At place) = p8
     by Absent = p0

@@ -8,10 +8,10 @@ use Rattle.refusal.specs.declared.Position.TheVariants.{At, Absent}
 use Rattle.coset.specs.Span.{first_dependent}
 
 -- a dependent basis is refused (8) at its first dependent place
-abbrev pub outcomeOfBasis : (dependent : Position) → Outcome
-outcomeOfBasis (At place) = Refused (BasisDependent place)
-outcomeOfBasis Absent = Done
+abbrev pub outcome_of_basis : (dependent : Position) → Outcome
+outcome_of_basis (At place) = Refused (BasisDependent place)
+outcome_of_basis Absent = Done
 
 -- the check of a basis: no element may lie in the span of earlier ones (8)
-abbrev pub basisOutcome : (basis : List ℕ) → Outcome
-basisOutcome basis = outcomeOfBasis (first_dependent basis)
+abbrev pub basis_outcome : (basis : List ℕ) → Outcome
+basis_outcome basis = outcome_of_basis (first_dependent basis)

@@ -32,7 +32,7 @@ use Rattle.reed_solomon.proofs.Theorems.{round_trips, encoding}
 use Rattle.reed_solomon.proofs.Cases.{code_cases}
 use Rattle.fold.specs.declared.Folded.TheVariants.{NextOffset}
 use Rattle.fold.specs.Fold.{folded}
-use Rattle.fold.specs.Answers.{foldOutcome, foldAnswer, nextBasisAfter}
+use Rattle.fold.specs.Answers.{fold_outcome, fold_answer, next_basis_after}
 use Rattle.fold.proofs.Outcomes.{accepted}
 use Rattle.fold.specs.Halving.{line_at, halved_entries}
 use Rattle.fold.specs.Exceptional.{Exceptional}
@@ -260,13 +260,13 @@ k_coefficient =
 
 -- ---- case D as a call
 
-d_done : foldOutcome 2 1 (1 ∷ 2 ∷ []) (0 ∷ 0 ∷ 0 ∷ 0 ∷ []) (0 ∷ 0 ∷ []) (0 ∷ []) ≡ Done
+d_done : fold_outcome 2 1 (1 ∷ 2 ∷ []) (0 ∷ 0 ∷ 0 ∷ 0 ∷ []) (0 ∷ 0 ∷ []) (0 ∷ []) ≡ Done
 d_done =
     (accepted.done 2 1 (1 ∷ 2 ∷ []) (0 ∷ 0 ∷ 0 ∷ 0 ∷ []) (0 ∷ 0 ∷ []) (0 ∷ [])).1
     ((omega arith, omega arith, omega arith, omega arith), omega arith, (refl, refl, refl, refl), independent)
 
-d_call : (foldAnswer 2 1 0x8 (1 ∷ 2 ∷ []) (0 ∷ 0 ∷ 0 ∷ 0 ∷ []) (0 ∷ 0 ∷ []) (0 ∷ []) ≡ NextOffset (record { 0 = 0x48 }))
-    × (nextBasisAfter 2 1 (1 ∷ 2 ∷ []) (0 ∷ 0 ∷ 0 ∷ 0 ∷ []) (0 ∷ 0 ∷ []) (0 ∷ []) ≡ 6 ∷ [])
+d_call : (fold_answer 2 1 0x8 (1 ∷ 2 ∷ []) (0 ∷ 0 ∷ 0 ∷ 0 ∷ []) (0 ∷ 0 ∷ []) (0 ∷ []) ≡ NextOffset (record { 0 = 0x48 }))
+    × (next_basis_after 2 1 (1 ∷ 2 ∷ []) (0 ∷ 0 ∷ 0 ∷ 0 ∷ []) (0 ∷ 0 ∷ []) (0 ∷ []) ≡ 6 ∷ [])
 d_call =
     let a = accepted.answer 2 1 0x8 (1 ∷ 2 ∷ []) (0 ∷ 0 ∷ 0 ∷ 0 ∷ []) 4 (0 ∷ 0 ∷ []) (0 ∷ []) d_done in
     (a.0 ∙ ap (λ (o : ℕ). NextOffset (record { 0 = o })) d_offset, a.4 ∙ d_basis)

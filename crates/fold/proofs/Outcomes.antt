@@ -18,12 +18,12 @@ use Rattle.refusal.specs.Checks.{and_then, afterwards}
 use Rattle.refusal.specs.Numbers.{number_of, place_of, round_of, number_of_outcome}
 use Rattle.refusal.proofs.Checks.{within, outside, number_unless, number_then, then_passed, then_refused}
 use Rattle.coset.specs.Span.{Independent}
-use Rattle.coset.specs.Answers.{outcomeOfBasis, basisOutcome}
+use Rattle.coset.specs.Answers.{outcome_of_basis, basis_outcome}
 use Rattle.coset.specs.Subspace.{next_offset, next_basis}
 use Rattle.coset.proofs.Independence.{basis_number}
-use Rattle.fold.specs.Answers.{foldRangesOutcome, foldLengthsOutcome}
-use Rattle.fold.specs.Answers.{foldOutcome, foldedOf, foldAnswer, foldValuesAfter, nextBasisAfter}
-use Rattle.fold.specs.Answers.{numberOfFolded, placeOfFolded, roundOfFolded, valueOfFolded}
+use Rattle.fold.specs.Answers.{fold_ranges_outcome, fold_lengths_outcome}
+use Rattle.fold.specs.Answers.{fold_outcome, folded_of, fold_answer, fold_values_after, next_basis_after}
+use Rattle.fold.specs.Answers.{number_of_folded, place_of_folded, round_of_folded, value_of_folded}
 use Rattle.fold.specs.declared.Folded.{Folded}
 use Rattle.fold.specs.declared.Folded.TheVariants.{NextOffset}
 use Rattle.fold.specs.Fold.{folded}
@@ -38,34 +38,34 @@ in_range_step k step r = within 1 3 step r.2 r.3
 
 module _ (k step : ℕ) (basis word values next : List ℕ) where
   abbrev outcome : Outcome
-  outcome = foldOutcome k step basis word values next
+  outcome = fold_outcome k step basis word values next
 
   abbrev lengths : Outcome
-  lengths = foldLengthsOutcome k step (length basis) (length word) (length values) (length next)
+  lengths = fold_lengths_outcome k step (length basis) (length word) (length values) (length next)
 
-  ranges_refuse : (cause : Cause) → Refused cause ≡ foldRangesOutcome k step → Refused cause ≡ outcome
-  ranges_refuse cause e = then_refused (foldRangesOutcome k step) (and_then lengths (basisOutcome basis)) cause (sym e)
+  ranges_refuse : (cause : Cause) → Refused cause ≡ fold_ranges_outcome k step → Refused cause ≡ outcome
+  ranges_refuse cause e = then_refused (fold_ranges_outcome k step) (and_then lengths (basis_outcome basis)) cause (sym e)
 
   module _ (r : InRange k step) (fits : step ≤ k) where
-    ranges_passed : foldRangesOutcome k step ≡ Done
+    ranges_passed : fold_ranges_outcome k step ≡ Done
     ranges_passed = sym (checks.ranges_pass k step (in_range_k k step r) (in_range_step k step r) (le-leb step k fits))
 
     lengths_refuse : (cause : Cause) → Refused cause ≡ lengths → Refused cause ≡ outcome
     lengths_refuse cause e =
-        then_refused lengths (basisOutcome basis) cause (sym e)
-        ∙ then_passed (foldRangesOutcome k step) (and_then lengths (basisOutcome basis)) ranges_passed
+        then_refused lengths (basis_outcome basis) cause (sym e)
+        ∙ then_passed (fold_ranges_outcome k step) (and_then lengths (basis_outcome basis)) ranges_passed
 
-    basis_decides : FoldFits k step basis word values next → basisOutcome basis ≡ outcome
+    basis_decides : FoldFits k step basis word values next → basis_outcome basis ≡ outcome
     basis_decides f =
-        then_passed lengths (basisOutcome basis)
+        then_passed lengths (basis_outcome basis)
         (sym
         (checks.lengths_pass k step (length basis) (length word) (length values) (length next)
         (eq-eqb (length basis) k f.0) (eq-eqb (length word) (2 ^ k) f.1)
         (eq-eqb (length values) (2 ^ (k - step)) f.2) (eq-eqb (length next) (k - step) f.3)))
-        ∙ then_passed (foldRangesOutcome k step) (and_then lengths (basisOutcome basis)) ranges_passed
+        ∙ then_passed (fold_ranges_outcome k step) (and_then lengths (basis_outcome basis)) ranges_passed
 
 accepts : (k step : ℕ) (basis word values next : List ℕ)
-    → (foldOutcome k step basis word values next ≡ Done)
+    → (fold_outcome k step basis word values next ≡ Done)
     ↔ (InRange k step × (step ≤ k) × FoldFits k step basis word values next × Independent basis)
 accepts k step basis word values next = (
   λ e.
@@ -77,52 +77,52 @@ accepts k step basis word values next = (
         (l.list1_fits, l.list3_fits, l.list6_fits, l.list7_fits),
         p.independent,
       ),
-  λ a. sym (basis_decides k step basis word values next a.0 a.1 a.2) ∙ ap outcomeOfBasis a.3,
+  λ a. sym (basis_decides k step basis word values next a.0 a.1 a.2) ∙ ap outcome_of_basis a.3,
 )
 
 -- a refusal carries its cause's number and place, no round and no value, and leaves both lists
 refuses : (k step : ℕ) (basis word values next : List ℕ) (cause : Cause) → round_of cause ≡ Absent
-    → Refused cause ≡ foldOutcome k step basis word values next
+    → Refused cause ≡ fold_outcome k step basis word values next
     → Refuses k step basis word values next (number_of cause) (place_of cause)
 refuses k step basis word values next cause n e offset x =
     subst
     (λ (o : Outcome).
-    FoldTells (foldedOf o (next_offset step offset basis)) (number_of cause) (place_of cause) Absent
-    × ((none : ℕ) → valueOfFolded (foldedOf o (next_offset step offset basis)) none ≡ none)
+    FoldTells (folded_of o (next_offset step offset basis)) (number_of cause) (place_of cause) Absent
+    × ((none : ℕ) → value_of_folded (folded_of o (next_offset step offset basis)) none ≡ none)
     × (afterwards o (folded step offset basis word x) values ≡ values)
     × (afterwards o (next_basis step basis) next ≡ next))
     e ((refl, refl, n), (λ none. refl), refl, refl)
 
 answers_done : (k step offset : ℕ) (basis word : List ℕ) (x : ℕ) (values next : List ℕ)
-    → foldOutcome k step basis word values next ≡ Done
-    → (foldAnswer k step offset basis word values next ≡ NextOffset (record { 0 = next_offset step offset basis }))
-    × FoldTells (foldAnswer k step offset basis word values next) 0 Absent Absent
-    × ((none : ℕ) → valueOfFolded (foldAnswer k step offset basis word values next) none ≡ next_offset step offset basis)
-    × (foldValuesAfter k step offset basis word x values next ≡ folded step offset basis word x)
-    × (nextBasisAfter k step basis word values next ≡ next_basis step basis)
+    → fold_outcome k step basis word values next ≡ Done
+    → (fold_answer k step offset basis word values next ≡ NextOffset (record { 0 = next_offset step offset basis }))
+    × FoldTells (fold_answer k step offset basis word values next) 0 Absent Absent
+    × ((none : ℕ) → value_of_folded (fold_answer k step offset basis word values next) none ≡ next_offset step offset basis)
+    × (fold_values_after k step offset basis word x values next ≡ folded step offset basis word x)
+    × (next_basis_after k step basis word values next ≡ next_basis step basis)
 answers_done k step offset basis word x values next e = (
   is_offset,
-  (ap numberOfFolded is_offset, ap placeOfFolded is_offset, ap roundOfFolded is_offset),
-  λ none. ap (λ (a : Folded). valueOfFolded a none) is_offset,
+  (ap number_of_folded is_offset, ap place_of_folded is_offset, ap round_of_folded is_offset),
+  λ none. ap (λ (a : Folded). value_of_folded a none) is_offset,
   ap (λ (o : Outcome). afterwards o (folded step offset basis word x) values) e,
   ap (λ (o : Outcome). afterwards o (next_basis step basis) next) e,
 )
   where
-    is_offset : foldAnswer k step offset basis word values next
+    is_offset : fold_answer k step offset basis word values next
         ≡ NextOffset (record { 0 = next_offset step offset basis })
-    is_offset = ap (λ (o : Outcome). foldedOf o (next_offset step offset basis)) e
+    is_offset = ap (λ (o : Outcome). folded_of o (next_offset step offset basis)) e
 
 -- ---- which numbers there are
 
 module _ (P : ℕ → Type 0) (p0 : P 0) (p4 : P 4) (p6 : P 6) (p7 : P 7) (p8 : P 8) (p13 : P 13) where
-  ranges_number : (k step : ℕ) → P (number_of_outcome (foldRangesOutcome k step))
+  ranges_number : (k step : ℕ) → P (number_of_outcome (fold_ranges_outcome k step))
   ranges_number k step =
       number_unless P (leb 2 k && leb k 20) DimensionOutOfRange (checks.step_checked k step) p4
       (number_unless P (leb 1 step && leb step 3) StepOutOfRange (checks.small_enough k step) p6
       (number_unless P (leb step k) DimensionTooSmall Done p7 p0))
 
   lengths_number : (k step length1 length3 length6 length7 : ℕ)
-      → P (number_of_outcome (foldLengthsOutcome k step length1 length3 length6 length7))
+      → P (number_of_outcome (fold_lengths_outcome k step length1 length3 length6 length7))
   lengths_number k step length1 length3 length6 length7 =
       number_unless P (eqb length1 k) (WrongLength 1) (checks.after1 k step length1 length3 length6 length7) p13
       (number_unless P (eqb length3 (2 ^ k)) (WrongLength 3) (checks.after3 k step length1 length3 length6 length7) p13
@@ -131,23 +131,23 @@ module _ (P : ℕ → Type 0) (p0 : P 0) (p4 : P 4) (p6 : P 6) (p7 : P 7) (p8 : 
       (number_unless P (eqb length7 (k - step)) (WrongLength 7) Done p13 p0)))
 
   outcome_number : (k step : ℕ) (basis word values next : List ℕ)
-      → P (number_of_outcome (foldOutcome k step basis word values next))
+      → P (number_of_outcome (fold_outcome k step basis word values next))
   outcome_number k step basis word values next =
-      let lengths = foldLengthsOutcome k step (length basis) (length word) (length values) (length next) in
-      number_then P (foldRangesOutcome k step) (and_then lengths (basisOutcome basis)) (ranges_number k step)
-      (number_then P lengths (basisOutcome basis)
+      let lengths = fold_lengths_outcome k step (length basis) (length word) (length values) (length next) in
+      number_then P (fold_ranges_outcome k step) (and_then lengths (basis_outcome basis)) (ranges_number k step)
+      (number_then P lengths (basis_outcome basis)
       (lengths_number k step (length basis) (length word) (length values) (length next))
       (basis_number P p0 p8 basis))
 
-same_number : (outcome : Outcome) (offset : ℕ) → numberOfFolded (foldedOf outcome offset) ≡ number_of_outcome outcome
+same_number : (outcome : Outcome) (offset : ℕ) → number_of_folded (folded_of outcome offset) ≡ number_of_outcome outcome
 same_number Done offset = refl
 same_number (Refused cause) offset = refl
 
 numbers : (k step offset : ℕ) (basis word values next : List ℕ)
-    → FoldNumber (numberOfFolded (foldAnswer k step offset basis word values next))
+    → FoldNumber (number_of_folded (fold_answer k step offset basis word values next))
 numbers k step offset basis word values next =
     subst FoldNumber
-    (sym (same_number (foldOutcome k step basis word values next) (next_offset step offset basis)))
+    (sym (same_number (fold_outcome k step basis word values next) (next_offset step offset basis)))
     (outcome_number FoldNumber (inl refl) (inr (inl refl)) (inr (inr (inl (omega arith, omega arith))))
     (inr (inr (inl (omega arith, omega arith)))) (inr (inr (inl (omega arith, omega arith)))) (inr (inr (inr refl)))
     k step basis word values next)
@@ -193,6 +193,6 @@ refusals =
           (eq-eqb (length values) (2 ^ (k - step)) v) (ne_eqb (length next) (k - step) n)));
       dependent = λ k step basis word values next place r s f e.
           refuses k step basis word values next (BasisDependent place) refl
-          (ap outcomeOfBasis (sym e) ∙ basis_decides k step basis word values next r s f);
+          (ap outcome_of_basis (sym e) ∙ basis_decides k step basis word values next r s f);
       numbers = numbers;
     }

@@ -9,23 +9,23 @@ use Rattle.refusal.specs.declared.Position.{Position}
 use Rattle.refusal.specs.declared.Position.TheVariants.{Absent}
 use Rattle.refusal.specs.Checks.{refused_unless, and_then, afterwards}
 use Rattle.refusal.specs.Numbers.{number_of, place_of, round_of}
-use Rattle.coset.specs.Answers.{basisOutcome}
+use Rattle.coset.specs.Answers.{basis_outcome}
 use Rattle.coset.specs.Subspace.{next_offset, next_basis}
 use Rattle.fold.specs.declared.Folded.{Folded}
 use Rattle.fold.specs.declared.Folded.TheVariants as answers
 use Rattle.fold.specs.Fold.{folded}
 
 -- the ranges: k 2..20 (number 4), the step 1..3 (6), k at least the step (7)
-abbrev pub foldRangesOutcome : (k step : ℕ) → Outcome
-foldRangesOutcome k step =
+abbrev pub fold_ranges_outcome : (k step : ℕ) → Outcome
+fold_ranges_outcome k step =
     refused_unless (leb 2 k && leb k 20) DimensionOutOfRange
     (refused_unless (leb 1 step && leb step 3) StepOutOfRange
     (refused_unless (leb step k) DimensionTooSmall
     Done))
 
 -- the lengths of the lists: the lowest list whose length is not the one due (13)
-abbrev pub foldLengthsOutcome : (k step length1 length3 length6 length7 : ℕ) → Outcome
-foldLengthsOutcome k step length1 length3 length6 length7 =
+abbrev pub fold_lengths_outcome : (k step length1 length3 length6 length7 : ℕ) → Outcome
+fold_lengths_outcome k step length1 length3 length6 length7 =
     refused_unless (eqb length1 k) (WrongLength 1)
     (refused_unless (eqb length3 (2 ^ k)) (WrongLength 3)
     (refused_unless (eqb length6 (2 ^ (k - step))) (WrongLength 6)
@@ -33,48 +33,48 @@ foldLengthsOutcome k step length1 length3 length6 length7 =
     Done)))
 
 -- all checks, in the order of document 01: 4, 6, 7, 13, 8
-abbrev pub foldOutcome : (k step : ℕ) (basis word values next : List ℕ) → Outcome
-foldOutcome k step basis word values next =
-    and_then (foldRangesOutcome k step)
-    (and_then (foldLengthsOutcome k step (length basis) (length word) (length values) (length next))
-    (basisOutcome basis))
+abbrev pub fold_outcome : (k step : ℕ) (basis word values next : List ℕ) → Outcome
+fold_outcome k step basis word values next =
+    and_then (fold_ranges_outcome k step)
+    (and_then (fold_lengths_outcome k step (length basis) (length word) (length values) (length next))
+    (basis_outcome basis))
 
 -- the next offset, or the refusal
-abbrev pub foldedOf : (outcome : Outcome) (offset : ℕ) → Folded
-foldedOf Done offset = answers.NextOffset (record { 0 = offset })
-foldedOf (Refused cause) offset = answers.Refused cause
+abbrev pub folded_of : (outcome : Outcome) (offset : ℕ) → Folded
+folded_of Done offset = answers.NextOffset (record { 0 = offset })
+folded_of (Refused cause) offset = answers.Refused cause
 
 -- the answer of a call
-abbrev pub foldAnswer : (k step offset : ℕ) (basis word values next : List ℕ) → Folded
-foldAnswer k step offset basis word values next =
-    foldedOf (foldOutcome k step basis word values next) (next_offset step offset basis)
+abbrev pub fold_answer : (k step offset : ℕ) (basis word values next : List ℕ) → Folded
+fold_answer k step offset basis word values next =
+    folded_of (fold_outcome k step basis word values next) (next_offset step offset basis)
 
 -- what list 6, the values, holds afterwards
-abbrev pub foldValuesAfter : (k step offset : ℕ) (basis word : List ℕ) (challenge : ℕ) (values next : List ℕ) → List ℕ
-foldValuesAfter k step offset basis word challenge values next =
-    afterwards (foldOutcome k step basis word values next) (folded step offset basis word challenge) values
+abbrev pub fold_values_after : (k step offset : ℕ) (basis word : List ℕ) (challenge : ℕ) (values next : List ℕ) → List ℕ
+fold_values_after k step offset basis word challenge values next =
+    afterwards (fold_outcome k step basis word values next) (folded step offset basis word challenge) values
 
 -- what list 7, the next basis, holds afterwards
-abbrev pub nextBasisAfter : (k step : ℕ) (basis word values next : List ℕ) → List ℕ
-nextBasisAfter k step basis word values next =
-    afterwards (foldOutcome k step basis word values next) (next_basis step basis) next
+abbrev pub next_basis_after : (k step : ℕ) (basis word values next : List ℕ) → List ℕ
+next_basis_after k step basis word values next =
+    afterwards (fold_outcome k step basis word values next) (next_basis step basis) next
 
 -- the number of an answer: 0 where there is a next offset, else that of the cause
-abbrev pub numberOfFolded : (answer : Folded) → ℕ
-numberOfFolded (answers.NextOffset offset) = 0
-numberOfFolded (answers.Refused cause) = number_of cause
+abbrev pub number_of_folded : (answer : Folded) → ℕ
+number_of_folded (answers.NextOffset offset) = 0
+number_of_folded (answers.Refused cause) = number_of cause
 
 -- the place of an answer: that of the cause
-abbrev pub placeOfFolded : (answer : Folded) → Position
-placeOfFolded (answers.NextOffset offset) = Absent
-placeOfFolded (answers.Refused cause) = place_of cause
+abbrev pub place_of_folded : (answer : Folded) → Position
+place_of_folded (answers.NextOffset offset) = Absent
+place_of_folded (answers.Refused cause) = place_of cause
 
 -- the round of an answer: that of the cause
-abbrev pub roundOfFolded : (answer : Folded) → Position
-roundOfFolded (answers.NextOffset offset) = Absent
-roundOfFolded (answers.Refused cause) = round_of cause
+abbrev pub round_of_folded : (answer : Folded) → Position
+round_of_folded (answers.NextOffset offset) = Absent
+round_of_folded (answers.Refused cause) = round_of cause
 
 -- the value of an answer: the next offset, or `none` where there is none
-abbrev pub valueOfFolded : (answer : Folded) (none : ℕ) → ℕ
-valueOfFolded (answers.NextOffset offset) none = offset.0
-valueOfFolded (answers.Refused cause) none = none
+abbrev pub value_of_folded : (answer : Folded) (none : ℕ) → ℕ
+value_of_folded (answers.NextOffset offset) none = offset.0
+value_of_folded (answers.Refused cause) none = none

@@ -18,8 +18,8 @@ use Rattle.fold.specs.Fold.{coset_points, coset_entries, fold_entry, folded}
 use Rattle.fold.specs.Halving.{value_at}
 use Rattle.fold.specs.Rows.{high_rows, rows_at}
 use Rattle.fold.specs.Exceptional.{FoldDegreeBelow, Exceptional}
-use Rattle.fold.specs.Answers.{foldOutcome, foldAnswer, foldValuesAfter, nextBasisAfter}
-use Rattle.fold.specs.Answers.{numberOfFolded, placeOfFolded, roundOfFolded, valueOfFolded}
+use Rattle.fold.specs.Answers.{fold_outcome, fold_answer, fold_values_after, next_basis_after}
+use Rattle.fold.specs.Answers.{number_of_folded, place_of_folded, round_of_folded, value_of_folded}
 
 -- a word of elements over a coset with an independent basis, whatever its entries
 pub record IsWord (offset : ℕ) (basis word : List ℕ) : Type 0 where
@@ -86,8 +86,8 @@ pub record Halvings : Type 0 where
 
 -- cases D, F, J and K of Table A, as far as they speak of one fold at a time
 pub record FoldCases : Type 0 where
-  pub d : foldAnswer 2 1 0x8 (1 ∷ 2 ∷ []) (0 ∷ 0 ∷ 0 ∷ 0 ∷ []) (0 ∷ 0 ∷ []) (0 ∷ []) ≡ NextOffset (record { 0 = 0x48 })
-  pub d_basis : nextBasisAfter 2 1 (1 ∷ 2 ∷ []) (0 ∷ 0 ∷ 0 ∷ 0 ∷ []) (0 ∷ 0 ∷ []) (0 ∷ []) ≡ 6 ∷ []
+  pub d : fold_answer 2 1 0x8 (1 ∷ 2 ∷ []) (0 ∷ 0 ∷ 0 ∷ 0 ∷ []) (0 ∷ 0 ∷ []) (0 ∷ []) ≡ NextOffset (record { 0 = 0x48 })
+  pub d_basis : next_basis_after 2 1 (1 ∷ 2 ∷ []) (0 ∷ 0 ∷ 0 ∷ 0 ∷ []) (0 ∷ 0 ∷ []) (0 ∷ []) ≡ 6 ∷ []
   -- the word of case F over the coset of case D
   pub d_values : folded 1 0x8 (1 ∷ 2 ∷ []) (7 ∷ 4 ∷ 1 ∷ 2 ∷ []) 4 ≡ 0x13 ∷ 0x13 ∷ []
   pub f : folded 1 0 (1 ∷ 2 ∷ []) (7 ∷ 4 ∷ 1 ∷ 2 ∷ []) 4 ≡ 0xb ∷ 0xb ∷ []
@@ -121,30 +121,30 @@ FoldFits k step basis word values next =
 -- an answer's number, place and round
 abbrev pub FoldTells : (answer : Folded) (number : ℕ) (place round : Position) → Type 0
 FoldTells answer number place round =
-    (numberOfFolded answer ≡ number) × (placeOfFolded answer ≡ place) × (roundOfFolded answer ≡ round)
+    (number_of_folded answer ≡ number) × (place_of_folded answer ≡ place) × (round_of_folded answer ≡ round)
 
 -- which calls are done, and what they answer and leave
 pub record FoldAccepted : Type 0 where
   pub done : (k step : ℕ) (basis word values next : List ℕ)
-      → (foldOutcome k step basis word values next ≡ Done)
+      → (fold_outcome k step basis word values next ≡ Done)
       ↔ (InRange k step × (step ≤ k) × FoldFits k step basis word values next × Independent basis)
   pub answer : (k step offset : ℕ) (basis word : List ℕ) (x : ℕ) (values next : List ℕ)
-      → foldOutcome k step basis word values next ≡ Done
-      → (foldAnswer k step offset basis word values next ≡ NextOffset (record { 0 = next_offset step offset basis }))
-      × FoldTells (foldAnswer k step offset basis word values next) 0 Absent Absent
+      → fold_outcome k step basis word values next ≡ Done
+      → (fold_answer k step offset basis word values next ≡ NextOffset (record { 0 = next_offset step offset basis }))
+      × FoldTells (fold_answer k step offset basis word values next) 0 Absent Absent
       × ((none : ℕ)
-      → valueOfFolded (foldAnswer k step offset basis word values next) none ≡ next_offset step offset basis)
-      × (foldValuesAfter k step offset basis word x values next ≡ folded step offset basis word x)
-      × (nextBasisAfter k step basis word values next ≡ next_basis step basis)
+      → value_of_folded (fold_answer k step offset basis word values next) none ≡ next_offset step offset basis)
+      × (fold_values_after k step offset basis word x values next ≡ folded step offset basis word x)
+      × (next_basis_after k step basis word values next ≡ next_basis step basis)
 
 -- a call is refused with this number and place, no round and no value, and both lent lists are left as they were
 abbrev pub Refuses : (k step : ℕ) (basis word values next : List ℕ) (number : ℕ) (place : Position) → Type 0
 Refuses k step basis word values next number place =
     (offset x : ℕ)
-    → FoldTells (foldAnswer k step offset basis word values next) number place Absent
-    × ((none : ℕ) → valueOfFolded (foldAnswer k step offset basis word values next) none ≡ none)
-    × (foldValuesAfter k step offset basis word x values next ≡ values)
-    × (nextBasisAfter k step basis word values next ≡ next)
+    → FoldTells (fold_answer k step offset basis word values next) number place Absent
+    × ((none : ℕ) → value_of_folded (fold_answer k step offset basis word values next) none ≡ none)
+    × (fold_values_after k step offset basis word x values next ≡ values)
+    × (next_basis_after k step basis word values next ≡ next)
 
 -- the numbers of a lone fold: 0, 4, 6, 7, 8 and 13
 abbrev pub FoldNumber : (n : ℕ) → Type 0
@@ -172,4 +172,4 @@ pub record FoldRefusals : Type 0 where
       → first_dependent basis ≡ At place → Refuses k step basis word values next 8 (At place)
   -- no number is given otherwise
   pub numbers : (k step offset : ℕ) (basis word values next : List ℕ)
-      → FoldNumber (numberOfFolded (foldAnswer k step offset basis word values next))
+      → FoldNumber (number_of_folded (fold_answer k step offset basis word values next))

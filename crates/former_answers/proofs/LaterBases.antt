@@ -15,11 +15,11 @@ use Rattle.gf64.specs.Field.{IsElement}
 use Rattle.poly.specs.Polynomial.{All}
 use Rattle.coset.specs.Span.{first_dependent}
 use Rattle.coset.specs.Subspace.{next_offset, next_basis}
-use Rattle.coset.specs.Answers.{outcomeOfBasis, basisOutcome}
+use Rattle.coset.specs.Answers.{outcome_of_basis, basis_outcome}
 use Rattle.coset.proofs.Independence.{independent_of}
 use Rattle.coset.proofs.Subspace.{next_independent}
 use Rattle.fold.specs.Fold.{folded}
-use Rattle.fold.specs.Answers.{foldRangesOutcome, foldLengthsOutcome, foldOutcome, foldedOf}
+use Rattle.fold.specs.Answers.{fold_ranges_outcome, fold_lengths_outcome, fold_outcome, folded_of}
 use Rattle.fri.specs.Run.{Run, steps_in, step_in}
 use Rattle.fri.specs.Layers.{layer_basis, honest_store, honest_last}
 use Rattle.fri.specs.Checks.{parameters_outcome, lengths_outcome, run_outcome, queries_outcome}
@@ -37,15 +37,15 @@ use Rattle.former_answers.specs.LaterBases.{former_fold_outcome, former_run_outc
 use Rattle.former_answers.specs.LaterBases.{former_transcript_outcome, verdict_after, RemovedCheck, AnswersAsBefore}
 
 -- a check that is done where the basis has passed changes nothing behind the check of the basis
-same : (basis : List ℕ) (later : Outcome) → (basisOutcome basis ≡ Done → later ≡ Done)
-    → basisOutcome basis ≡ and_then (basisOutcome basis) later
+same : (basis : List ℕ) (later : Outcome) → (basis_outcome basis ≡ Done → later ≡ Done)
+    → basis_outcome basis ≡ and_then (basis_outcome basis) later
 same basis later done = by (first_dependent basis) refl
   where
-    by : (p : Position) → first_dependent basis ≡ p → outcomeOfBasis p ≡ and_then (outcomeOfBasis p) later
+    by : (p : Position) → first_dependent basis ≡ p → outcome_of_basis p ≡ and_then (outcome_of_basis p) later
     by (At place) e = refl
-    by Absent e = sym (done (ap outcomeOfBasis e))
+    by Absent e = sym (done (ap outcome_of_basis e))
 
-next_done : (cause : Cause) (step : ℕ) (basis : List ℕ) → All IsElement basis → basisOutcome basis ≡ Done
+next_done : (cause : Cause) (step : ℕ) (basis : List ℕ) → All IsElement basis → basis_outcome basis ≡ Done
     → outcome_of_later_basis cause (first_dependent (next_basis step basis)) ≡ Done
 next_done cause step basis h passed =
     ap (outcome_of_later_basis cause) (next_independent step basis h (independent_of basis passed))
@@ -63,7 +63,7 @@ module _ (cause : (round : ℕ) → Cause) where
       sym (then_refused (later steps basis round) (later_bases_outcome cause steps basis (suc round) left) (cause round)
       (ap (outcome_of_later_basis (cause round)) e))
 
-  later_done : (steps basis : List ℕ) (round left : ℕ) → All IsElement basis → basisOutcome basis ≡ Done
+  later_done : (steps basis : List ℕ) (round left : ℕ) → All IsElement basis → basis_outcome basis ≡ Done
       → later_bases_outcome cause steps basis round left ≡ Done
   unfolding later_bases_outcome
   later_done steps basis round zero h passed = refl
@@ -73,15 +73,15 @@ module _ (cause : (round : ℕ) → Cause) where
       (later_independent steps basis h (independent_of basis passed) (suc round))))
       ∙ later_done steps basis (suc round) left h passed
 
-  bases_same : (steps basis : List ℕ) → All IsElement basis → basisOutcome basis ≡ former_bases_outcome cause steps basis
+  bases_same : (steps basis : List ℕ) → All IsElement basis → basis_outcome basis ≡ former_bases_outcome cause steps basis
   bases_same steps basis h =
       same basis (later_bases_outcome cause steps basis 0 (length steps)) (later_done steps basis 0 (length steps) h)
 
   fold_same : (k step : ℕ) (basis word values next : List ℕ) → All IsElement basis
-      → foldOutcome k step basis word values next ≡ former_fold_outcome cause k step basis word values next
+      → fold_outcome k step basis word values next ≡ former_fold_outcome cause k step basis word values next
   fold_same k step basis word values next h =
-      let lengths = foldLengthsOutcome k step (length basis) (length word) (length values) (length next) in
-      ap (λ (o : Outcome). and_then (foldRangesOutcome k step) (and_then lengths o))
+      let lengths = fold_lengths_outcome k step (length basis) (length word) (length values) (length next) in
+      ap (λ (o : Outcome). and_then (fold_ranges_outcome k step) (and_then lengths o))
       (same basis (outcome_of_later_basis (cause 0) (first_dependent (next_basis step basis)))
       (next_done (cause 0) step basis h))
 
@@ -120,7 +120,7 @@ answers_as_before =
     record {
       fold = λ cause k step offset basis word x values next h.
           let e = fold_same cause k step basis word values next h in (
-            ap (λ (o : Outcome). foldedOf o (next_offset step offset basis)) e,
+            ap (λ (o : Outcome). folded_of o (next_offset step offset basis)) e,
             ap (λ (o : Outcome). afterwards o (folded step offset basis word x) values) e,
             ap (λ (o : Outcome). afterwards o (next_basis step basis) next) e,
           );

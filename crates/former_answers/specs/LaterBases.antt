@@ -11,10 +11,10 @@ use Rattle.gf64.specs.Field.{IsElement}
 use Rattle.poly.specs.Polynomial.{All}
 use Rattle.coset.specs.Span.{first_dependent}
 use Rattle.coset.specs.Subspace.{next_offset, next_basis}
-use Rattle.coset.specs.Answers.{basisOutcome}
+use Rattle.coset.specs.Answers.{basis_outcome}
 use Rattle.fold.specs.Fold.{folded}
-use Rattle.fold.specs.Answers.{foldRangesOutcome, foldLengthsOutcome, foldedOf}
-use Rattle.fold.specs.Answers.{foldAnswer, foldValuesAfter, nextBasisAfter}
+use Rattle.fold.specs.Answers.{fold_ranges_outcome, fold_lengths_outcome, folded_of}
+use Rattle.fold.specs.Answers.{fold_answer, fold_values_after, next_basis_after}
 use Rattle.fri.specs.declared.Verdict.{Verdict}
 use Rattle.fri.specs.Run.{Run, steps_in, step_in}
 use Rattle.fri.specs.Layers.{layer_basis, honest_store, honest_last}
@@ -46,14 +46,14 @@ later_bases_outcome cause steps basis round (suc left) =
 -- where the basis is checked now (8), the basis and those of layers 1 to r were
 abbrev pub former_bases_outcome : (cause : (round : ℕ) → Cause) (steps basis : List ℕ) → Outcome
 former_bases_outcome cause steps basis =
-    and_then (basisOutcome basis) (later_bases_outcome cause steps basis 0 (length steps))
+    and_then (basis_outcome basis) (later_bases_outcome cause steps basis 0 (length steps))
 
 -- in a lone fold, which is round 0 by itself, the basis and the next one
 abbrev pub former_fold_outcome : (cause : (round : ℕ) → Cause) (k step : ℕ) (basis word values next : List ℕ) → Outcome
 former_fold_outcome cause k step basis word values next =
-    and_then (foldRangesOutcome k step)
-    (and_then (foldLengthsOutcome k step (length basis) (length word) (length values) (length next))
-    (and_then (basisOutcome basis) (outcome_of_later_basis (cause 0) (first_dependent (next_basis step basis)))))
+    and_then (fold_ranges_outcome k step)
+    (and_then (fold_lengths_outcome k step (length basis) (length word) (length values) (length next))
+    (and_then (basis_outcome basis) (outcome_of_later_basis (cause 0) (first_dependent (next_basis step basis)))))
 
 -- the checks that prover and judge have in common
 abbrev pub former_run_outcome : (cause : (round : ℕ) → Cause) (run : Run) → Outcome
@@ -100,8 +100,8 @@ pub record RemovedCheck : Type 0 where
       → later_bases_outcome cause steps basis round (suc left) ≡ Refused (cause round)
   -- and was always `Done` where the check of the basis (8) had passed, in a run and in a lone fold
   pub done : (cause : (round : ℕ) → Cause) (steps basis : List ℕ) (round left : ℕ) → All IsElement basis
-      → basisOutcome basis ≡ Done → later_bases_outcome cause steps basis round left ≡ Done
-  pub done_in_fold : (cause : Cause) (step : ℕ) (basis : List ℕ) → All IsElement basis → basisOutcome basis ≡ Done
+      → basis_outcome basis ≡ Done → later_bases_outcome cause steps basis round left ≡ Done
+  pub done_in_fold : (cause : Cause) (step : ℕ) (basis : List ℕ) → All IsElement basis → basis_outcome basis ≡ Done
       → outcome_of_later_basis cause (first_dependent (next_basis step basis)) ≡ Done
 
 -- so that everything else answers as it did, and leaves in lent lists what it left; sheets and the programs' answers
@@ -110,10 +110,10 @@ pub record AnswersAsBefore : Type 0 where
   pub fold : (cause : (round : ℕ) → Cause) (k step offset : ℕ) (basis word : List ℕ) (x : ℕ) (values next : List ℕ)
       → All IsElement basis
       → (let former = former_fold_outcome cause k step basis word values next in
-      (foldAnswer k step offset basis word values next ≡ foldedOf former (next_offset step offset basis))
-      × (foldValuesAfter k step offset basis word x values next
+      (fold_answer k step offset basis word values next ≡ folded_of former (next_offset step offset basis))
+      × (fold_values_after k step offset basis word x values next
       ≡ afterwards former (folded step offset basis word x) values)
-      × (nextBasisAfter k step basis word values next ≡ afterwards former (next_basis step basis) next))
+      × (next_basis_after k step basis word values next ≡ afterwards former (next_basis step basis) next))
   pub prove : (cause : (round : ℕ) → Cause) (run : Run) → All IsElement run.basis
       → (prove_outcome run ≡ former_prove_outcome cause run)
       × (store_after run ≡ afterwards (former_run_outcome cause run) (honest_store run) run.store)

@@ -24,7 +24,7 @@ use Rattle.refusal.proofs.Checks.{refused_by, unless_done, then_passed, then_ref
 use Rattle.refusal.proofs.Checks.{number_unless, number_then, within, within_of, outside, Either, which}
 use Rattle.poly.specs.Polynomial.{All}
 use Rattle.coset.specs.Span.{Independent}
-use Rattle.coset.specs.Answers.{outcomeOfBasis, basisOutcome}
+use Rattle.coset.specs.Answers.{outcome_of_basis, basis_outcome}
 use Rattle.coset.proofs.Independence.{independent_of, basis_number}
 use Rattle.fri.specs.Layout.{last_count, store_length}
 use Rattle.fri.specs.Run.{Run, steps_in, rounds_in}
@@ -201,17 +201,17 @@ pub run_passes : (run : Run) → ValidParameters run.k run.rate run.step → Fit
     → run_outcome run ≡ Done
 run_passes run v f d =
     sym (then_passed (parameters_outcome run.k run.rate run.step)
-    (and_then (lengths_outcome run) (basisOutcome run.basis))
+    (and_then (lengths_outcome run) (basis_outcome run.basis))
     (parameters_pass run.k run.rate run.step v))
-    ∙ sym (then_passed (lengths_outcome run) (basisOutcome run.basis) (lengths_pass run f))
-    ∙ ap outcomeOfBasis d
+    ∙ sym (then_passed (lengths_outcome run) (basis_outcome run.basis) (lengths_pass run f))
+    ∙ ap outcome_of_basis d
 
 pub run_valid : (run : Run) → run_outcome run ≡ Done
     → ValidParameters run.k run.rate run.step × Fit run × Independent run.basis
 run_valid run e =
     let first = then_done (parameters_outcome run.k run.rate run.step)
-    (and_then (lengths_outcome run) (basisOutcome run.basis)) e in
-    let second = then_done (lengths_outcome run) (basisOutcome run.basis) first.1 in (
+    (and_then (lengths_outcome run) (basis_outcome run.basis)) e in
+    let second = then_done (lengths_outcome run) (basis_outcome run.basis) first.1 in (
       parameters_valid run.k run.rate run.step first.0,
       lengths_fit run second.0,
       independent_of run.basis second.1,
@@ -349,9 +349,9 @@ pub run_number : (P : ℕ → Type 0) → P 0 → ((n : ℕ) → 4 ≤ n → n �
     → P (number_of_outcome (run_outcome run))
 run_number P p0 low p13 run =
     number_then P (parameters_outcome run.k run.rate run.step)
-    (and_then (lengths_outcome run) (basisOutcome run.basis))
+    (and_then (lengths_outcome run) (basis_outcome run.basis))
     (parameters_number P p0 (λ n l u. low n l (omega arith)) run.k run.rate run.step)
-    (number_then P (lengths_outcome run) (basisOutcome run.basis) lengths_number
+    (number_then P (lengths_outcome run) (basis_outcome run.basis) lengths_number
     (basis_number P p0 (low 8 (omega arith) (omega arith)) run.basis))
   where
     lengths_number : P (number_of_outcome (lengths_outcome run))

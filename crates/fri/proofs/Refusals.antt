@@ -17,7 +17,7 @@ use Rattle.refusal.specs.Checks.{and_then}
 use Rattle.refusal.specs.Numbers.{number_of, place_of, round_of, number_of_outcome, place_of_outcome, round_of_outcome}
 use Rattle.refusal.proofs.Checks.{then_passed, then_refused, which, number_then}
 use Rattle.coset.specs.Span.{first_dependent}
-use Rattle.coset.specs.Answers.{outcomeOfBasis, basisOutcome}
+use Rattle.coset.specs.Answers.{outcome_of_basis, basis_outcome}
 use Rattle.fri.specs.Layout.{dimension}
 use Rattle.fri.specs.Run.{Run, step_in}
 use Rattle.fri.specs.declared.Answer.TheVariants as answers
@@ -59,26 +59,26 @@ by_parameters : (run : Run) (cause : Cause) → parameters_outcome run.k run.rat
     → run_outcome run ≡ Refused cause
 by_parameters run cause e =
     sym (then_refused (parameters_outcome run.k run.rate run.step)
-    (and_then (lengths_outcome run) (basisOutcome run.basis)) cause e)
+    (and_then (lengths_outcome run) (basis_outcome run.basis)) cause e)
 
 after_parameters : (run : Run) → ValidParameters run.k run.rate run.step
-    → run_outcome run ≡ and_then (lengths_outcome run) (basisOutcome run.basis)
+    → run_outcome run ≡ and_then (lengths_outcome run) (basis_outcome run.basis)
 after_parameters run v =
     sym (then_passed (parameters_outcome run.k run.rate run.step)
-    (and_then (lengths_outcome run) (basisOutcome run.basis))
+    (and_then (lengths_outcome run) (basis_outcome run.basis))
     (checks.parameters_pass run.k run.rate run.step v))
 
 by_lengths : (run : Run) (cause : Cause) → ValidParameters run.k run.rate run.step
     → lengths_outcome run ≡ Refused cause → run_outcome run ≡ Refused cause
 by_lengths run cause v e =
-    after_parameters run v ∙ sym (then_refused (lengths_outcome run) (basisOutcome run.basis) cause e)
+    after_parameters run v ∙ sym (then_refused (lengths_outcome run) (basis_outcome run.basis) cause e)
 
 by_basis : (run : Run) (place : ℕ) → ValidParameters run.k run.rate run.step → Fit run
     → first_dependent run.basis ≡ At place → run_outcome run ≡ Refused (BasisDependent place)
 by_basis run place v f e =
     after_parameters run v
-    ∙ sym (then_passed (lengths_outcome run) (basisOutcome run.basis) (checks.lengths_pass run f))
-    ∙ ap outcomeOfBasis e
+    ∙ sym (then_passed (lengths_outcome run) (basis_outcome run.basis) (checks.lengths_pass run f))
+    ∙ ap outcome_of_basis e
 
 by_queries : (run : Run) (queries : List ℕ) (cause : Cause) → run_outcome run ≡ Done
     → queries_outcome run.k (step_in run 0) queries ≡ Refused cause

@@ -8,7 +8,7 @@ use Rattle.refusal.specs.declared.Outcome.TheVariants.{Done, Refused}
 use Rattle.refusal.specs.declared.Position.{Position}
 use Rattle.refusal.specs.declared.Position.TheVariants.{At, Absent}
 use Rattle.refusal.specs.Checks.{refused_unless, and_then}
-use Rattle.coset.specs.Answers.{basisOutcome}
+use Rattle.coset.specs.Answers.{basis_outcome}
 use Rattle.fri.specs.Layout.{last_count, store_length}
 use Rattle.fri.specs.Run.{Run, steps_in, rounds_in}
 
@@ -35,7 +35,7 @@ lengths_outcome run =
 abbrev pub run_outcome : (run : Run) → Outcome
 run_outcome run =
     and_then (parameters_outcome run.k run.rate run.step)
-    (and_then (lengths_outcome run) (basisOutcome run.basis))
+    (and_then (lengths_outcome run) (basis_outcome run.basis))
 
 -- the first query, its place counted from `place`, whose index is not below the size
 unfoldable pub first_outside : (size : ℕ) (queries : List ℕ) (place : ℕ) → Position

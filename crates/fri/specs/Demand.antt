@@ -72,10 +72,10 @@ abbrev pub Visits : (run : Run) (queries : List ℕ) (coset : ℕ) → Type 0
 Visits run queries coset = Any (λ j. j / 2 ^ step_in run 0 ≡ coset) queries
 
 -- the accepted ones of the query lists together visit every first_layer coset
-abbrev pub Covered : (run : Run) (queryLists : List (List ℕ)) → Type 0
-Covered run queryLists =
+abbrev pub Covered : (run : Run) (query_lists : List (List ℕ)) → Type 0
+Covered run query_lists =
     (coset : ℕ) → coset < 2 ^ (run.k - step_in run 0)
-    → Any (λ queries. Accepted run queries × Visits run queries coset) queryLists
+    → Any (λ queries. Accepted run queries × Visits run queries coset) query_lists
 
 -- demand 3, first half: every honest run of a word of low degree is accepted with every valid query list in which no
 -- two queries share a first_layer coset, and queries · r · 2^η entries are read
@@ -122,7 +122,7 @@ pub record Sound (run : Run) : Type 0 where
 -- A judging writes nothing, so that each finds the run as the one before did; that parameters, basis and lengths are
 -- valid follows from acceptance
 abbrev pub Soundness : Type 0
-Soundness = (run : Run) (queryLists : List (List ℕ)) → Elements run → Covered run queryLists → Sound run
+Soundness = (run : Run) (query_lists : List (List ℕ)) → Elements run → Covered run query_lists → Sound run
 
 -- the bound by itself: whatever layer i holds, and whatever the rest of the run, where parameters and basis are valid
 abbrev pub FewExceptional : Type 0
@@ -142,4 +142,4 @@ pub record HonestProofs : Type 0 where
   pub never12 : (run : Run) → ValidCoset run → ProverInput run → LowDegree run → number_of_outcome (prove_outcome run) ≢ 12
   -- the second half is about something: an honest run has 64-bit numbers, and some query lists cover it
   pub covered : (run : Run) → ValidCoset run → ProverInput run → LowDegree run
-      → Elements (honest run) × ((queryLists : List (List ℕ)) × Covered (honest run) queryLists)
+      → Elements (honest run) × ((query_lists : List (List ℕ)) × Covered (honest run) query_lists)

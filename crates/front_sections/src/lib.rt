@@ -3,7 +3,7 @@
 #![tactic(auto)]
 
 ghost use Rattle.std.specs.Prelude.{◌≡◌, ◌^◌, ◌≤◌, length};
-ghost use Rattle.coset.specs.Answers.{basisOutcome};
+ghost use Rattle.coset.specs.Answers.{basis_outcome};
 ghost use Rattle.fri.specs.Checks.{indices_outcome};
 ghost use Rattle.layout.specs.Parameters.{Valid};
 ghost use Rattle.transcript.specs.Numerals.{entries_at};
@@ -79,7 +79,7 @@ fn checked_coset(bytes: &[u8], at: usize, parameters: Parameters) -> Outcome
 // The basis whose entries begin there, in the room lent for it. All sections end before 2^40.
 fn checked_basis(bytes: &[u8], at: usize, basis: &mut [u64]) -> Outcome
     requires { (length basis.old ≤ 20) × (at ≤ 2 ^ 40) }
-    ensures { result ≡ basisOutcome (entries_at bytes.now at (length basis.old)) }
+    ensures { result ≡ basis_outcome (entries_at bytes.now at (length basis.old)) }
 {
     entries::read(bytes, at, basis);
     independence::checked_basis(&basis[..])

@@ -5,14 +5,14 @@ ghost use Rattle.std.specs.Prelude.{◌≡◌, map, take};
 ghost use Rattle.poly.specs.Carrier.{gf64};
 ghost use Rattle.poly.specs.Polynomial.{padded};
 ghost use Rattle.coset.specs.Span.{first_dependent};
-ghost use Rattle.coset.specs.Answers.{basisOutcome};
+ghost use Rattle.coset.specs.Answers.{basis_outcome};
 ghost use Rattle.coset.specs.Elimination.{cleared};
 
 use refusal::{Cause, Outcome, Position};
 
 // Refuses a dependent basis (8) at its first dependent place.
 pub fn checked_basis(basis: &[u64]) -> Outcome
-    ensures { result ≡ basisOutcome basis.now }
+    ensures { result ≡ basis_outcome basis.now }
 {
     let dependent = first_dependent(basis);
     match dependent {

@@ -3,7 +3,7 @@ use Rattle.std.specs.Prelude.{◌≡◌, List, ℕ, ◌-◌, ◌^◌, ◌≤◌,
 use Rattle.refusal.specs.declared.Outcome.{Outcome}
 use Rattle.coset.specs.Span.{Independent}
 use Rattle.fold.specs.declared.Folded.{Folded}
-use Rattle.fold.specs.Answers.{foldOutcome, foldAnswer, foldValuesAfter, nextBasisAfter}
+use Rattle.fold.specs.Answers.{fold_outcome, fold_answer, fold_values_after, next_basis_after}
 
 -- what a call is given
 pub record FoldCall : Type 0 where
@@ -20,23 +20,23 @@ pub record FoldCall : Type 0 where
 -- what all checks of a call give
 abbrev pub outcome_of_call : (call : FoldCall) → Outcome
 outcome_of_call call =
-    foldOutcome call.k call.step call.basis call.word call.values call.next
+    fold_outcome call.k call.step call.basis call.word call.values call.next
 
 -- its answer
 abbrev pub answer_of_call : (call : FoldCall) → Folded
 answer_of_call call =
-    foldAnswer call.k call.step call.offset call.basis call.word call.values call.next
+    fold_answer call.k call.step call.offset call.basis call.word call.values call.next
 
 -- what list 6 holds afterwards
 abbrev pub values_after_call : (call : FoldCall) → List ℕ
 values_after_call call =
-    foldValuesAfter call.k call.step call.offset call.basis call.word call.challenge call.values
+    fold_values_after call.k call.step call.offset call.basis call.word call.challenge call.values
     call.next
 
 -- what list 7 holds afterwards
 abbrev pub next_after_call : (call : FoldCall) → List ℕ
 next_after_call call =
-    nextBasisAfter call.k call.step call.basis call.word call.values call.next
+    next_basis_after call.k call.step call.basis call.word call.values call.next
 
 -- what a call answers, and what it leaves in the two lent lists
 pub record FoldedBy (call : FoldCall) (folded : Folded) (filled basis : List ℕ) : Type 0 where

@@ -3,10 +3,10 @@
 
 ghost use Rattle.std.specs.Prelude.{◌≡◌, ◌≤◌, length};
 ghost use Rattle.refusal.specs.Checks.{and_then};
-ghost use Rattle.coset.specs.Answers.{basisOutcome};
+ghost use Rattle.coset.specs.Answers.{basis_outcome};
 ghost use Rattle.coset.specs.Subspace.{next_offset, next_basis};
 ghost use Rattle.fold.specs.Fold.{folded};
-ghost use Rattle.fold.specs.Answers.{foldRangesOutcome, foldLengthsOutcome};
+ghost use Rattle.fold.specs.Answers.{fold_ranges_outcome, fold_lengths_outcome};
 ghost use Rattle.lone_fold.specs.Calls.{FoldCall, FoldedBy, CallFits};
 
 use field::Element;
@@ -77,8 +77,8 @@ fn checked(
     length6: usize,
     length7: usize,
 ) -> Outcome
-    ensures { let lengths = foldLengthsOutcome k step (length basis.now) length3 length6 length7 in
-        result ≡ and_then (foldRangesOutcome k step) (and_then lengths (basisOutcome basis.now)) }
+    ensures { let lengths = fold_lengths_outcome k step (length basis.now) length3 length6 length7 in
+        result ≡ and_then (fold_ranges_outcome k step) (and_then lengths (basis_outcome basis.now)) }
 {
     let ranges = checked_ranges(k, step);
     match ranges {
@@ -94,7 +94,7 @@ fn checked(
 }
 
 fn checked_ranges(k: usize, step: usize) -> Outcome
-    ensures { result ≡ foldRangesOutcome k step }
+    ensures { result ≡ fold_ranges_outcome k step }
 {
     if k < 2 || k > 20 {
         return Outcome::Refused(Cause::DimensionOutOfRange);
@@ -117,7 +117,7 @@ fn checked_lengths(
     length7: usize,
 ) -> Outcome
     requires { (k ≤ 20) × (step ≤ k) }
-    ensures { result ≡ foldLengthsOutcome k step length1 length3 length6 length7 }
+    ensures { result ≡ fold_lengths_outcome k step length1 length3 length6 length7 }
 {
     if length1 != k {
         return Outcome::Refused(Cause::WrongLength { list: 1 });

@@ -14,12 +14,12 @@ use Rattle.coset.specs.Span.{Independent}
 use Rattle.refusal.specs.Checks.{refused_unless, afterwards}
 use Rattle.refusal.proofs.Checks.{le_of_test, passed_by, refused_by, unless_done, done_holds, refused_holds}
 use Rattle.coset.proofs.Independence.{independent_of}
-use Rattle.coset.specs.Answers.{outcomeOfBasis, basisOutcome}
+use Rattle.coset.specs.Answers.{outcome_of_basis, basis_outcome}
 use Rattle.reed_solomon.specs.Answers.{checked}
 
 module _ (basis : List ℕ) (fits3 fits6 : Bool) where
   abbrev after3 : Outcome
-  after3 = refused_unless fits6 (WrongLength 6) (basisOutcome basis)
+  after3 = refused_unless fits6 (WrongLength 6) (basis_outcome basis)
 
   abbrev lists : Outcome
   lists = refused_unless fits3 (WrongLength 3) after3
@@ -38,11 +38,11 @@ module _ (basis : List ℕ) (fits3 fits6 : Bool) where
 
   pub list6_refused : length basis ≤ 20 → fits3 ≡ true → fits6 ≡ false
       → Refused (WrongLength 6) ≡ checked basis fits3 fits6
-  list6_refused h e f = refused_by fits6 (WrongLength 6) (basisOutcome basis) f ∙ list3_passed h e
+  list6_refused h e f = refused_by fits6 (WrongLength 6) (basis_outcome basis) f ∙ list3_passed h e
 
   pub basis_looked_at : length basis ≤ 20 → fits3 ≡ true → fits6 ≡ true
-      → basisOutcome basis ≡ checked basis fits3 fits6
-  basis_looked_at h e f = passed_by fits6 (WrongLength 6) (basisOutcome basis) f ∙ list3_passed h e
+      → basis_outcome basis ≡ checked basis fits3 fits6
+  basis_looked_at h e f = passed_by fits6 (WrongLength 6) (basis_outcome basis) f ∙ list3_passed h e
 
 -- where all have passed
 pub record Passed (basis : List ℕ) (fits3 fits6 : Bool) : Type 0 where
@@ -55,7 +55,7 @@ pub passed : (basis : List ℕ) (fits3 fits6 : Bool) → checked basis fits3 fit
 passed basis fits3 fits6 e =
     let first = unless_done (leb (length basis) 20) DimensionOutOfRange (lists basis fits3 fits6) e in
     let second = unless_done fits3 (WrongLength 3) (after3 basis fits3 fits6) first.1 in
-    let third = unless_done fits6 (WrongLength 6) (basisOutcome basis) second.1 in
+    let third = unless_done fits6 (WrongLength 6) (basis_outcome basis) second.1 in
     record {
       small = le_of_test (length basis) 20 first.0;
       list3 = second.0;
@@ -81,7 +81,7 @@ answered_by_size basis fits3 fits6 size answer e a =
 -- conversely
 pub passes : (basis : List ℕ) (fits3 fits6 : Bool) → length basis ≤ 20 → fits3 ≡ true → fits6 ≡ true → Independent basis
     → checked basis fits3 fits6 ≡ Done
-passes basis fits3 fits6 h e f d = sym (basis_looked_at basis fits3 fits6 h e f) ∙ ap outcomeOfBasis d
+passes basis fits3 fits6 h e f d = sym (basis_looked_at basis fits3 fits6 h e f) ∙ ap outcome_of_basis d
 
 -- both clauses where it is done, and where it is refused
 pub done_both : (outcome : Outcome) (wanted held held' : List ℕ) → outcome ≡ Done → held' ≡ wanted

@@ -16,7 +16,7 @@ use Rattle.coset.proofs.Points.{length-points, points_distinct, points-elements}
 use Rattle.reed_solomon.specs.Codes.{encoded, interpolated, WordDegreeBelow}
 use Rattle.reed_solomon.specs.Theorems.{RoundTrips, CodesAccepted, Told, CodeRefusals, Encoding}
 use Rattle.reed_solomon.specs.Answers.{checked}
-use Rattle.coset.specs.Answers.{outcomeOfBasis}
+use Rattle.coset.specs.Answers.{outcome_of_basis}
 use Rattle.refusal.specs.declared.Cause.TheVariants.{DimensionOutOfRange, BasisDependent, WrongLength}
 use Rattle.refusal.specs.declared.Outcome.{Outcome}
 use Rattle.refusal.specs.declared.Outcome.TheVariants.{Done, Refused}
@@ -115,5 +115,5 @@ refusals =
       list6 = λ basis a b h e f. told (checked basis a b) (Refused (WrongLength 6)) (list6_refused basis a b h e f);
       dependent =
           λ basis a b place h e f d. told (checked basis a b) (Refused (BasisDependent place))
-          (ap outcomeOfBasis (sym d) ∙ basis_looked_at basis a b h e f);
+          (ap outcome_of_basis (sym d) ∙ basis_looked_at basis a b h e f);
     }

@@ -11,7 +11,7 @@ use Rattle.refusal.specs.declared.Outcome.TheVariants.{Done}
 use Rattle.refusal.specs.declared.Position.{Position}
 use Rattle.refusal.specs.declared.Position.TheVariants.{At, Absent}
 use Rattle.refusal.specs.Numbers.{number_of_outcome, place_of_outcome}
-use Rattle.reed_solomon.specs.Answers.{checked, encodeOutcome, interpolateOutcome}
+use Rattle.reed_solomon.specs.Answers.{checked, encode_outcome, interpolate_outcome}
 use Rattle.reed_solomon.specs.Codes.{encoded, interpolated, WordDegreeBelow}
 
 -- encoding and interpolation invert one another, for every offset and every independent basis, of whatever dimension
@@ -31,11 +31,11 @@ pub record RoundTrips : Type 0 where
 -- which calls are done: those with k at most 20, lists that fit and an independent basis
 pub record CodesAccepted : Type 0 where
   pub encode : (basis coefficients values : List ℕ)
-      → (encodeOutcome basis coefficients values ≡ Done)
+      → (encode_outcome basis coefficients values ≡ Done)
       ↔ ((length basis ≤ 20) × (length coefficients ≤ 2 ^ length basis) × (length values ≡ 2 ^ length basis)
       × Independent basis)
   pub interpolate : (basis word coefficients : List ℕ)
-      → (interpolateOutcome basis word coefficients ≡ Done)
+      → (interpolate_outcome basis word coefficients ≡ Done)
       ↔ ((length basis ≤ 20) × (length word ≡ 2 ^ length basis) × (length coefficients ≡ 2 ^ length basis)
       × Independent basis)
 
@@ -69,7 +69,7 @@ pub record Encoding : Type 0 where
 
 -- case E of Table A
 pub record CodeCases : Type 0 where
-  pub e_done : encodeOutcome (1 ∷ 2 ∷ []) (7 ∷ 3 ∷ []) (0 ∷ 0 ∷ 0 ∷ 0 ∷ []) ≡ Done
+  pub e_done : encode_outcome (1 ∷ 2 ∷ []) (7 ∷ 3 ∷ []) (0 ∷ 0 ∷ 0 ∷ 0 ∷ []) ≡ Done
   pub e : encoded 0 (1 ∷ 2 ∷ []) (7 ∷ 3 ∷ []) ≡ 7 ∷ 4 ∷ 1 ∷ 2 ∷ []
-  pub e_back_done : interpolateOutcome (1 ∷ 2 ∷ []) (7 ∷ 4 ∷ 1 ∷ 2 ∷ []) (0 ∷ 0 ∷ 0 ∷ 0 ∷ []) ≡ Done
+  pub e_back_done : interpolate_outcome (1 ∷ 2 ∷ []) (7 ∷ 4 ∷ 1 ∷ 2 ∷ []) (0 ∷ 0 ∷ 0 ∷ 0 ∷ []) ≡ Done
   pub e_back : interpolated 0 (1 ∷ 2 ∷ []) (7 ∷ 4 ∷ 1 ∷ 2 ∷ []) ≡ 7 ∷ 3 ∷ 0 ∷ 0 ∷ []

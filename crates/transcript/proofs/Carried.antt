@@ -14,7 +14,7 @@ use Rattle.refusal.specs.declared.Outcome.{Outcome}
 use Rattle.refusal.specs.declared.Outcome.TheVariants.{Done, Refused}
 use Rattle.refusal.specs.Checks.{refused_unless, and_then}
 use Rattle.refusal.proofs.Checks.{equal_of_test, passed_by, unless_done, then_passed, then_done}
-use Rattle.coset.specs.Answers.{basisOutcome}
+use Rattle.coset.specs.Answers.{basis_outcome}
 use Rattle.fri.specs.Layout.{step_at, dimension, last_count, layer_start, store_length}
 use Rattle.fri.specs.Run.{layer_in}
 use Rattle.fri.specs.Checks.{parameters_outcome, lengths_outcome, run_outcome}
@@ -137,16 +137,16 @@ module _ (bytes : List ℕ) where
         (due_passes bytes 1 3 (omega arith) c.parameters_count (inside 1 (omega arith) (omega arith))))
         ∙ parameters_pass (transcript_k bytes) (transcript_rate bytes) (transcript_step bytes) c.parameters
 
-    coset-section : coset_section bytes ≡ basisOutcome (run_in bytes).basis
+    coset-section : coset_section bytes ≡ basis_outcome (run_in bytes).basis
     coset-section =
-        sym (then_passed (due_outcome bytes 2 (transcript_k bytes + 1)) (basisOutcome (run_in bytes).basis)
+        sym (then_passed (due_outcome bytes 2 (transcript_k bytes + 1)) (basis_outcome (run_in bytes).basis)
         (due_passes bytes 2 (transcript_k bytes + 1) (omega arith) c.coset_count
         (inside 2 (omega arith) (omega arith))))
 
     challenges-section : challenges_section bytes ≡ Done
     challenges-section = due_passes bytes 3 r (omega arith) c.challenges_count (inside 3 (omega arith) (omega arith))
 
-    front_is : front_outcome bytes ≡ and_then (basisOutcome (run_in bytes).basis) of_queries
+    front_is : front_outcome bytes ≡ and_then (basis_outcome (run_in bytes).basis) of_queries
     front_is =
         sym (then_passed (parameters_section bytes) (lists_outcome bytes) parameters-section)
         ∙ ap₂ and_then coset-section
@@ -169,12 +169,12 @@ module _ (bytes : List ℕ) where
     pub front_checks : front_outcome bytes ≡ checks_outcome (run_in bytes) (queries_in bytes)
     front_checks = front_is ∙ ap (λ (o : Outcome). and_then o of_queries) lists
       where
-        lists : basisOutcome (run_in bytes).basis ≡ run_outcome (run_in bytes)
+        lists : basis_outcome (run_in bytes).basis ≡ run_outcome (run_in bytes)
         lists =
-            then_passed (lengths_outcome (run_in bytes)) (basisOutcome (run_in bytes).basis)
+            then_passed (lengths_outcome (run_in bytes)) (basis_outcome (run_in bytes).basis)
             (lengths_pass (run_in bytes) fit)
             ∙ then_passed (parameters_outcome (transcript_k bytes) (transcript_rate bytes) (transcript_step bytes))
-            (and_then (lengths_outcome (run_in bytes)) (basisOutcome (run_in bytes).basis))
+            (and_then (lengths_outcome (run_in bytes)) (basis_outcome (run_in bytes).basis))
             (parameters_pass (transcript_k bytes) (transcript_rate bytes) (transcript_step bytes) c.parameters)
 
     -- and so are those of all sections
@@ -193,7 +193,7 @@ module _ (bytes : List ℕ) where
       let third = then_done (challenges_section bytes) (queries_section bytes) second.1 in
       let parameters = parameters_done bytes first.0 in
       let coset = then_done (due_outcome bytes 2 (transcript_k bytes + 1))
-      (basisOutcome (run_in bytes).basis) second.0 in
+      (basis_outcome (run_in bytes).basis) second.0 in
       let layers = then_done (layers_from bytes 0 r) (end_outcome bytes) both.1 in
       let last = then_done (due_outcome bytes (layer_section r) last_due) end layers.1 in
       record {

@@ -17,7 +17,7 @@ use Rattle.refusal.specs.declared.Outcome.{Outcome}
 use Rattle.refusal.specs.declared.Outcome.TheVariants.{Done, Refused}
 use Rattle.refusal.specs.Checks.{refused_unless, and_then}
 use Rattle.refusal.proofs.Checks.{equal_of_test, then_done, unless_done, within_of}
-use Rattle.coset.specs.Answers.{basisOutcome}
+use Rattle.coset.specs.Answers.{basis_outcome}
 use Rattle.fri.specs.Layout.{steps_of, step_at, dimension, last_count}
 use Rattle.fri.specs.Checks.{parameters_outcome, indices_outcome}
 use Rattle.transcript.specs.Numerals.{little_endian, count_at, entry_at, entries_at}
@@ -137,7 +137,7 @@ module _ (front rest : List ℕ) where
       early2 = omega (arith, at.start_two front one, (at.valid front one).k_most)
 
       abbrev basis : List ℕ → Outcome
-      basis m = basisOutcome (drop 1 m)
+      basis m = basis_outcome (drop 1 m)
 
       second_same : coset_section whole ≡ coset_section front
       second_same =

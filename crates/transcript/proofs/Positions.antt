@@ -14,7 +14,7 @@ use Rattle.refusal.specs.declared.Cause.TheVariants.{QueryCountOutOfRange}
 use Rattle.refusal.specs.declared.Outcome.{Outcome}
 use Rattle.refusal.specs.declared.Outcome.TheVariants.{Done}
 use Rattle.refusal.specs.Checks.{and_then}
-use Rattle.coset.specs.Answers.{basisOutcome}
+use Rattle.coset.specs.Answers.{basis_outcome}
 use Rattle.fri.specs.Layout.{steps_of, step_at, dimension, last_count}
 use Rattle.fri.specs.Checks.{indices_outcome}
 use Rattle.fri.specs.Demand.{ValidParameters}
@@ -136,7 +136,7 @@ module _ (bytes : List ℕ) (one : parameters_section bytes ≡ Done) where
       let two = then_done (coset_section bytes) (and_then (challenges_section bytes) (queries_section bytes)) lists in
       let three = then_done (challenges_section bytes) (queries_section bytes) two.1 in
       start_five
-      (then_done (due_outcome bytes 2 (k + 1)) (basisOutcome (run_in bytes).basis) two.0).0
+      (then_done (due_outcome bytes 2 (k + 1)) (basis_outcome (run_in bytes).basis) two.0).0
       three.0
       (then_done queries_there (indices_outcome k (step_at (transcript_steps bytes) 0) (queries_in bytes)) three.1).0
 

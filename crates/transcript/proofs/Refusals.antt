@@ -14,7 +14,7 @@ use Rattle.refusal.specs.declared.Outcome.TheVariants.{Done, Refused}
 use Rattle.refusal.specs.Checks.{refused_unless, and_then}
 use Rattle.refusal.specs.Numbers.{number_of, number_of_outcome}
 use Rattle.refusal.proofs.Checks.{equal_of_test, within_of, then_done, holds_unless, holds_after, number_then}
-use Rattle.coset.specs.Answers.{basisOutcome}
+use Rattle.coset.specs.Answers.{basis_outcome}
 use Rattle.coset.proofs.Independence.{basis_number}
 use Rattle.fri.specs.Layout.{step_at, dimension, last_count}
 use Rattle.fri.specs.Checks.{parameters_outcome, indices_outcome}
@@ -99,7 +99,7 @@ module _ (P : ℕ → Type 0) (low : (n : ℕ) → n ≤ 3 → P n) (bytes : Lis
 
   pub transcript-number-from
       : P (number_of_outcome (parameters_outcome (transcript_k bytes) (transcript_rate bytes) (transcript_step bytes)))
-      → P (number_of_outcome (basisOutcome (run_in bytes).basis))
+      → P (number_of_outcome (basis_outcome (run_in bytes).basis))
       → P (number_of_outcome (queries_section bytes))
       → P (number_of_outcome (transcript_outcome bytes))
   transcript-number-from parameters basis queries =
@@ -108,7 +108,7 @@ module _ (P : ℕ → Type 0) (low : (n : ℕ) → n ≤ 3 → P n) (bytes : Lis
       (number_then P (due_outcome bytes 1 3)
       (parameters_outcome (transcript_k bytes) (transcript_rate bytes) (transcript_step bytes)) (due_number 1 3)
       parameters)
-      (λ one. number_then P (due_outcome bytes 2 (transcript_k bytes + 1)) (basisOutcome (run_in bytes).basis)
+      (λ one. number_then P (due_outcome bytes 2 (transcript_k bytes + 1)) (basis_outcome (run_in bytes).basis)
       (due_number 2 (transcript_k bytes + 1)) basis)
       (λ one two. due_number 3 (transcript_rounds bytes)) (λ one two three. queries))
       behind_number
@@ -162,7 +162,7 @@ module _ (Q : Outcome → Type 0) (values : (o : Outcome) → ValueNumber (numbe
       (differs s most)
 
   coset_there : coset_section bytes ≡ Done → due_outcome bytes 2 (k + 1) ≡ Done
-  coset_there two = (then_done (due_outcome bytes 2 (k + 1)) (basisOutcome (run_in bytes).basis) two).0
+  coset_there two = (then_done (due_outcome bytes 2 (k + 1)) (basis_outcome (run_in bytes).basis) two).0
 
   abbrev counted : ℕ → Bool
   counted n = leb 1 n && leb n 256
@@ -173,7 +173,7 @@ module _ (Q : Outcome → Type 0) (values : (o : Outcome) → ValueNumber (numbe
       values _ (parameters_number ValueNumber (inl refl) (λ n l u. inr (inl (l, omega arith))) k (transcript_rate bytes)
       (transcript_step bytes))
 
-  basis : Q (basisOutcome (run_in bytes).basis)
+  basis : Q (basis_outcome (run_in bytes).basis)
   basis = values _ (basis_number ValueNumber (inl refl) (inr (inl (omega arith, omega arith))) (run_in bytes).basis)
 
   indices : Q (indices_outcome k (step_at (transcript_steps bytes) 0) (queries_in bytes))
@@ -187,7 +187,7 @@ module _ (Q : Outcome → Type 0) (values : (o : Outcome) → ValueNumber (numbe
       (holds_after Q (due_outcome bytes 1 3)
       (parameters_outcome k (transcript_rate bytes) (transcript_step bytes))
       (due_counted 1 3 (omega arith) (omega arith) (omega (arith, first_start bytes))) (λ passed. parameters))
-      (λ one. holds_after Q (due_outcome bytes 2 (k + 1)) (basisOutcome (run_in bytes).basis)
+      (λ one. holds_after Q (due_outcome bytes 2 (k + 1)) (basis_outcome (run_in bytes).basis)
       (due_counted 2 (k + 1) (omega arith) (omega arith)
       (omega (arith, start_two bytes one, (valid bytes one).k_most)))
       (λ passed. basis))

@@ -16,7 +16,7 @@ use Rattle.refusal.specs.Numbers.{number_of_outcome}
 use Rattle.refusal.proofs.Checks.{then_passed, then_refused, number_then, Either, which}
 use Rattle.fri.specs.declared.Answer.TheVariants as answers
 use Rattle.fri.specs.declared.Verdict.{Verdict}
-use Rattle.coset.specs.Answers.{basisOutcome}
+use Rattle.coset.specs.Answers.{basis_outcome}
 use Rattle.coset.proofs.Independence.{basis_number}
 use Rattle.fri.specs.Layout.{step_at}
 use Rattle.fri.specs.Checks.{parameters_outcome, first_shared, indices_outcome}
@@ -68,7 +68,7 @@ module _ (bytes : List ℕ) (query : ℕ) where
 
   coset_other : Other (number_of_outcome (coset_section bytes))
   coset_other =
-      number_then Other (due_outcome bytes 2 (transcript_k bytes + 1)) (basisOutcome (run_in bytes).basis)
+      number_then Other (due_outcome bytes 2 (transcript_k bytes + 1)) (basis_outcome (run_in bytes).basis)
       (due_number Other low bytes 2 (transcript_k bytes + 1))
       (basis_number Other (low 0 (omega arith)) (small 8 (omega arith)) (run_in bytes).basis)
 

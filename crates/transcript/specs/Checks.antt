@@ -7,7 +7,7 @@ use Rattle.refusal.specs.declared.Cause.TheVariants.{BytesEnd, CountDiffers, Tra
 use Rattle.refusal.specs.declared.Outcome.{Outcome}
 use Rattle.refusal.specs.declared.Outcome.TheVariants.{Done}
 use Rattle.refusal.specs.Checks.{refused_unless, and_then}
-use Rattle.coset.specs.Answers.{basisOutcome}
+use Rattle.coset.specs.Answers.{basis_outcome}
 use Rattle.fri.specs.Layout.{step_at, dimension, last_count}
 use Rattle.fri.specs.Checks.{parameters_outcome, indices_outcome}
 use Rattle.transcript.specs.Sections.{section_start, section_count, layer_section, transcript_k, transcript_rate}
@@ -33,7 +33,7 @@ parameters_section bytes =
 
 -- section 2, and the basis (8)
 abbrev pub coset_section : (bytes : List ℕ) → Outcome
-coset_section bytes = and_then (due_outcome bytes 2 (transcript_k bytes + 1)) (basisOutcome (run_in bytes).basis)
+coset_section bytes = and_then (due_outcome bytes 2 (transcript_k bytes + 1)) (basis_outcome (run_in bytes).basis)
 
 -- section 3
 abbrev pub challenges_section : (bytes : List ℕ) → Outcome

@@ -76,12 +76,12 @@ converted ratio lower zero s = s
 converted ratio lower (suc upper) s =
     converted ratio (suc lower) upper (regrouped lower (suc upper) (scaled_runs lower (ratio lower) s))
 
--- the same levels undone, from the last to the first; `inverseRatio` gives the inverse of each factor
-unfoldable pub converted_back : (inverseRatio : ℕ → ℕ) (lower upper : ℕ) (s : List ℕ) → List ℕ
-converted_back inverseRatio lower zero s = s
-converted_back inverseRatio lower (suc upper) s =
-    scaled_runs lower (inverseRatio lower)
-    (regrouped_back lower (suc upper) (converted_back inverseRatio (suc lower) upper s))
+-- the same levels undone, from the last to the first; `inverse_ratio` gives the inverse of each factor
+unfoldable pub converted_back : (inverse_ratio : ℕ → ℕ) (lower upper : ℕ) (s : List ℕ) → List ℕ
+converted_back inverse_ratio lower zero s = s
+converted_back inverse_ratio lower (suc upper) s =
+    scaled_runs lower (inverse_ratio lower)
+    (regrouped_back lower (suc upper) (converted_back inverse_ratio (suc lower) upper s))
 
 -- e_j / e_(j-1)^2, or e_0, where the inverses are those of the elements e_j; with the two lists exchanged it is the
 -- inverse of that

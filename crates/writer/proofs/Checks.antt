@@ -12,7 +12,7 @@ use Rattle.refusal.specs.declared.Outcome.TheVariants.{Done, Refused}
 use Rattle.refusal.specs.Checks.{refused_unless, and_then}
 use Rattle.refusal.proofs.Checks.{then_passed, then_refused, then_done, passed_by, refused_by, unless_done}
 use Rattle.refusal.proofs.Checks.{equal_of_test}
-use Rattle.coset.specs.Answers.{basisOutcome}
+use Rattle.coset.specs.Answers.{basis_outcome}
 use Rattle.fri.specs.Layout.{step_at}
 use Rattle.fri.specs.Run.{Run, step_in}
 use Rattle.fri.specs.Checks.{queries_outcome}
@@ -32,7 +32,7 @@ module _ (p : Parameters) (basis queries : List ℕ) (size : ℕ) where
   of_size = refused_unless (eqb size needed) (WrongLength 8) Done
 
   abbrev after_size : Outcome
-  after_size = and_then (basisOutcome basis) (queries_outcome p.k (step_at (steps_by p) 0) queries)
+  after_size = and_then (basis_outcome basis) (queries_outcome p.k (step_at (steps_by p) 0) queries)
 
   pub size_refused : size ≢ needed → Refused (WrongLength 8) ≡ after_lists_outcome p basis queries size
   size_refused n =
@@ -45,7 +45,7 @@ module _ (p : Parameters) (basis queries : List ℕ) (size : ℕ) where
 
 module _ (run : Run) (queries : List ℕ) (size : ℕ) where
   abbrev of_basis : Outcome
-  of_basis = basisOutcome run.basis
+  of_basis = basis_outcome run.basis
 
   abbrev of_queries : Outcome
   of_queries = queries_outcome run.k (step_in run 0) queries

@@ -4,7 +4,7 @@ use Rattle.refusal.specs.declared.Cause.TheVariants.{WrongLength}
 use Rattle.refusal.specs.declared.Outcome.{Outcome}
 use Rattle.refusal.specs.declared.Outcome.TheVariants.{Done}
 use Rattle.refusal.specs.Checks.{refused_unless, and_then}
-use Rattle.coset.specs.Answers.{basisOutcome}
+use Rattle.coset.specs.Answers.{basis_outcome}
 use Rattle.fri.specs.Run.{Run}
 use Rattle.fri.specs.Layout.{step_at}
 use Rattle.fri.specs.Checks.{queries_outcome}
@@ -23,4 +23,4 @@ abbrev pub after_lists_outcome : (p : Parameters) (basis queries : List ℕ) (si
 after_lists_outcome p basis queries size =
     let needed = transcript_length p.k p.rate (steps_by p) (length queries) in
     and_then (refused_unless (eqb size needed) (WrongLength 8) Done)
-    (and_then (basisOutcome basis) (queries_outcome p.k (step_at (steps_by p) 0) queries))
+    (and_then (basis_outcome basis) (queries_outcome p.k (step_at (steps_by p) 0) queries))

@@ -3,7 +3,7 @@
 
 ghost use Rattle.std.specs.Prelude.{◌≡◌, ◌++◌, ◌+◌, ◌≤◌, ◌<◌, length};
 ghost use Rattle.line_text.specs.Digits.{bytes, digits, places_within, decimal};
-ghost use Rattle.line_text.specs.Digits.{digit as digitOf};
+ghost use Rattle.line_text.specs.Digits.{digit as digit_of};
 ghost use Rattle.placing.specs.Put.{Put};
 
 use placing::put;
@@ -37,7 +37,7 @@ pub fn put_digits(n: u64, base: u64, width: usize, at: usize, out: &mut [u8]) ->
 // The code of a digit, `a` to `f` from 10 on.
 fn digit(d: u64) -> u8
     requires { d < 16 }
-    ensures { result ≡ digitOf d }
+    ensures { result ≡ digit_of d }
 {
     if d < 10 { 48 + d as u8 } else { 87 + d as u8 }
 }

@@ -16,7 +16,7 @@ use Rattle.refusal.specs.Checks.{and_then}
 use Rattle.refusal.specs.Numbers.{number_of, number_of_outcome}
 use Rattle.refusal.proofs.Checks.{then_done, unless_done, number_then}
 use Rattle.fri.specs.declared.Answer.TheVariants as answers
-use Rattle.coset.specs.Answers.{basisOutcome}
+use Rattle.coset.specs.Answers.{basis_outcome}
 use Rattle.fri.specs.Layout.{step_at}
 use Rattle.fri.specs.Run.{Run}
 use Rattle.fri.specs.Checks.{parameters_outcome, lengths_outcome, run_outcome}
@@ -46,7 +46,7 @@ module _ (bytes : List ℕ) (passes : checks_outcome (run_in bytes) (queries_in 
   parameters = parameters_outcome (transcript_k bytes) (transcript_rate bytes) (transcript_step bytes)
 
   abbrev of_basis : Outcome
-  of_basis = basisOutcome (run_in bytes).basis
+  of_basis = basis_outcome (run_in bytes).basis
 
   abbrev first : ℕ
   first = step_at (transcript_steps bytes) 0

@@ -15,7 +15,7 @@ use Rattle.refusal.specs.Checks.{and_then, afterwards}
 use Rattle.refusal.specs.Numbers.{number_of_outcome}
 use Rattle.refusal.proofs.Checks.{equal_of_test, passed_by, refused_by, unless_done, then_passed, then_done}
 use Rattle.refusal.proofs.Checks.{then_then, number_unless, number_then}
-use Rattle.coset.specs.Answers.{basisOutcome}
+use Rattle.coset.specs.Answers.{basis_outcome}
 use Rattle.coset.proofs.Independence.{basis_number}
 use Rattle.fri.specs.Run.{Run, steps_in, step_in}
 use Rattle.fri.specs.Checks.{parameters_outcome, lengths_outcome, queries_outcome}
@@ -50,7 +50,7 @@ module _ (run : Run) (queries : List ℕ) where
   parameters = parameters_outcome run.k run.rate run.step
 
   abbrev of_basis : Outcome
-  of_basis = basisOutcome run.basis
+  of_basis = basis_outcome run.basis
 
   abbrev of_queries : Outcome
   of_queries = queries_outcome run.k (step_in run 0) queries

@@ -4,7 +4,7 @@ use Rattle.refusal.specs.declared.Cause.TheVariants.{WrongLength}
 use Rattle.refusal.specs.declared.Outcome.{Outcome}
 use Rattle.refusal.specs.declared.Outcome.TheVariants.{Done}
 use Rattle.refusal.specs.Checks.{refused_unless, and_then, afterwards}
-use Rattle.coset.specs.Answers.{basisOutcome}
+use Rattle.coset.specs.Answers.{basis_outcome}
 use Rattle.fri.specs.Run.{Run, step_in}
 use Rattle.fri.specs.Checks.{parameters_outcome, lengths_outcome, queries_outcome}
 use Rattle.written.specs.Transcript.{transcript_of}
@@ -20,7 +20,7 @@ write_outcome run queries size =
     and_then (parameters_outcome run.k run.rate run.step)
     (and_then (lengths_outcome run)
     (and_then (size_outcome run queries size)
-    (and_then (basisOutcome run.basis) (queries_outcome run.k (step_in run 0) queries))))
+    (and_then (basis_outcome run.basis) (queries_outcome run.k (step_in run 0) queries))))
 
 -- list 8: the transcript, or, after a refusal, what it held
 abbrev pub bytes_after : (run : Run) (queries held : List ℕ) → List ℕ
