@@ -10,7 +10,7 @@ use layout::Parameters;
 use refusal::{Cause, Outcome};
 
 // Where sections 2, 3, 4 and 5 begin; section 1 begins at 0.
-#[derive(Drop)]
+#[derive(Clone, Copy)]
 pub struct Sections {
     pub coset: usize,
     pub challenges: usize,
