@@ -26,7 +26,7 @@ pub record RunNumbers : Type 0 where
       ≡ 0 ∷ none ∷ none ∷ 4 ∷ none ∷ []
   pub refused : numbers_of (answer_of_verdict (record { answer = answers.Refused (RoundCheckFails 1 0); reads = 4 }))
       ≡ 11 ∷ 1 ∷ 0 ∷ 4 ∷ none ∷ []
-  -- two queries in one first_layer coset
+  -- two queries in one first-layer coset
   pub shared : numbers_of (answer_of_verdict (record { answer = answers.Refused (CosetShared 1); reads = 0 }))
       ≡ 17 ∷ 1 ∷ none ∷ 0 ∷ none ∷ []
   -- as many entries as the value says, from the place on, are what the lookup hands back

@@ -18,7 +18,7 @@ use Rattle.writer.specs.Written.{Written}
 use Rattle.fri.specs.Demand.{ValidCoset, ProverInput, LowDegree, ValidQueries, Apart, Any, Visits, Elements, Sound}
 
 -- a word of low degree over a valid coset, any challenges, two lent lists of the lengths due, and a valid query list
--- in which no two queries share a first_layer coset
+-- in which no two queries share a first-layer coset
 pub record Honest (run : Run) (queries : List ℕ) : Type 0 where
   pub coset : ValidCoset run
   pub input : ProverInput run
@@ -73,7 +73,7 @@ pub record Judging : Type 0 where
 abbrev pub Judged : (run : Run) (judging : Judging) → Type 0
 Judged run judging = judging.verdict ≡ verdict_of run judging.queries
 
--- the accepted ones together visit every first_layer coset
+-- the accepted ones together visit every first-layer coset
 abbrev pub VisitedByAccepted : (run : Run) (judgings : List Judging) → Type 0
 VisitedByAccepted run judgings =
     (coset : ℕ) → coset < 2 ^ (run.k - step_in run 0)

@@ -26,7 +26,7 @@ pub struct ProvedWrittenJudged {
 }
 
 // Proves, and judges what the two lent lists hold then, whatever the prover answered. Where the word has low degree,
-// the other input is valid and no two queries share a first_layer coset, it is proved and accepted.
+// the other input is valid and no two queries share a first-layer coset, it is proved and accepted.
 pub fn prove_and_judge(
     parameters: Parameters,
     offset: Element,
@@ -57,7 +57,7 @@ pub fn prove_and_judge(
 
 // Proves, writes what the two lent lists hold then as a transcript, and judges the bytes that list 8 holds then,
 // whatever prover and writer answered. Where the word has low degree, the other input is valid, no two queries share a
-// first_layer coset and list 8 has the needed length, it is proved, written and accepted.
+// first-layer coset and list 8 has the needed length, it is proved, written and accepted.
 pub fn prove_write_and_judge(
     parameters: Parameters,
     offset: Element,

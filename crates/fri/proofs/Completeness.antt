@@ -224,7 +224,7 @@ honest-elements run v p =
       last = honest_last-elements run v p;
     }
 
--- ---- one judging for each first_layer coset covers it
+-- ---- one judging for each first-layer coset covers it
 
 any_one : (P : List ℕ → Type 0) (f : ℕ → ℕ) (start count m : ℕ) → start ≤ m → m < start + count → P (f m ∷ [])
     → Any P (map (λ j. j ∷ []) (tabulated f start count))

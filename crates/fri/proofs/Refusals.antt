@@ -125,7 +125,7 @@ refusals =
           (checks.shared_refused run.k (step_in run 0) queries query v e);
     }
 
--- ---- queries that share a first_layer coset
+-- ---- queries that share a first-layer coset
 
 module _ (run : Run) (queries : List ℕ) (query : ℕ) where
   shared_of_checks : checks_outcome run queries ≡ Refused (CosetShared query) → SharedAt run queries query

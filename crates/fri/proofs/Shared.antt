@@ -1,4 +1,4 @@
--- Queries that share a first_layer coset: the place that is told is the first one, and none is told exactly where no
+-- Queries that share a first-layer coset: the place that is told is the first one, and none is told exactly where no
 -- two share one. Assumes nothing.
 use mathlib.Core.Path.{◌≡◌, refl, sym, ap, ◌∙◌, subst}
 use mathlib.Core.Logic.{◌≢◌, ◌⊎◌, inl, inr, ◌↔◌}

@@ -59,21 +59,21 @@ first_repeated_after earlier [] place = Absent
 first_repeated_after earlier (x ∷ entries) place =
     cond (among earlier x) (At place) (first_repeated_after (earlier ++ (x ∷ [])) entries (suc place))
 
--- the first_layer coset that each query visits, by its number: coset j / 2^η holds point j, where η, here `first_step`,
+-- the first-layer coset that each query visits, by its number: coset j / 2^η holds point j, where η, here `first_step`,
 -- is the step of round 0
 abbrev pub visited_cosets : (first_step : ℕ) (queries : List ℕ) → List ℕ
 visited_cosets first_step queries = map (λ j. j / 2 ^ first_step) queries
 
--- the first place, from 0, whose query lies in the first_layer coset of an earlier one
+-- the first place, from 0, whose query lies in the first-layer coset of an earlier one
 unfoldable pub first_shared : (first_step : ℕ) (queries : List ℕ) → Position
 first_shared first_step queries = first_repeated_after [] (visited_cosets first_step queries) 0
 
--- a query that shares a first_layer coset with an earlier one is refused (17)
+-- a query that shares a first-layer coset with an earlier one is refused (17)
 abbrev pub outcome_of_shared : (shared : Position) → Outcome
 outcome_of_shared (At query) = Refused (CosetShared query)
 outcome_of_shared Absent = Done
 
--- the indices of a query list: each below 2^k (10), then no two in one first_layer coset (17)
+-- the indices of a query list: each below 2^k (10), then no two in one first-layer coset (17)
 abbrev pub indices_outcome : (k first_step : ℕ) (queries : List ℕ) → Outcome
 indices_outcome k first_step queries =
     and_then (outcome_of_outside (first_outside (2 ^ k) queries 0)) (outcome_of_shared (first_shared first_step queries))

@@ -1,6 +1,6 @@
 -- Demand 3 over the definitions: every honest run of a word of low degree is accepted, with valid queries of which no
--- two share a first_layer coset; and what holds of the layers where the accepted judgings of them together visit every
--- first_layer coset.
+-- two share a first-layer coset; and what holds of the layers where the accepted judgings of them together visit every
+-- first-layer coset.
 -- proofs/Completeness.antt has a value of the first half, proofs/Soundness.antt of the second.
 use Rattle.std.specs.Prelude.{◌≡◌, ◌≢◌, ◌⊎◌, List, [], ◌∷◌, ℕ, suc, ◌+◌, ◌*◌, ◌-◌, ◌/◌, ◌^◌, ◌≤◌, ◌<◌, length}
 use Rattle.gf64.specs.Field.{IsElement}
@@ -53,7 +53,7 @@ pub record ValidQueries (k : ℕ) (queries : List ℕ) : Type 0 where
   pub most : length queries ≤ 256
   pub within : All (λ j. j < 2 ^ k) queries
 
--- no two queries share a first_layer coset; `first_step` is the step of round 0
+-- no two queries share a first-layer coset; `first_step` is the step of round 0
 abbrev pub Apart : (first_step : ℕ) (queries : List ℕ) → Type 0
 Apart first_step queries = Distinct (visited_cosets first_step queries)
 
@@ -66,19 +66,19 @@ Any P (x ∷ xs) = P x ⊎ Any P xs
 abbrev pub Accepted : (run : Run) (queries : List ℕ) → Type 0
 Accepted run queries = (verdict_of run queries).answer ≡ answers.Accepted
 
--- document 01's own term: a query list visits the first_layer cosets that hold the points of its indices;
+-- document 01's own term: a query list visits the first-layer cosets that hold the points of its indices;
 -- coset j / 2^η holds point j, by `NextCosets`, and the step of round 0 is η
 abbrev pub Visits : (run : Run) (queries : List ℕ) (coset : ℕ) → Type 0
 Visits run queries coset = Any (λ j. j / 2 ^ step_in run 0 ≡ coset) queries
 
--- the accepted ones of the query lists together visit every first_layer coset
+-- the accepted ones of the query lists together visit every first-layer coset
 abbrev pub Covered : (run : Run) (query_lists : List (List ℕ)) → Type 0
 Covered run query_lists =
     (coset : ℕ) → coset < 2 ^ (run.k - step_in run 0)
     → Any (λ queries. Accepted run queries × Visits run queries coset) query_lists
 
 -- demand 3, first half: every honest run of a word of low degree is accepted with every valid query list in which no
--- two queries share a first_layer coset, and queries · r · 2^η entries are read
+-- two queries share a first-layer coset, and queries · r · 2^η entries are read
 abbrev pub Completeness : Type 0
 Completeness =
     (run : Run) (queries : List ℕ) → ValidCoset run → ProverInput run → LowDegree run

@@ -135,7 +135,7 @@ pub record Fit (run : Run) : Type 0 where
   pub last : length run.last ≡ last_count run.k run.rate (steps_in run)
 
 -- the checks that prover and judge have in common, and those of the queries, pass exactly where parameters, lists,
--- basis and queries are valid, and no two queries share a first_layer coset
+-- basis and queries are valid, and no two queries share a first-layer coset
 pub record Passing : Type 0 where
   pub common : (run : Run)
       → (run_outcome run ≡ Done)
@@ -198,15 +198,15 @@ pub record Refusals : Type 0 where
   pub query_shared : (run : Run) (queries : List ℕ) (query : ℕ) → run_outcome run ≡ Done → ValidQueries run.k queries
       → first_shared (step_in run 0) queries ≡ At query → Tells (verdict_of run queries) 17 (At query) Absent 0
 
--- all checks of the run and of its queries pass but the last: this query is the first that shares a first_layer coset
+-- all checks of the run and of its queries pass but the last: this query is the first that shares a first-layer coset
 -- with an earlier one
 abbrev pub SharedAt : (run : Run) (queries : List ℕ) (query : ℕ) → Type 0
 SharedAt run queries query =
     (run_outcome run ≡ Done) × ValidQueries run.k queries × (first_shared (step_in run 0) queries ≡ At query)
 
--- queries that share a first_layer coset; `first_step` is the step of round 0
+-- queries that share a first-layer coset; `first_step` is the step of round 0
 pub record SharedCosets : Type 0 where
-  -- the place told is the first whose query lies in the first_layer coset of an earlier one
+  -- the place told is the first whose query lies in the first-layer coset of an earlier one
   pub found : (first_step : ℕ) (queries : List ℕ) (query : ℕ) → first_shared first_step queries ≡ At query
       → (query < length queries)
       × ((t : ℕ) × (t < query) × (get_or queries t 0 / 2 ^ first_step ≡ get_or queries query 0 / 2 ^ first_step))
@@ -222,7 +222,7 @@ pub record SharedCosets : Type 0 where
       → ((verdict_of run queries).answer ≡ answers.Refused (CosetShared query)) ↔ SharedAt run queries query
   -- no two queries of what is accepted share a coset: it visits as many as it has queries
   pub accepted : (run : Run) (queries : List ℕ) → Accepted run queries → Apart (step_in run 0) queries
-  -- and there are 2^(k - η) first_layer cosets
+  -- and there are 2^(k - η) first-layer cosets
   pub most : (k first_step : ℕ) (queries : List ℕ) → first_step ≤ k → ValidQueries k queries → Apart first_step queries
       → length queries ≤ 2 ^ (k - first_step)
 

@@ -16,7 +16,7 @@ use round_checks::QueryPoint;
 
 // The verdict on a run, with the entries read. Refused, in this order: parameters (4, 5, 6, 7), the lowest list whose
 // length is not the one due (13), a dependent basis (8), the number of queries (9), a query out of range (10), one that
-// shares a first_layer coset with an earlier one (17), and the first round check that fails (11).
+// shares a first-layer coset with an earlier one (17), and the first round check that fails (11).
 pub fn judge(
     parameters: Parameters,
     offset: Element,

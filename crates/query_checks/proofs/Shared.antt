@@ -1,4 +1,4 @@
--- The queries one after the other, up to the first that visits the first_layer coset of an earlier one. Assumes
+-- The queries one after the other, up to the first that visits the first-layer coset of an earlier one. Assumes
 -- nothing.
 use mathlib.Core.Path.{◌≡◌, sym, ap, ◌∙◌}
 use mathlib.Core.Logic.{◌≢◌}

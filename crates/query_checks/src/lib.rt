@@ -1,5 +1,5 @@
 // The checks of a query list: how many queries there are (9), that each index is below 2^k (10), and that no two
-// queries share a first_layer coset (17).
+// queries share a first-layer coset (17).
 #![tactic(auto)]
 
 ghost use Rattle.std.specs.Prelude.{◌≡◌, ◌&&◌, ◌≤◌, leb};
@@ -25,7 +25,7 @@ pub fn is_query_count(count: usize) -> bool
     1 <= count && count <= 256
 }
 
-// The indices of a query list: each below 2^k (10), then no two in one first_layer coset (17).
+// The indices of a query list: each below 2^k (10), then no two in one first-layer coset (17).
 pub fn checked_indices(k: usize, step: usize, queries: &[u64]) -> Outcome
     requires { (k ≤ 20) × (step ≤ 3) }
     ensures { result ≡ indices_outcome k step queries.now }
@@ -51,7 +51,7 @@ fn first_outside(size: usize, queries: &[u64]) -> Position
     Position::Absent
 }
 
-// No two queries share a first_layer coset (17).
+// No two queries share a first-layer coset (17).
 fn checked_apart(step: usize, queries: &[u64]) -> Outcome
     requires { step ≤ 3 }
     ensures { result ≡ outcome_of_shared (first_shared step queries.now) }
@@ -63,7 +63,7 @@ fn checked_apart(step: usize, queries: &[u64]) -> Outcome
     }
 }
 
-// The first query that lies in the first_layer coset of an earlier one. Each is compared with those before it: 256
+// The first query that lies in the first-layer coset of an earlier one. Each is compared with those before it: 256
 // queries take 32,640 comparisons, and no list of cosets is kept.
 fn first_shared(step: usize, queries: &[u64]) -> Position
     requires { step ≤ 3 }
@@ -80,7 +80,7 @@ fn first_shared(step: usize, queries: &[u64]) -> Position
     Position::Absent
 }
 
-// Whether one of the queries visits the first_layer coset of this number.
+// Whether one of the queries visits the first-layer coset of this number.
 fn visits(step: usize, queries: &[u64], coset: u64) -> bool
     requires { step ≤ 3 }
     ensures { result ≡ among (visited_cosets step queries.now) coset }

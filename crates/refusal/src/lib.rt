@@ -38,7 +38,7 @@ pub enum Cause {
     WrongLength { list: usize },
     // 14: the program's input has over 65,536 bytes
     InputTooLong,
-    // 17: two queries share a first_layer coset; the first query that lies in the coset of an earlier one
+    // 17: two queries share a first-layer coset; the first query that lies in the coset of an earlier one
     CosetShared { query: usize },
 }
 

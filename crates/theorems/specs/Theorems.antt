@@ -104,7 +104,7 @@ pub record Theorems : Type 1 where
   pub passing : fri.Passing
   -- and which are refused, by the first check that fails
   pub refusals : fri.Refusals
-  -- queries that share a first_layer coset (17)
+  -- queries that share a first-layer coset (17)
   pub shared_cosets : fri.SharedCosets
   -- the two values of a round check; acceptance and 11 by the first that fails
   pub round_checks : fri.RoundChecks
@@ -117,7 +117,7 @@ pub record Theorems : Type 1 where
   -- ---- demand 3
   -- demand 3, first half: every honest run of a word of low degree is accepted
   pub completeness : demand.Completeness
-  -- demand 3, second half: what accepted judgings that visit every first_layer coset show of layers from anybody
+  -- demand 3, second half: what accepted judgings that visit every first-layer coset show of layers from anybody
   pub soundness : demand.Soundness
   -- the bound on exceptional sets by itself
   pub few_exceptional : demand.FewExceptional
@@ -126,7 +126,7 @@ pub record Theorems : Type 1 where
   -- ---- transcripts
   -- judging bytes is judging the lists that they carry
   pub judging_bytes : transcript.JudgingBytes
-  -- queries that share a first_layer coset, over bytes
+  -- queries that share a first-layer coset, over bytes
   pub shared_in_bytes : transcript.SharedInBytes
   -- the longest transcript, and that more bytes change no verdict
   pub long_transcripts : transcript.LongTranscripts

@@ -53,7 +53,7 @@ pub record JudgingBytes : Type 0 where
   pub short : (bytes : List ℕ) → length bytes ≤ input_limit → input_verdict bytes ≡ transcript_verdict bytes
 
 -- number 17 over bytes: sections 1 to 3 pass, section 4 is there to its end with valid queries, and this one is the
--- first that shares a first_layer coset with an earlier one, whatever follows section 4
+-- first that shares a first-layer coset with an earlier one, whatever follows section 4
 abbrev pub SharedInBytes : Type 0
 SharedInBytes =
     (bytes : List ℕ) (query : ℕ)
@@ -122,7 +122,7 @@ pub record LongInputs : Type 0 where
   pub first : (bytes : List ℕ) (read : ℕ) → input_limit < read → input_verdict (take read bytes) ≡ input_verdict bytes
 
 -- demand 3, first half: bytes that carry an honest run of a word of low degree over an independent basis, and a valid
--- query list in which no two queries share a first_layer coset, are accepted, whatever the offset and the challenges,
+-- query list in which no two queries share a first-layer coset, are accepted, whatever the offset and the challenges,
 -- and queries · r · 2^η entries are read
 abbrev pub TranscriptCompleteness : Type 0
 TranscriptCompleteness =
@@ -139,7 +139,7 @@ TranscriptCompleteness =
 abbrev pub OfRun : (sent : Run) (bytes : List ℕ) → Type 0
 OfRun sent bytes = AreBytes bytes × (run_in bytes ≡ sent)
 
--- the accepted ones together visit every first_layer coset
+-- the accepted ones together visit every first-layer coset
 abbrev pub VisitedByTranscripts : (sent : Run) (transcripts : List (List ℕ)) → Type 0
 VisitedByTranscripts sent transcripts =
     (coset : ℕ) → coset < 2 ^ (sent.k - run.step_in sent 0)

@@ -36,7 +36,7 @@ pub fn transcript_length(parameters: Parameters, queries: usize) -> u64
 // The transcript of a run and its queries, section by section, into `bytes`, list 8. Any lists that pass the checks
 // are written, honest or not. Refused, in this order, as by the judge over lists: parameters (4, 5, 6, 7), the lowest
 // of lists 1 to 5 whose length is not the one due, then list 8 (13), a dependent basis (8), the number of queries (9),
-// a query out of range (10), two queries that share a first_layer coset (17). A refusal leaves every byte.
+// a query out of range (10), two queries that share a first-layer coset (17). A refusal leaves every byte.
 pub fn write(
     parameters: Parameters,
     offset: Element,

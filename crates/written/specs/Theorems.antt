@@ -123,7 +123,7 @@ pub record WrittenBytes : Type 0 where
   pub rewritten : (bytes held : List ℕ) → AreBytes bytes → transcript_outcome bytes ≡ Done → length held ≡ length bytes
       → (write_outcome (run_in bytes) (queries_in bytes) (length held) ≡ Done)
       × (bytes_after (run_in bytes) (queries_in bytes) held ≡ bytes)
-  -- an honest run and a valid query list in which no two queries share a first_layer coset are written, whatever the
+  -- an honest run and a valid query list in which no two queries share a first-layer coset are written, whatever the
   -- word's degree
   pub honest_done : (run : Run) (queries : List ℕ) → ValidCoset run → ProverInput run
       → ValidQueries run.k queries → Apart (step_in run 0) queries
