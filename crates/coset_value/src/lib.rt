@@ -15,7 +15,7 @@ ghost use Rattle.coset_value.specs.Cosets.{elements, numbers, coset_of, coset_re
 use field::Element;
 
 // Two, four or eight points, or one in the end, with the entries there; behind the count are zeros.
-#[derive(Drop)]
+#[derive(Clone, Copy)]
 pub struct Coset {
     pub points: [Element; 8],
     pub entries: [Element; 8],
