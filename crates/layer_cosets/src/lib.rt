@@ -11,7 +11,7 @@ ghost use Rattle.layer_cosets.specs.Cosets.{layer_coset_of, basis_of};
 use field::Element;
 
 // Offset and basis; zeros follow the basis.
-#[derive(Drop)]
+#[derive(Clone, Copy)]
 pub struct LayerCoset {
     pub offset: Element,
     pub basis: [u64; 20],
