@@ -56,7 +56,7 @@ module _ (run : Run) (queries : List ℕ) where
   abbrev pub from_last : List ℕ
   from_last = section_bytes run.last ++ []
 
-  abbrev parameters : Parameters
+  abbrev pub parameters : Parameters
   parameters = record { k = run.k; rate = run.rate; step = run.step }
 
   abbrev pub from_store : List ℕ

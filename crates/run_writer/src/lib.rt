@@ -3,7 +3,6 @@
 #![tactic(auto)]
 
 ghost use Rattle.std.specs.Prelude.{◌≡◌, ◌∷◌, ◌+◌, ◌*◌, ◌-◌, ◌≤◌, length};
-ghost use Rattle.fri.specs.Run.{Run};
 ghost use Rattle.fri.specs.Theorems.{Fit};
 ghost use Rattle.layout.specs.Parameters.{steps_by, Valid, run_of};
 ghost use Rattle.placing.specs.Put.{Put};
@@ -26,10 +25,10 @@ pub fn put_transcript(
     last: &[u64],
     bytes: &mut [u8],
 )
-    ghost run: { Run }
-    requires last_value { run_of parameters offset.0 basis.now challenges.now word.now store.now last.now ≡ run }
-    requires valid { Valid parameters × Fit run × (length bytes.old ≡ length (transcript_of run queries.now)) }
-    ensures { bytes.new ≡ transcript_of run queries.now }
+    requires { let run = run_of parameters offset.0 basis.now challenges.now word.now store.now last.now in
+        Valid parameters × Fit run × (length bytes.old ≡ length (transcript_of run queries.now)) }
+    ensures { let run = run_of parameters offset.0 basis.now challenges.now word.now store.now last.now in
+        bytes.new ≡ transcript_of run queries.now }
 {
     let numbers = [
         parameters.k as u64,
@@ -58,7 +57,7 @@ fn put_coset(offset: Element, basis: &[u64], at: usize, out: &mut [u8]) -> usize
 // The sections of layers 1 to r - 1.
 fn put_stored_layers(parameters: Parameters, store: &[u64], at: usize, out: &mut [u8]) -> usize
     requires valid { Valid parameters }
-    requires layers_in_bounds { let layers = stored_layers parameters store.now 1 (length (steps_by parameters) - 1) in
+    requires room { let layers = stored_layers parameters store.now 1 (length (steps_by parameters) - 1) in
         at + length (sections_bytes layers) ≤ length out.old }
     ensures { let layers = stored_layers parameters store.now 1 (length (steps_by parameters) - 1) in
         Put out.old at (sections_bytes layers) result out.new }
