@@ -13,7 +13,6 @@ use borrow.Author.Tests.{ltb-true, ne_eqb}
 use Rattle.gf64.specs.Field.{IsElement}
 use Rattle.poly.specs.Carrier.{gf64}
 use Rattle.poly.specs.Polynomial.{All, evaluate}
-use Rattle.coset.specs.Coset.{point}
 use Rattle.coset.proofs.Subspace.{cosets_of}
 use Rattle.fold.specs.Fold.{coset_entries, fold_entry}
 use Rattle.fold.specs.Theorems.{IsWord}

@@ -19,7 +19,7 @@ use layout::Parameters;
 // A round: the elements of its step's maps, their inverses, the span of the step's basis elements in point order, the
 // challenge, and where its layer and the next one begin in the store: the word, layer 0, is not there, and where
 // layer r would begin the store ends.
-#[derive(Drop)]
+#[derive(Clone, Copy)]
 pub struct Round {
     pub elements: [u64; 3],
     pub inverses: [u64; 3],
@@ -30,7 +30,7 @@ pub struct Round {
 }
 
 // A query's index in a layer, and the point there.
-#[derive(Drop)]
+#[derive(Clone, Copy)]
 pub struct QueryPoint {
     pub index: usize,
     pub point: Element,
