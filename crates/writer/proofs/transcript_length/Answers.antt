@@ -1,0 +1,48 @@
+-- `writer::transcript_length` meets its contract. Assumes nothing.
+use mathlib.Core.Path.{◌≡◌, refl, sym, ap₂, ◌∙◌}
+use mathlib.Core.Bool.{Bool, true, false, cond}
+use Prim.Native.Nat.{ℕ, ◌^◌}
+use lib.Dec.{ltb}
+use borrow.Author.Tests.{lt-ltb, le-ltb}
+use Rattle.refusal.specs.declared.Outcome.{Outcome}
+use Rattle.refusal.specs.declared.Outcome.TheVariants.{Done, Refused}
+use Rattle.fri.specs.Checks.{parameters_outcome}
+use Rattle.fri.proofs.Checks.{parameters_valid}
+use Rattle.layout.specs.declared.Parameters.{Parameters}
+use Rattle.layout.specs.Parameters.{steps_by}
+use Rattle.written.specs.Transcript.{transcript_length}
+use Rattle.writer.specs.Lengths.{or_zero, transcript_length_of}
+use Rattle.writer.proofs.transcript_length.Goals as goal
+
+-- what the two tests answer decides
+length-where : (p : Parameters) (queries : ℕ) (outcome : Outcome) (few : Bool)
+    → parameters_outcome p.k p.rate p.step ≡ outcome → ltb queries (2 ^ 60) ≡ few
+    → or_zero outcome (cond few (transcript_length p.k p.rate (steps_by p) queries) 0)
+    ≡ transcript_length_of p queries
+length-where p queries outcome few e f =
+    sym
+    (ap₂ (λ (o : Outcome) (t : Bool). or_zero o (cond t (transcript_length p.k p.rate (steps_by p) queries) 0)) e f)
+
+pub returns-then-queries-ge-LIST_LIMIT : goal.returns-then-queries-ge-LIST_LIMIT
+returns-then-queries-ge-LIST_LIMIT c =
+    let a = c.args in
+    length-where a.parameters a.queries Done false (sym c.in-Done.ensures)
+    (le-ltb a.queries (2 ^ 60) c.if-queries-ge-LIST_LIMIT.true)
+
+pub length_due-requires : goal.length_due-requires
+length_due-requires c =
+    let p = c.args.parameters in
+    (parameters_valid p.k p.rate p.step (sym c.in-Done.ensures), c.if-queries-ge-LIST_LIMIT.false)
+
+pub returns-else-queries-ge-LIST_LIMIT : goal.returns-else-queries-ge-LIST_LIMIT
+returns-else-queries-ge-LIST_LIMIT c =
+    let a = c.args in
+    c.length_due.ensures
+    ∙ length-where a.parameters a.queries Done true (sym c.in-Done.ensures)
+    (lt-ltb a.queries (2 ^ 60) c.if-queries-ge-LIST_LIMIT.false)
+
+pub returns-in-Refused : goal.returns-in-Refused
+returns-in-Refused c =
+    let a = c.args in
+    length-where a.parameters a.queries (Refused c.in-Refused.field-0) (ltb a.queries (2 ^ 60))
+    (sym c.in-Refused.ensures) refl
