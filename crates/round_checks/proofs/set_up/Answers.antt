@@ -1,4 +1,5 @@
--- `round_checks::set_up` meets its contract. Assumes nothing.
+-- `round_checks::set_up` meets its contract. The loop's invariant: i rounds stand in the table, and the coset and the
+-- start are layer i's. Assumes nothing.
 use Rattle.round_checks.proofs.Tables.{start_of_word, holds_next}
 use Rattle.round_checks.specs.Rounds.{round_over, round_at}
 use Rattle.layer_cosets.proofs.NextLayers.{basis_first, coset_next}

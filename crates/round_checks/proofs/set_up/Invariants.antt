@@ -1,4 +1,5 @@
--- `round_checks::set_up`: the loop's invariant: i rounds stand in the table, and the coset and the start are layer i's.
+-- `round_checks::set_up` meets its contract. The loop's invariant: i rounds stand in the table, and the coset and the
+-- start are layer i's. Assumes nothing.
 use Rattle.round_checks.specs.Rounds.{round_at, Holds}
 use Rattle.layer_cosets.specs.Cosets.{layer_coset_of}
 use Rattle.layout.specs.declared.Parameters.{Parameters}
