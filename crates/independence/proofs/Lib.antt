@@ -1,1 +1,2 @@
 mod FirstPlace
+pub mod Prefix

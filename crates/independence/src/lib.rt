@@ -22,6 +22,7 @@ pub fn checked_basis(basis: &[u64]) -> Outcome
 }
 
 // The first place whose element lies in the span of the earlier ones.
+#[tactic(auto, using(crate::proofs::Prefix::beyond_64, crate::proofs::Prefix::within_64))]
 fn first_dependent(basis: &[u64]) -> Position
     ensures { result ≡ first_dependent basis.now }
 {
