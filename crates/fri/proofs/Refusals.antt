@@ -18,7 +18,6 @@ use Rattle.refusal.specs.Numbers.{number_of, place_of, round_of, number_of_outco
 use Rattle.refusal.proofs.Checks.{then_passed, then_refused, which, number_then}
 use Rattle.coset.specs.Span.{first_dependent}
 use Rattle.coset.specs.Answers.{outcome_of_basis, basis_outcome}
-use Rattle.fri.specs.Layout.{dimension}
 use Rattle.fri.specs.Run.{Run, step_in}
 use Rattle.fri.specs.declared.Answer.TheVariants as answers
 use Rattle.fri.specs.Checks.{parameters_outcome, lengths_outcome, run_outcome, queries_outcome}

@@ -11,7 +11,7 @@ use Rattle.refusal.specs.declared.Cause.TheVariants.{RoundCheckFails}
 use Rattle.refusal.specs.declared.Outcome.TheVariants.{Done, Refused}
 use Rattle.refusal.specs.declared.Position.TheVariants.{At, Absent}
 use Rattle.refusal.specs.Numbers.{number_of, number_of_outcome}
-use Rattle.refusal.proofs.Checks.{refused_by, number_then}
+use Rattle.refusal.proofs.Checks.{number_then}
 use Rattle.fri.specs.declared.Answer.TheVariants as answers
 use Rattle.fri.specs.Layout.{dimension, index_in}
 use Rattle.fri.specs.Run.{Run, steps_in, step_in, rounds_in, layer_in}

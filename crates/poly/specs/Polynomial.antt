@@ -1,5 +1,5 @@
 -- Polynomials over a carrier: a polynomial is the list of its coefficients, constant first.
-use Rattle.std.specs.Prelude.{◌≡◌, ◌≢◌, List, [], ◌∷◌, ◌++◌, map, ℕ, zero, ◌-◌, length, drop, replicate}
+use Rattle.std.specs.Prelude.{◌≡◌, ◌≢◌, List, [], ◌∷◌, ◌++◌, map, ℕ, ◌-◌, length, drop, replicate}
 use Rattle.poly.specs.Carrier.{Operations}
 
 -- P holds of every entry

@@ -1,7 +1,6 @@
 -- `carryless::times4` meets its contract: the entries are the multiples. Assumes nothing.
 use mathlib.Core.Path.{ap₂}
 use lib.Bits.{bit_xor}
-use borrow.Author.Rules.{rules}
 use Rattle.carryless.proofs.times4.Goals as goal
 
 pub returns : goal.returns

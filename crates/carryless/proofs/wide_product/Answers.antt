@@ -1,5 +1,4 @@
 -- `carryless::wide_product` meets its contract. Assumes nothing.
-use borrow.Author.Rules.{rules}
 use Prim.Native.Nat.{◌/◌, ◌%◌, ◌^◌}
 use Rattle.carryless.proofs.Schoolbook.{schoolbook}
 use Rattle.carryless.proofs.wide_product.Goals as goal

@@ -1,5 +1,4 @@
 -- `carryless::wide_square` meets its contract: the squares of the halves make the square. Assumes nothing.
-use borrow.Author.Rules.{rules}
 use Rattle.carryless.proofs.Squares.{halves_square}
 use Rattle.carryless.proofs.wide_square.Goals as goal
 

@@ -1,11 +1,10 @@
 -- `carryless::window` meets its contract. The loop's invariant: the entries below n are the multiples; entry n
 -- comes from entry n / 2 by the step of the product. Assumes nothing.
-use mathlib.Core.Path.{◌≡◌, refl}
-use Prim.Native.Nat.{ℕ, ◌-◌, ◌/◌, ◌≤◌, ◌<◌}
+use mathlib.Core.Path.{refl}
+use Prim.Native.Nat.{◌/◌}
 use native.Mathlib.Omega.{arith}
-use lib.ListN.{length, get_or, length-set, replicate}
+use lib.ListN.{length-set, replicate}
 use borrow.Author.Rules.{rules}
-use Rattle.gf64.specs.Polynomial.{carryless}
 use Rattle.carryless.proofs.Multiples.{first_multiple, next_multiple, half_multiple_lt}
 use Rattle.carryless.proofs.window.Goals as goal
 

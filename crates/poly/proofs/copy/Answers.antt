@@ -1,10 +1,10 @@
 -- `poly::copy` meets its contract. The loop's invariant: i entries are copied, the others as
 -- they were. Assumes nothing.
-use Rattle.poly.proofs.Filling.{filled, filled_start, front_next, front_done}
+use Rattle.poly.proofs.Filling.{filled_start, front_next, front_done}
 use lib.ListN.{length, get_or, drop, set, length-set}
-use Prim.Native.Nat.{ℕ, ◌-◌, ◌≤◌}
+use Prim.Native.Nat.{ℕ}
 use mathlib.Core.List.{List, ◌++◌}
-use mathlib.Core.Path.{◌≡◌, refl, ap, ◌∙◌}
+use mathlib.Core.Path.{refl, ap, ◌∙◌}
 use borrow.Author.Rules.{rules}
 use native.Mathlib.Omega.{arith}
 use Rattle.poly.proofs.copy.Goals as goal

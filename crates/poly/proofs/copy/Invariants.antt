@@ -1,19 +1,15 @@
 -- `poly::copy` meets its contract. The loop's invariant: i entries are copied, the others as
 -- they were. Assumes nothing.
-use Rattle.poly.proofs.Filling.{filled, filled_start, front_next, front_done}
-use lib.ListN.{length, get_or, drop, set, length-set}
-use Prim.Native.Nat.{ℕ, ◌-◌, ◌≤◌}
-use mathlib.Core.List.{List, ◌++◌}
-use mathlib.Core.Path.{◌≡◌, refl, ap, ◌∙◌}
-use borrow.Author.Rules.{rules}
-use native.Mathlib.Omega.{arith}
+use Rattle.poly.proofs.Filling.{filled}
+use lib.ListN.{length, drop}
+use Prim.Native.Nat.{◌-◌, ◌≤◌}
+use mathlib.Core.List.{◌++◌}
+use mathlib.Core.Path.{◌≡◌}
 use Rattle.poly.proofs.copy.Given as goal
 
 abbrev pub invariant-loop-i : goal.invariant-loop-i
 invariant-loop-i l =
     (l.i ≤ length l.from) × (length l.to ≡ length l.initial.to) × (l.to ≡ filled (l.from ++ drop (length l.from) l.initial.to) l.initial.to l.i)
 
-
 abbrev pub decreases-loop-i : goal.decreases-loop-i
 decreases-loop-i l = length l.from - l.i
-

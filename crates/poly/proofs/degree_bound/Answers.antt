@@ -1,7 +1,6 @@
 -- `poly::degree_bound` meets its contract. The loop's invariant: the degree is below the bound. Assumes nothing.
 use Rattle.poly.proofs.Degree.{bound_falls, bound_least, bound_within}
 use Rattle.poly.specs.Degree.{degree_bound}
-use lib.ListN.{length}
 use Prim.Native.Nat.{suc, ◌-◌, ◌≤◌}
 use mathlib.Core.Path.{◌≡◌, sym, ◌∙◌}
 use borrow.Author.Rules.{rules}

@@ -1,13 +1,11 @@
 -- `poly::evaluate` meets its contract. The loop's invariant: the value is that of the coefficients
 -- from i on. Assumes nothing.
-use mathlib.Core.Path.{◌≡◌, ap, ◌∙◌}
-use Prim.Native.Nat.{◌-◌, ◌≤◌}
+use mathlib.Core.Path.{ap, ◌∙◌}
+use Prim.Native.Nat.{◌-◌}
 use borrow.Author.Rules.{rules}
 use native.Mathlib.Omega.{arith}
-use lib.ListN.{length, drop, get_or}
-use Rattle.gf64.specs.Field.{sum, product}
-use Rattle.poly.specs.Carrier.{gf64}
-use Rattle.poly.specs.Polynomial.{evaluate}
+use lib.ListN.{get_or}
+use Rattle.gf64.specs.Field.{sum}
 use Rattle.poly.proofs.Horner.{horner_end, horner_step, horner_start}
 use Rattle.poly.proofs.evaluate.Goals as goal
 

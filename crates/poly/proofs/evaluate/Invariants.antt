@@ -1,21 +1,15 @@
 -- `poly::evaluate` meets its contract. The loop's invariant: the value is that of the coefficients
 -- from i on. Assumes nothing.
-use mathlib.Core.Path.{◌≡◌, ap, ◌∙◌}
-use Prim.Native.Nat.{◌-◌, ◌≤◌}
-use borrow.Author.Rules.{rules}
-use native.Mathlib.Omega.{arith}
-use lib.ListN.{length, drop, get_or}
-use Rattle.gf64.specs.Field.{sum, product}
+use mathlib.Core.Path.{◌≡◌}
+use Prim.Native.Nat.{◌≤◌}
+use lib.ListN.{length, drop}
 use Rattle.poly.specs.Carrier.{gf64}
 use Rattle.poly.specs.Polynomial.{evaluate}
-use Rattle.poly.proofs.Horner.{horner_end, horner_step, horner_start}
 use Rattle.poly.proofs.evaluate.Given as goal
 
 abbrev pub invariant-loop-i : goal.invariant-loop-i
 invariant-loop-i l =
     (l.i ≤ length l.coefficients) × (l.value.0 ≡ evaluate gf64 (drop l.i l.coefficients) l.x.0)
 
-
 abbrev pub decreases-loop-i : goal.decreases-loop-i
 decreases-loop-i l = l.i
-

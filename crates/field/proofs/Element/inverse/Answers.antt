@@ -2,7 +2,6 @@
 -- nothing.
 use mathlib.Core.Path.{refl, sym, ap, ◌∙◌}
 use native.Mathlib.Omega.{arith}
-use borrow.Author.Rules.{rules}
 use Rattle.gf64.specs.Field.{product, inverse}
 use Rattle.gf64.proofs.Inverse.{inverse_right, inverse-zero}
 use Rattle.field.proofs.Ones.{ones_first, ones_join, ones_last}

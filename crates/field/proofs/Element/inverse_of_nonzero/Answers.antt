@@ -1,5 +1,4 @@
 -- `field::Element::inverse_of_nonzero` meets its contract. Assumes nothing.
-use borrow.Author.Rules.{rules}
 use Rattle.field.proofs.Element.inverse_of_nonzero.Goals as goal
 
 pub returns : goal.returns

@@ -1,6 +1,5 @@
 -- `field::Element::product` meets its contract: t^64 reduced is the reduction constant. Assumes nothing.
 use mathlib.Core.Path.{sym}
-use borrow.Author.Rules.{rules}
 use Rattle.gf64.proofs.Remainder.{remainder_t64}
 use Rattle.field.proofs.Element.product.Goals as goal
 

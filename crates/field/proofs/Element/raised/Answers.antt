@@ -1,7 +1,6 @@
 -- `field::Element::raised` meets its contract. Assumes nothing.
 use mathlib.Core.Path.{ap, ◌∙◌}
 use Prim.Native.Nat.{ℕ}
-use borrow.Author.Rules.{rules}
 use Rattle.gf64.specs.Field.{product}
 use Rattle.field.proofs.Element.raised.Goals as goal
 

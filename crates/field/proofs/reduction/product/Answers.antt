@@ -1,6 +1,5 @@
 -- `field::reduction::product` meets its contract: the polynomial product, reduced. Assumes nothing.
 use mathlib.Core.Path.{ap, ◌∙◌}
-use borrow.Author.Rules.{rules}
 use Rattle.gf64.specs.Polynomial.{remainder}
 use Rattle.gf64.specs.Field.{product}
 use Rattle.field.proofs.reduction.product.Goals as goal

@@ -1,6 +1,5 @@
 -- `field::reduction::square` meets its contract: the polynomial square, reduced. Assumes nothing.
 use mathlib.Core.Path.{ap, ◌∙◌}
-use borrow.Author.Rules.{rules}
 use Rattle.gf64.specs.Polynomial.{remainder}
 use Rattle.gf64.specs.Field.{product}
 use Rattle.field.proofs.reduction.square.Goals as goal

@@ -1,8 +1,7 @@
 -- `field::reduction::times_reduction` meets its contract. The loop's invariant: w is the product by the i low bits of
 -- the reduction constant. Assumes nothing.
 use mathlib.Core.Path.{◌≡◌, sym, ap, ◌∙◌}
-use mathlib.Core.Logic.{⊎_elim}
-use Prim.Native.Nat.{ℕ, ◌-◌, ◌%◌, ◌^◌, ◌≤◌}
+use Prim.Native.Nat.{ℕ, ◌%◌, ◌^◌}
 use native.Mathlib.Omega.{arith}
 use borrow.Author.Rules.{rules}
 use Rattle.gf64.specs.Polynomial.{carryless, reduction}
@@ -20,11 +19,13 @@ loop-i-preserved c =
     let a = c.args.a in
     let i = c.loop-i.i in
     let w = c.loop-i.w in
-    let inv = c.loop-i.invariant.1 in
-    (omega arith,
+    let inv = c.loop-i.invariant.1 in (
+      omega arith,
       elim c.if-i-eq1.branch [
-          then-i-eq1 k ↦ ap wide_of k.w-is ∙ k.plus_shifted-w.ensures ∙ bit_set reduction i a (wide_of w) k.if-i-eq1.true inv
-        | else-i-eq1 k ↦ ap wide_of k.w-is ∙ bit_clear reduction i a (wide_of w) (omega (arith, k.if-i-eq1.false)) inv ])
+        | then-i-eq1 k ↦ ap wide_of k.w-is ∙ k.plus_shifted-w.ensures ∙ bit_set reduction i a (wide_of w) k.if-i-eq1.true inv
+        | else-i-eq1 k ↦ ap wide_of k.w-is ∙ bit_clear reduction i a (wide_of w) (omega (arith, k.if-i-eq1.false)) inv
+      ],
+    )
 
 pub returns : goal.returns
 returns c =
