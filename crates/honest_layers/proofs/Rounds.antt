@@ -4,10 +4,11 @@ use mathlib.Core.List.{List, ◌++◌}
 use Prim.Native.Nat.{ℕ, zero, suc, ◌-◌, ◌^◌, ◌≤◌, ◌<◌}
 use native.Mathlib.Nat.{le_of_eq}
 use native.Mathlib.Omega.{arith}
-use lib.ListN.{length, take, drop}
+use lib.ListN.{length, get_or, take, drop}
 use lib.Seq.{length-take-le, take-add, take_all, drop_at}
 use Rattle.gf64.specs.Field.{IsElement}
 use Rattle.poly.specs.Polynomial.{All}
+use Rattle.coset.proofs.Points.{all_elements}
 use Rattle.coset.specs.Span.{Independent}
 use Rattle.coset.specs.Subspace.{next_offset, next_basis}
 use Rattle.fold.specs.Fold.{folded}
@@ -24,7 +25,7 @@ use Rattle.layer_cosets.specs.Cosets.{layer_coset_of, basis_of}
 use Rattle.layout.proofs.Sizes.{start_of_first, store_length_is}
 use Rattle.layer_cosets.proofs.LayerCosets.{basis_of_coset}
 use Rattle.layer_cosets.proofs.NextLayers.{basis_next, offset_next}
-use Rattle.honest_layers.specs.Folds.{fold_over}
+use Rattle.honest_layers.specs.Folds.{fold_over, LayerAt}
 use Rattle.honest_layers.specs.Input.{input_of, Passed, coset_in, layer_from}
 
 -- any offset and a basis that passed are a coset
@@ -39,6 +40,19 @@ valid_input p offset offset' basis challenges word stored passed o b =
       basis_count = passed.basis;
       independent = passed.independent;
     }
+
+-- what is known of the input, by the run that it is
+module _ (p : Parameters) (offset : ℕ) (basis challenges word : List ℕ) (run : Run) (stored : ℕ)
+    (is : input_of p offset basis challenges word ≡ run) (known : Passed run stored) where
+  abbrev input : Run
+  input = input_of p offset basis challenges word
+
+  pub passed_input : Passed input stored
+  passed_input = subst (λ (r : Run). Passed r stored) (sym is) known
+
+  pub input_valid : offset < 2 ^ 64 → ((j : ℕ) → get_or basis j 0 < 2 ^ 64) → ValidCoset input
+  input_valid o b =
+      valid_input p offset offset basis challenges word stored passed_input o (all_elements basis b)
 
 module _ (run : Run) where
   abbrev p : Parameters
@@ -91,6 +105,18 @@ module _ (run : Run) where
 
       pub coset_independent : Independent (basis_of coset)
       coset_independent = subst Independent (sym coset_basis) (layer_basis_independent run v i)
+
+      -- the coset is that of layer i, and word and store have their lengths
+      pub layer_at : (stored : ℕ) → Passed run stored → (store : List ℕ)
+          → length store ≡ store_length run.k (steps_in run) → LayerAt p coset i run.word store
+      layer_at stored known store kept =
+          record {
+            parameters = known.parameters;
+            dimension_is = coset_dimension;
+            independent = coset_independent;
+            word_fits = known.word;
+            store_fits = kept;
+          }
 
   -- ---- the layers in the store
 
