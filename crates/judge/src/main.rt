@@ -9,8 +9,8 @@ ghost use Rattle.input.specs.Reading.{Over, Prints};
 ghost use Rattle.judge.specs.Printed.{verdict_lines};
 
 use input::Reading;
-use libc::STDOUT_FILENO;
 use report::Text;
+use std::io::{Print, Stdout};
 
 // What is printed. The list has room for the limit and one byte more.
 fn answer(input: &[u8], reading: Reading) -> Text
@@ -28,21 +28,19 @@ fn answer(input: &[u8], reading: Reading) -> Text
     report::lines(reader::judge_input(&input[..count]))
 }
 
-// The lines again, which the contract holds to those of the whole input.
-fn printed<'a>(lines: &'a [u8], input: &[u8], reading: Reading) -> &'a [u8]
+// The one place that prints. The input is handed over so that the contract can say which lines these are.
+fn print(stdout: Stdout, lines: &[u8], input: &[u8], reading: Reading)
     requires { Prints verdict_lines reading input.now lines.now }
-    ensures { result.now ≡ lines.now }
 {
-    lines
+    let _written = stdout.write_all(lines);
 }
 
-// To be read here, since no contract can say it: the reading is what `read` answered, and what is printed is what
-// `printed` hands back, once.
-fn main() {
+// To be read here, since no contract can say it: the reading is what `read` answered, and it is printed once.
+fn main(rt: HostRuntime) {
     let mut input = [0u8; 65537];
-    let reading = input::read(&mut input);
+    let reading = input::read(rt.stdin(), &mut input);
     let text = answer(&input, reading);
     let bytes = text.bytes;
     let length = text.length;
-    io::write_all(STDOUT_FILENO, printed(&bytes[..length], &input, reading));
+    print(rt.stdout(), &bytes[..length], &input, reading);
 }

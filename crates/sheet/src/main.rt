@@ -9,7 +9,7 @@ ghost use Rattle.sheet_text.specs.Sheet.{sheet_of, largest_sheet};
 ghost use Rattle.input.specs.Reading.{Over, Prints};
 
 use input::Reading;
-use libc::STDOUT_FILENO;
+use std::io::{Print, Stdout};
 
 // What is printed, at the front of the second list, and its length. The first list has room for the limit and one byte
 // more, the second for the largest sheet of any transcript.
@@ -26,20 +26,18 @@ fn answer(input: &[u8], reading: Reading, out: &mut [u8]) -> usize
     marking::sheet_input(&input[..count], out)
 }
 
-// The lines again, which the contract holds to those of the whole input.
-fn printed<'a>(lines: &'a [u8], input: &[u8], reading: Reading) -> &'a [u8]
+// The one place that prints. The input is handed over so that the contract can say which lines these are.
+fn print(stdout: Stdout, lines: &[u8], input: &[u8], reading: Reading)
     requires { Prints sheet_of reading input.now lines.now }
-    ensures { result.now ≡ lines.now }
 {
-    lines
+    let _written = stdout.write_all(lines);
 }
 
-// To be read here, since no contract can say it: the reading is what `read` answered, and what is printed is what
-// `printed` hands back, once.
-fn main() {
+// To be read here, since no contract can say it: the reading is what `read` answered, and it is printed once.
+fn main(rt: HostRuntime) {
     let mut input = [0u8; 65537];
-    let reading = input::read(&mut input);
+    let reading = input::read(rt.stdin(), &mut input);
     let mut out = [0u8; 272384];
     let length = answer(&input, reading, &mut out);
-    io::write_all(STDOUT_FILENO, printed(&out[..length], &input, reading));
+    print(rt.stdout(), &out[..length], &input, reading);
 }
