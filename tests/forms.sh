@@ -1,46 +1,77 @@
-# For tests/divisions, tests/system_calls and tests/local_lists, which read the compiler's form of crates (`rt mir`): a
-# folder for the script's files, and the forms. FORMS is the folder in which ./test has them keep forms, since they read
-# the same; one that lies there is not made again.
+# For tests/divisions, tests/system_calls and tests/local_lists, which read the compiler's forms of crates: a folder for
+# the script's files, and the forms, as tests/forms.py has them. FORMS is the folder in which ./test has them keep
+# forms, since they read the same; one that lies there is not made again.
 script=$(basename "$0")
 tests=$(cd "$(dirname "${BASH_SOURCE[0]}")" && pwd)
 work=$(mktemp -d)
 trap 'rm -rf "$work"' EXIT
 forms=${FORMS:-$work/forms}
+source "$tests/../tools/built.sh"
 
 failed() {
     echo "$script: $1" >&2
     exit 1
 }
 
-# Makes $forms/CRATE: the compiler's form of a crate of the repository in which we are, and of all that it calls in
-# crates below. rt proves those first where they are not proved.
-make_form() {
-    [ ! -s "$forms/$1" ] || return 0
-    mkdir -p "$forms"
-    rt mir "$1" >"$work/said" 2>&1 || { cat "$work/said" >&2 && failed "rt mir $1"; }
-    grep '^program ' "$work/said" >"$forms/$1" || failed "rt mir $1 prints no program"
+# The crates of the repository in which we are that have functions.
+with_functions() {
+    grep -rlw fn --include='*.rt' crates/*/src | cut -d / -f 2 | sort -u
 }
 
-# The crates that no other names, of those in the repository in which we are.
+# The crates that no other names.
 topmost() {
     sed 's/#.*//' crates.txt | awk -F : '
-        NF > 1 { crates[++count] = $1; named = named " " $2 " " }
+        NF > 1 { split($1, words, " "); crates[++count] = words[1]; named = named " " $2 " " }
         END { for (i = 1; i <= count; i++) if (!index(named, " " crates[i] " ")) print crates[i] }'
 }
 
-# The crates whose sources have another number of words `fn` than the forms have functions of theirs. Each function has
-# its word, so that of the other crates none is missing; a word in a comment costs no more than a form.
-unread() {
-    grep -oh '(fn-def "[^"]*' "$forms"/* | sort -u | sed 's/.*"//; s/::.*//' | uniq -c | sort >"$work/read"
-    grep -row fn --include='*.rt' crates | cut -d / -f 2 | sort | uniq -c | sort | comm -13 "$work/read" - |
-        awk '{ print $2 }'
+is_library() {
+    [ -f "crates/$1/src/lib.rt" ] && ! grep -q "^$1 staticlib" crates.txt
 }
 
-# Makes the forms that have every function of every crate, also one that nothing calls.
+# Has rt prove and build a crate, $1, and all below it, where rt ci has not just done that.
+prove() {
+    local command=check
+    over_proved "$1" && { ! is_library "$1" || [ -f "$(rlib_of "$1")/format" ]; } && return
+    ! is_library "$1" || command=lib
+    (cd "crates/$1" && rt "$command") >"$work/said" 2>&1 || { cat "$work/said" >&2 && failed "rt $command of $1"; }
+}
+
+# The form of a library is in what rt builds of it. Of a static library or a program rt keeps none: its form is made
+# here of its text as a library, in which main has another name.
+mir_of() {
+    if is_library "$1"; then
+        cat "$(rlib_of "$1")/toolchain/mir.json"
+        return
+    fi
+    mkdir -p "$work/$1/src"
+    cp -r "crates/$1"/{src,specs,proofs} "$work/$1" 2>/dev/null || true
+    [ ! -f "$work/$1/src/main.rt" ] || sed 's/^fn main(/fn main_of_library(/' "$work/$1/src/main.rt" >"$work/$1/src/lib.rt"
+    rm -f "$work/$1/src/main.rt"
+    build "$1" "$work/$1/src/lib.rt" --statements -o "$work/$1/rlib" >"$work/said" 2>&1 ||
+        { cat "$work/said" >&2 && failed "the form of $1"; }
+    cat "$work/$1/rlib/toolchain/mir.json"
+}
+
+# Makes $forms/CRATE, the form of a crate, of those proved and built.
+make_form() {
+    [ ! -s "$forms/$1" ] || return 0
+    mkdir -p "$forms"
+    mir_of "$1" >"$work/mir" && python3 "$tests/forms.py" "$work/mir" | sed 's/main_of_library/main/' >"$work/form"
+    [ "$(grep -c '^function' "$work/form")" -ge "$(grep -rhow fn --include='*.rt' "crates/$1/src" | wc -l)" ] ||
+        failed "the form of $1 lacks functions"
+    mv "$work/form" "$forms/$1"
+}
+
+# Makes the forms of all crates, with every function of each.
 make_forms() {
     local crate
-    for crate in $(topmost); do
-        ! grep -rqw fn --include='*.rt' "crates/$crate/src" || make_form "$crate"
-    done
-    for crate in $(unread); do make_form "$crate"; done
+    for crate in $(topmost); do prove "$crate"; done
+    for crate in $(with_functions); do make_form "$crate"; done
+}
+
+# The form of a crate, $1, with those of all crates below it.
+form_with_below() {
+    local crate
+    for crate in "$1" $(below "$1"); do [ ! -f "$forms/$crate" ] || cat "$forms/$crate"; done
 }
