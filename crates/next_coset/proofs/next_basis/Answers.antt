@@ -4,8 +4,6 @@ use Rattle.coset.proofs.Points.{all_elements}
 use lib.Seq.{length-take-le}
 use lib.ListN.{length, drop, length-drop}
 use Prim.Native.Nat.{◌-◌}
-use mathlib.Core.Path.{◌≡◌, sym}
-use borrow.Author.Rules.{rules}
 use native.Mathlib.Omega.{arith}
 use Rattle.next_coset.proofs.next_basis.Goals as goal
 
