@@ -6,14 +6,13 @@ use native.Mathlib.Omega.{arith}
 use Rattle.list_inverse.proofs.Blocks.{InvertedFrom, inverted_start, past_a_zero, past_an_element, inverted_end}
 use Rattle.list_inverse.proofs.divide_back.Goals as goal
 
+-- the element that is turned to
 one-back : (elements : List ℕ) (n : ℕ) (block : List ℕ) (rest : ℕ) → 0 < n → InvertedFrom elements n block rest
     → InvertedFrom elements (suc (n - 1)) block rest
 one-back elements n block rest h = subst (λ (m : ℕ). InvertedFrom elements m block rest) (omega arith)
 
 pub loop-i-init : goal.loop-i-init
 loop-i-init c = inverted_start c.args.block.now c.args.rest c.requires.2
-
--- the element that is turned to
 
 pub loop-i-preserved-then-x-ne0 : goal.loop-i-preserved-then-x-ne0
 loop-i-preserved-then-x-ne0 c =

@@ -1,4 +1,7 @@
-use mathlib.Core.Path.{◌≡◌, refl, sym, ap, ◌∙◌}
+use mathlib.Core.Logic.{◌≢◌}
+use mathlib.Core.List.{List}
+use Prim.Native.Nat.{ℕ, ◌+◌}
+use mathlib.Core.Path.{◌≡◌, refl, ap, ◌∙◌}
 use Prim.Native.Nat.{ℕ}
 use native.Mathlib.Numerals.{add-one}
 use lib.ListN.{length, get_or, length-set}
@@ -10,7 +13,14 @@ use Rattle.list_inverse.proofs.Blocks.{product_start}
 use borrow.Author.Rules.{rules}
 use native.Mathlib.Omega.{arith}
 use Rattle.list_inverse.proofs.products_before.Goals as goal
-use Rattle.list_inverse.proofs.products_before.Goals.{then-factor-ne0, else-factor-ne0}
+
+past_zero_next : (elements : List ℕ) (n : ℕ) → get_or elements n 0 ≡ 0
+    → nonzero_product elements (n + 1) ≡ nonzero_product elements n
+past_zero_next elements n e = ap (nonzero_product elements) (add-one n) ∙ past_zero elements n e
+
+past_nonzero_next : (elements : List ℕ) (n : ℕ) → get_or elements n 0 ≢ 0
+    → nonzero_product elements (n + 1) ≡ product (nonzero_product elements n) (get_or elements n 0)
+past_nonzero_next elements n e = ap (nonzero_product elements) (add-one n) ∙ past_nonzero elements n e
 
 pub loop-i-init : goal.loop-i-init
 loop-i-init c =
@@ -19,16 +29,10 @@ loop-i-init c =
 pub loop-i-preserved : goal.loop-i-preserved
 loop-i-preserved c =
     let block = c.args.block.now in
-    let l = c.loop-i in
-    let one_more = ap (nonzero_product block) (sym (add-one l.i)) in (
+    let l = c.loop-i in (
       search rules,
       length-set l.before l.i l.product ∙ l.invariant.1,
-      elim c.if-factor-ne0.branch [
-        | then-factor-ne0 k ↦ k.product-is ∙ k.product-product.ensures
-            ∙ ap (λ (p : ℕ). product p (get_or block l.i 0)) l.invariant.2
-            ∙ sym (past_nonzero block l.i k.if-factor-ne0.true) ∙ one_more
-        | else-factor-ne0 k ↦ k.product-is ∙ l.invariant.2 ∙ sym (past_zero block l.i k.if-factor-ne0.false) ∙ one_more
-      ],
+      grind (arith, past_zero_next, past_nonzero_next),
       entries_next 0 l.before (nonzero_product block) l.i l.product (omega (arith, c.requires, l.invariant.1))
           l.invariant.3 l.invariant.2,
     )
