@@ -69,6 +69,7 @@ fn scale_runs(lower: usize, upper: usize, r: Element, slice: &mut [u64])
 
 // Exchanges quarters in the slice of 2^upper runs of 2^lower entries, and then in its halves, as long as they have four
 // runs or more.
+#[tactic(auto, using(transform::proofs::Recursion::regrouped_few))]
 fn regroup(lower: usize, upper: usize, slice: &mut [u64])
     requires { length slice.old ≡ 2 ^ (upper + lower) }
     ensures { slice.new ≡ regrouped lower upper slice.old }

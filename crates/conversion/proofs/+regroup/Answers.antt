@@ -6,14 +6,11 @@ use Prim.Native.Nat.{ℕ, ◌-◌, ◌/◌}
 use lib.ListN.{length, take, drop, length-drop}
 use lib.Seq.{length-take-le}
 use Rattle.transform.specs.Transform.{regrouped}
-use Rattle.transform.proofs.Recursion.{back_half, halves_changed, regrouped_few, four_divides, half_length}
+use Rattle.transform.proofs.Recursion.{back_half, halves_changed, four_divides, half_length}
 use Rattle.transform.proofs.Recursion.{even_length, regrouped_next}
 use borrow.Author.Rules.{rules}
 use native.Mathlib.Omega.{arith}
 use Rattle.conversion.proofs.+regroup.Goals as goal
-
-pub returns-then-upper-lt2 : goal.returns-then-upper-lt2
-returns-then-upper-lt2 t c = regrouped_few c.args.lower c.args.upper c.args.slice.now (omega arith)
 
 pub quarters-requires : goal.quarters-requires
 quarters-requires t c =
