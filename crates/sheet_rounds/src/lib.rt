@@ -3,7 +3,6 @@
 
 ghost use Rattle.std.specs.Prelude.{◌≡◌, ◌≤◌, length};
 ghost use Rattle.refusal.specs.declared.Outcome.TheVariants as outcomes;
-ghost use Rattle.fri.specs.Run.{Run};
 ghost use Rattle.fri.specs.Judge.{checks_outcome};
 ghost use Rattle.placing.specs.Put.{Put};
 ghost use Rattle.sheet_text.specs.Sheet.{sheet_lines};
@@ -26,12 +25,14 @@ pub fn put_lines(
     last: &[u64],
     out: &mut [u8],
 ) -> usize
-    ghost run: { Run }
-    requires last_value { sent_in parameters offset.0 basis.now challenges.now bytes.now last.now ≡ run }
-    requires queries_value { checks_outcome run queries.now ≡ outcomes.Done }
-    requires laid_out { LaidOut bytes.now begin run }
-    requires queries_in_bounds { length (sheet_lines run queries.now 0) ≤ length out.old }
-    ensures { Put out.old 0 (sheet_lines run queries.now 0) result out.new }
+    requires checks { let run = sent_in parameters offset.0 basis.now challenges.now bytes.now last.now in
+        checks_outcome run queries.now ≡ outcomes.Done }
+    requires laid { let run = sent_in parameters offset.0 basis.now challenges.now bytes.now last.now in
+        LaidOut bytes.now begin run }
+    requires room { let run = sent_in parameters offset.0 basis.now challenges.now bytes.now last.now in
+        length (sheet_lines run queries.now 0) ≤ length out.old }
+    ensures { let run = sent_in parameters offset.0 basis.now challenges.now bytes.now last.now in
+        Put out.old 0 (sheet_lines run queries.now 0) result out.new }
 {
     let count = parameters.rounds();
     let table = round_checks::set_up(parameters, basis, challenges);
