@@ -1,6 +1,6 @@
 // The judge over the bytes of a transcript. They are read through one small view: a struct with a reference to them and
-// where their sections begin, and thin functions over it. The borrow checker covers no function over such a struct, so
-// each is proved by hand; the work is in crates `sections`, `front_sections` and `byte_judge`, over a plain slice.
+// where their sections begin, and thin functions over it; the work is in crates `sections`, `front_sections` and
+// `byte_judge`, over a plain slice.
 #![tactic(auto)]
 
 ghost use Rattle.std.specs.Prelude.{◌≡◌};
