@@ -1,15 +1,6 @@
 -- `marking::sheet` meets its contract. Assumes nothing.
-use mathlib.Core.Path.{◌≡◌, sym, ap, ◌∙◌}
-use mathlib.Core.List.{List, [], ◌∷◌}
-use Prim.Native.Nat.{ℕ}
-use native.Mathlib.Omega.{arith}
+use mathlib.Core.Path.{sym, ap}
 use lib.ListN.{length}
-use denote.Enum.Declared.{tag_of}
-use borrow.Author.Rules.{rules}
-use Rattle.refusal.specs.declared.Outcome.{Outcome}
-use Rattle.refusal.specs.declared.Outcome.TheVariants.{Done, Refused}
-use Rattle.refusal.specs.contracts.Outcome.{the_type}
-use Rattle.transcript.specs.Checks.{transcript_outcome}
 use Rattle.sheet_text.specs.Sheet.{transcript_sheet}
 use Rattle.sheet_text.proofs.Sheets.{sheet_refused}
 use Rattle.marking.proofs.Fronts.{nothing_in_front}
@@ -22,4 +13,4 @@ pub returns-in-Refused : goal.returns-in-Refused
 returns-in-Refused c =
     let a = c.args in
     let none = sheet_refused a.bytes.now c.in-Refused.field-0 (sym c.in-Refused.ensures) in
-    record { length = sym (ap length none); list = nothing_in_front (transcript_sheet a.bytes.now) a.out.now none; }
+    record { length = sym (ap length none); list = nothing_in_front (transcript_sheet a.bytes.now) a.out.now none }

@@ -4,8 +4,6 @@ use mathlib.Core.List.{List}
 use Prim.Native.Nat.{ℕ}
 use native.Mathlib.Omega.{arith}
 use lib.ListN.{length, take}
-use borrow.Author.Rules.{rules}
-use Rattle.transcript.specs.Numerals.{AreBytes}
 use Rattle.transcript.proofs.Numerals.{are_bytes}
 use Rattle.sections.specs.declared.Sections.{Sections}
 use Rattle.sections.proofs.Places.{start_near}
@@ -110,4 +108,4 @@ pub returns : goal.returns
 returns c =
     let lines = lines_are c.args.bytes.now c.read-lists.result c.requires.1 c.read-lists.ensures in
     let filled = put_same c.put_lines.ensures lines in
-    record { length = omega (arith, filled.ends); list = put_in_front filled; }
+    record { length = omega (arith, filled.ends); list = put_in_front filled }

@@ -3,7 +3,6 @@ use mathlib.Core.Path.{sym, ap, ◌∙◌}
 use mathlib.Core.List.{List}
 use Prim.Native.Nat.{ℕ}
 use lib.ListN.{length}
-use borrow.Author.Rules.{rules}
 use Rattle.sheet_text.specs.Sheet.{sheet_of, in_front}
 use Rattle.sheet_text.proofs.Theorems.{sheets}
 use Rattle.marking.proofs.Fronts.{nothing_in_front}
@@ -13,7 +12,7 @@ pub returns-then-bytes-gt65536 : goal.returns-then-bytes-gt65536
 returns-then-bytes-gt65536 c =
     let a = c.args in
     let none = sheets.long a.bytes.now c.if-bytes-gt65536.true in
-    record { length = sym (ap length none); list = nothing_in_front (sheet_of a.bytes.now) a.out.now none; }
+    record { length = sym (ap length none); list = nothing_in_front (sheet_of a.bytes.now) a.out.now none }
 
 pub returns : goal.returns
 returns c =
