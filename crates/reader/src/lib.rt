@@ -47,6 +47,7 @@ pub fn judge(bytes: &[u8]) -> Verdict
 
 // The whole answer of the program `judge`: up to 65,536 bytes as `judge` says; to more, the first refusal of sections 1
 // to 4, else the length (14).
+#[tactic(auto, using(transcript::proofs::Theorems::short, transcript::proofs::Theorems::long))]
 pub fn judge_input(bytes: &[u8]) -> Verdict
     ensures { result ≡ input_verdict bytes.now }
 {
