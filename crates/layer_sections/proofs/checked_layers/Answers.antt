@@ -2,7 +2,7 @@
 -- sections still to come decide. Assumes nothing.
 use mathlib.Core.Path.{◌≡◌, sym, ap, ap₂, ◌∙◌}
 use mathlib.Core.List.{List}
-use Prim.Native.Nat.{ℕ, suc, ◌+◌, ◌*◌, ◌-◌, ◌%◌, ◌^◌, ◌<◌}
+use Prim.Native.Nat.{ℕ, suc, ◌+◌, ◌*◌, ◌-◌, ◌%◌, ◌^◌, ◌≤◌, ◌<◌}
 use native.Mathlib.Numerals.{add-one}
 use lib.ListN.{length}
 use Rattle.transcript.specs.Sections.{section_start, layer_section, transcript_rounds, transcript_k, transcript_steps}
@@ -74,21 +74,27 @@ overflow_shl-dimension c =
 
 pub checked_due-outcome-requires : goal.checked_due-outcome-requires
 checked_due-outcome-requires c =
-    (c.loop-i.invariant.2, omega arith, omega (arith, c.rounds-rounds.ensures, few_rounds c.args.parameters c.requires.1.valid))
+    let few : c.rounds-rounds.result ≤ 19 =
+    omega (arith, c.rounds-rounds.ensures, few_rounds c.args.parameters c.requires.1.valid) in
+    (c.loop-i.invariant.2, omega arith, omega (arith, few))
 
 pub end_of-at-requires : goal.end_of-at-requires
 end_of-at-requires c =
     let bytes = c.args.bytes.now in
     let known = are_bytes bytes (λ i. omega (arith, c.type_inv.bytes i)) in
     let l = c.loop-i in
-    omega (arith, start_near bytes known (layer_section l.i) l.at (omega (arith, c.rounds-rounds.ensures, few_rounds c.args.parameters c.requires.1.valid)) l.invariant.2)
+    let few : c.rounds-rounds.result ≤ 19 =
+    omega (arith, c.rounds-rounds.ensures, few_rounds c.args.parameters c.requires.1.valid) in
+    omega (arith, start_near bytes known (layer_section l.i) l.at (omega (arith, few)) l.invariant.2)
 
 pub loop-i-preserved : goal.loop-i-preserved
 loop-i-preserved c =
     let l = c.loop-i in
     let bytes = c.args.bytes.now in
     let rounds = c.rounds-rounds.result in
-    let said = due bytes c.args.parameters c.requires.1 l.i c.dimension.result c.dimension.ensures c.checked_due-outcome.result c.checked_due-outcome.ensures in
+    let said =
+    due bytes c.args.parameters c.requires.1 l.i c.dimension.result c.dimension.ensures c.checked_due-outcome.result
+    c.checked_due-outcome.ensures in
     let one : layer_section (l.i + 1) ≡ suc (layer_section l.i) = omega arith in
     let begins = c.end_of-at.ensures ∙ end_is bytes (layer_section l.i) l.at (omega arith) l.invariant.2 in (
       l.invariant.0,
@@ -105,7 +111,10 @@ returns-in-Refused c =
     let bytes = c.args.bytes.now in
     let rounds = c.rounds-rounds.result in
     let cause = c.in-Refused.cause in
-    let due-refused = sym (due bytes c.args.parameters c.requires.1 l.i c.dimension.result c.dimension.ensures c.checked_due-outcome.result c.checked_due-outcome.ensures) ∙ c.in-Refused.is in
+    let due-said =
+    due bytes c.args.parameters c.requires.1 l.i c.dimension.result c.dimension.ensures c.checked_due-outcome.result
+    c.checked_due-outcome.ensures in
+    let due-refused = sym due-said ∙ c.in-Refused.is in
     let said = then_refused (layer-due bytes l.i) (rest bytes rounds l.i) cause due-refused in
     then_refused (layers_from bytes 0 (transcript_rounds bytes)) (end_outcome bytes) cause
     (sym (said ∙ decides bytes rounds l.i (omega arith) l.invariant.3))

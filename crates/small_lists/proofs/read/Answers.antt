@@ -27,7 +27,8 @@ use Rattle.small_lists.proofs.read.Goals as goal
 -- ---- at entry
 
 -- the sections begin before 2^40
-module _ (bytes : List ℕ) (fit : (i : ℕ) → get_or bytes i 0 < 256) (s : Sections) (begin : s ≡ sections_in bytes) where
+module _ (bytes : List ℕ) (fit : (i : ℕ) → get_or bytes i 0 < 256) (s : Sections)
+    (begin : s ≡ sections_in bytes) where
   known : AreBytes bytes
   known = are_bytes bytes fit
 
@@ -40,7 +41,8 @@ module _ (bytes : List ℕ) (fit : (i : ℕ) → get_or bytes i 0 < 256) (s : Se
 
 -- ---- the lengths
 
-module _ (bytes : List ℕ) (passed : transcript_outcome bytes ≡ Done) (p : Parameters) (read : p ≡ parameters_in bytes) where
+module _ (bytes : List ℕ) (passed : transcript_outcome bytes ≡ Done) (p : Parameters)
+    (read : p ≡ parameters_in bytes) where
   in_range : Valid p
   in_range = subst Valid (sym read) (passed_carries bytes passed).parameters
 
@@ -133,7 +135,11 @@ pub up_to_20-requires-2 : goal.up_to_20-requires-2
 up_to_20-requires-2 c =
     let bytes = c.args.bytes.now in
     let carries = passed_carries bytes c.requires.1 in (
-      omega (arith, rounds_are bytes c.parameters-parameters.ensures c.rounds-rounds.result c.rounds-rounds.ensures, rounds_few bytes carries),
+      omega (
+        arith,
+        rounds_are bytes c.parameters-parameters.ensures c.rounds-rounds.result c.rounds-rounds.ensures,
+        rounds_few bytes carries,
+      ),
       omega (arith, near c.args.bytes.now (λ i. omega (arith, c.type_inv.bytes i)) c.args.sections c.requires.0),
     )
 
@@ -141,7 +147,11 @@ pub up_to_256-requires : goal.up_to_256-requires
 up_to_256-requires c =
     let bytes = c.args.bytes.now in
     let carries = passed_carries bytes c.requires.1 in (
-      omega (arith, queries_are bytes c.args.sections c.requires.0 c.count_at-query_count.result c.count_at-query_count.ensures.value, queries_few bytes c.requires.1),
+      omega (
+        arith,
+        queries_are bytes c.args.sections c.requires.0 c.count_at-query_count.result c.count_at-query_count.ensures.value,
+        queries_few bytes c.requires.1,
+      ),
       omega (arith, near c.args.bytes.now (λ i. omega (arith, c.type_inv.bytes i)) c.args.sections c.requires.0),
     )
 
@@ -149,20 +159,32 @@ pub overflow_mul-last_count : goal.overflow_mul-last_count
 overflow_mul-last_count c =
     let bytes = c.args.bytes.now in
     let carries = passed_carries bytes c.requires.1 in
-    omega (arith, last-is bytes c.parameters-parameters.ensures c.last_count-last_count.result c.last_count-last_count.ensures, last_few bytes carries)
+    omega (
+      arith,
+      last-is bytes c.parameters-parameters.ensures c.last_count-last_count.result c.last_count-last_count.ensures,
+      last_few bytes carries,
+    )
 
 pub overflow_sub-bytes : goal.overflow_sub-bytes
 overflow_sub-bytes c =
     let bytes = c.args.bytes.now in
     let carries = passed_carries bytes c.requires.1 in
-    omega (arith, last-is bytes c.parameters-parameters.ensures c.last_count-last_count.result c.last_count-last_count.ensures, last_within bytes carries)
+    omega (
+      arith,
+      last-is bytes c.parameters-parameters.ensures c.last_count-last_count.result c.last_count-last_count.ensures,
+      last_within bytes carries,
+    )
 
 pub up_to_20-requires-3 : goal.up_to_20-requires-3
 up_to_20-requires-3 c =
     let bytes = c.args.bytes.now in
     let carries = passed_carries bytes c.requires.1 in
     let known = are_bytes bytes (λ i. omega (arith, c.type_inv.bytes i)) in (
-      omega (arith, last-is bytes c.parameters-parameters.ensures c.last_count-last_count.result c.last_count-last_count.ensures, last_few bytes carries),
+      omega (
+        arith,
+        last-is bytes c.parameters-parameters.ensures c.last_count-last_count.result c.last_count-last_count.ensures,
+        last_few bytes carries,
+      ),
       omega (arith, length-small bytes carries known),
     )
 
@@ -171,8 +193,10 @@ returns c =
     let bytes = c.args.bytes.now in
     let carries = passed_carries bytes c.requires.1 in
     let rounds = rounds_are bytes c.parameters-parameters.ensures c.rounds-rounds.result c.rounds-rounds.ensures in
-    let count = queries_are bytes c.args.sections c.requires.0 c.count_at-query_count.result c.count_at-query_count.ensures.value in
-    let last = last-is bytes c.parameters-parameters.ensures c.last_count-last_count.result c.last_count-last_count.ensures in
+    let count =
+    queries_are bytes c.args.sections c.requires.0 c.count_at-query_count.result c.count_at-query_count.ensures.value in
+    let last =
+    last-is bytes c.parameters-parameters.ensures c.last_count-last_count.result c.last_count-last_count.ensures in
     let same = c.parameters-parameters.ensures in
     let begin = c.requires.0 in
     lists-equal same rounds count last
