@@ -8,14 +8,12 @@ use std::os::unix::fs::{symlink, PermissionsExt};
 use std::path::{Path, PathBuf};
 use std::process::Command;
 
-/// Stands in for `./library`, whose work is done where documents are checked: the programs and the
-/// static library are there, or it fails.
-const LIBRARY: &str = "#!/bin/sh\n[ -x target/bin/judge ] && [ -x target/bin/sheet ] && \
-                       [ -f target/staticlib/librazgwilh.a ]\n";
+/// Stands in for `./library`, whose work is done where documents are checked: the static library is
+/// there, or it fails.
+const LIBRARY: &str = "#!/bin/sh\n[ -f target/staticlib/librazgwilh.a ]\n";
 
-/// Stands in for `rt check CRATE..`, as `./library` does; it knows the crates and no other command.
-const RT: &str = "#!/bin/sh\n[ \"$1\" = check ] && shift && \
-                  for name; do [ -d \"crates/$name\" ] || exit 1; done && ./library\n";
+/// Stands in for `./programs`, as the other does for `./library`.
+const PROGRAMS: &str = "#!/bin/sh\n[ -x target/bin/judge ] && [ -x target/bin/sheet ]\n";
 
 /// The gate itself is shown and not run.
 const GATE: &str = "./test";
@@ -83,9 +81,8 @@ impl Folder {
         for entry in fs::canonicalize(root)?.read_dir()?.flatten() {
             symlink(entry.path(), folder.0.join(entry.file_name()))?;
         }
-        fs::remove_file(folder.0.join("library"))?;
-        fs::create_dir(folder.0.join("commands"))?;
-        for (name, script) in [("library", LIBRARY), ("commands/rt", RT)] {
+        for (name, script) in [("library", LIBRARY), ("programs", PROGRAMS)] {
+            fs::remove_file(folder.0.join(name))?;
             fs::write(folder.0.join(name), script)?;
             fs::set_permissions(folder.0.join(name), fs::Permissions::from_mode(0o755))?;
         }
@@ -107,11 +104,9 @@ impl Folder {
 
     /// Where output is due, the commands print it, whatever their status; else they succeed.
     fn run(&self, commands: &str, due: Option<&Block>) -> Result<(), String> {
-        let path = std::env::var("PATH").unwrap_or_default();
         let output = Command::new("sh")
             .args(["-c", commands])
             .current_dir(&self.0)
-            .env("PATH", format!("{}:{path}", self.0.join("commands").display()))
             .output()
             .map_err(|error| format!("sh: {error}"))?;
         match due {

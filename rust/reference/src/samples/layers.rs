@@ -15,8 +15,8 @@ pub(super) fn layout_row(parameters: &Parameters) -> Value {
     let r = parameters.rounds();
     let members = [
         ("rounds", number(r)),
-        ("lastCount", number(parameters.last_count())),
-        ("storeLength", number(parameters.store_length())),
+        ("last_count", number(parameters.last_count())),
+        ("store_length", number(parameters.store_length())),
         ("dimensions", list((0..=r).map(|i| parameters.dimension(i)))),
         ("starts", list((1..r).map(|i| parameters.layer_start(i)))),
     ];

@@ -6,10 +6,10 @@ use std::fmt::{self, Display, Formatter};
 
 pub(super) const HEADER: &str = "\
 -- The samples, as the reference prints them.
-use mathlib.Core.List.{List, [], _∷_}
-use Rattle·refusal.specs.declared.Position.the-variants.{At, Absent}
-use Rattle·samples·specs.specs.Samples.{LayoutSample, IndexSample, CosetSample, LookupSample}
-use Rattle·samples·specs.specs.Samples.{JudgedSample, ProvedSample}
+use Rattle.std.specs.Prelude.{List, [], ◌∷◌}
+use Rattle.refusal.specs.declared.Position.TheVariants.{At, Absent}
+use Rattle.samples.specs.Samples.{LayoutSample, IndexSample, CosetSample, LookupSample}
+use Rattle.samples.specs.Samples.{JudgedSample, ProvedSample}
 ";
 
 /// A named list of rows of one type, one row for each sample, behind a blank line.
