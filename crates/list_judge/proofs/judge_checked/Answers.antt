@@ -1,6 +1,6 @@
 -- `list_judge::judge_checked` meets its contract. What holds before a query and before a round is BeforeQuery and
 -- BeforeRound of round_checks' Judged.antt, and a round that has its two values is RoundRead there. Assumes nothing.
-use Rattle.round_checks.proofs.Judged.{checked_run, cosets_few, first_query, first_round, query_passed, accepted}
+use Rattle.round_checks.proofs.Judged.{checked_run, cosets_few, first_query, first_round, accepted}
 use Rattle.round_checks.proofs.Judged.{part_fits, found_fits, read_in_lists, next_round, refused}
 use Rattle.layout.specs.Parameters.{run_of}
 use Rattle.refusal.specs.declared.Outcome.TheVariants.{Done}
@@ -61,12 +61,6 @@ loop-i-preserved g c =
 
 pub overflow_add-cosets-in-queries : goal.overflow_add-cosets-in-queries
 overflow_add-cosets-in-queries g c = omega (arith, cosets_few c.loop-i.invariant.before_query)
-
-pub queries-preserved : goal.queries-preserved
-queries-preserved g c = query_passed c.loop-i.invariant (omega arith)
-
-pub overflow_shl-reads : goal.overflow_shl-reads
-overflow_shl-reads g c = omega (arith, c.queries.invariant.prepared.ready.coset.parameters.step_most)
 
 pub returns-then-query-queries : goal.returns-then-query-queries
 returns-then-query-queries g c =

@@ -1,13 +1,10 @@
 -- `query_checks::first_outside` meets its contract. The loop's invariant: the queries still to come decide. Assumes
 -- nothing.
 use Rattle.query_checks.proofs.Outside.{outside_none, outside_here, outside_next}
-use mathlib.Core.Path.{refl, ◌∙◌}
+use mathlib.Core.Path.{◌∙◌}
 use borrow.Author.Rules.{rules}
 use native.Mathlib.Omega.{arith}
 use Rattle.query_checks.proofs.first_outside.Goals as goal
-
-pub loop-query-init : goal.loop-query-init
-loop-query-init c = (search rules, refl)
 
 pub returns-then-queries-query : goal.returns-then-queries-query
 returns-then-queries-query c =

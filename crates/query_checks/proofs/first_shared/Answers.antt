@@ -2,7 +2,6 @@
 -- cosets of those before. Assumes nothing.
 use Rattle.query_checks.proofs.Shared.{shared_none, shared_here, shared_next}
 use Rattle.fri.specs.Checks.{first_shared}
-use lib.Seq.{length-take-le}
 use mathlib.Core.Path.{refl, sym, ◌∙◌}
 use borrow.Author.Rules.{rules}
 use native.Mathlib.Omega.{arith}
@@ -11,10 +10,6 @@ use Rattle.query_checks.proofs.first_shared.Goals as goal
 pub loop-query-init : goal.loop-query-init
 unfolding first_shared
 loop-query-init c = (search rules, refl)
-
-pub slice_bounds-visits-end : goal.slice_bounds-visits-end
-slice_bounds-visits-end c =
-    sym (length-take-le c.loop-query.query c.args.queries.now c.loop-query.invariant.0)
 
 pub returns-then-visits : goal.returns-then-visits
 returns-then-visits c =

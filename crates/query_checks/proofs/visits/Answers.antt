@@ -1,12 +1,9 @@
 -- `query_checks::visits` meets its contract. The loop's invariant: the queries still to come decide. Assumes nothing.
 use Rattle.query_checks.proofs.Shared.{visits_none, visits_here, visits_next}
-use mathlib.Core.Path.{refl, ◌∙◌}
+use mathlib.Core.Path.{◌∙◌}
 use borrow.Author.Rules.{rules}
 use native.Mathlib.Omega.{arith}
 use Rattle.query_checks.proofs.visits.Goals as goal
-
-pub loop-query-init : goal.loop-query-init
-loop-query-init c = (search rules, refl)
 
 pub returns-then-queries-query : goal.returns-then-queries-query
 returns-then-queries-query c =

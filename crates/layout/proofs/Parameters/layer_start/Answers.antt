@@ -50,10 +50,3 @@ loop-before-preserved c =
       ap₂ (λ (m n : ℕ). m + n) l.invariant.2 size ∙ sym (start_next p.k (steps_by p) l.before l.invariant.0)
           ∙ ap (layer_start p.k (steps_by p)) (sym (add-one l.before)),
     )
-
-pub returns : goal.returns
-returns c =
-    let p = c.args.self in
-    let l = c.loop-before in
-    let end : l.before ≡ c.args.i = omega arith in
-    l.invariant.2 ∙ ap (layer_start p.k (steps_by p)) end
