@@ -12,7 +12,7 @@ use refusal::{Cause, Outcome};
 use sections::Sections;
 
 // A transcript's bytes, and where their sections begin.
-#[derive(Drop)]
+#[derive(Clone, Copy)]
 pub struct Reader<'a> {
     pub bytes: &'a [u8],
     pub sections: Sections,
