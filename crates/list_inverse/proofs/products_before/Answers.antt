@@ -1,8 +1,7 @@
+use mathlib.Core.Path.{◌≡◌, refl, ap, ◌∙◌}
 use mathlib.Core.Logic.{◌≢◌}
 use mathlib.Core.List.{List}
 use Prim.Native.Nat.{ℕ, ◌+◌}
-use mathlib.Core.Path.{◌≡◌, refl, ap, ◌∙◌}
-use Prim.Native.Nat.{ℕ}
 use native.Mathlib.Numerals.{add-one}
 use lib.ListN.{length, get_or, length-set}
 use Rattle.gf64.specs.Field.{product}
@@ -14,6 +13,7 @@ use borrow.Author.Rules.{rules}
 use native.Mathlib.Omega.{arith}
 use Rattle.list_inverse.proofs.products_before.Goals as goal
 
+-- one element more, as the loop counts
 past_zero_next : (elements : List ℕ) (n : ℕ) → get_or elements n 0 ≡ 0
     → nonzero_product elements (n + 1) ≡ nonzero_product elements n
 past_zero_next elements n e = ap (nonzero_product elements) (add-one n) ∙ past_zero elements n e
