@@ -28,6 +28,7 @@ pub fn sheet(bytes: &[u8], out: &mut [u8]) -> usize
 }
 
 // What the program `sheet` prints: the same, but nothing over the limit of 65,536 bytes.
+#[tactic(auto, using(crate::proofs::Inputs::long_length, crate::proofs::Inputs::short_length, crate::proofs::Inputs::long_list, crate::proofs::Inputs::short_list))]
 pub fn sheet_input(bytes: &[u8], out: &mut [u8]) -> usize
     ensures length { result ≡ length (sheet_of bytes.now) }
     ensures list { out.new ≡ in_front (sheet_of bytes.now) out.old }
