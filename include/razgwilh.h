@@ -211,18 +211,18 @@ uint64_t rz_transcript_length(size_t k, size_t rate, size_t step, size_t queries
  *   rz_product                           0    16     512
  *   rz_inverse_answer                    0    16     512
  *   rz_invert_list               8,388,608    64   1,024
- *   rz_encode_answer            16,777,376    64   6,400
- *   rz_interpolate_answer       16,777,376    64   5,632
+ *   rz_encode_answer            16,777,376    64   5,120
+ *   rz_interpolate_answer       16,777,376    64   4,608
  *   rz_fold_answer              12,583,224    64   2,304
  *   rz_rounds                            0     0     256
  *   rz_store_length                      0     0     256
  *   rz_last_length                       0     0     256
  *   rz_transcript_length                 0     0     256
- *   rz_prove_answer             16,777,504   256   6,144
+ *   rz_prove_answer             16,777,504   256   6,400
  *   rz_layer_answer              8,388,576     0     512
  *   rz_judge_answer             16,779,552   266   8,192
  *   rz_write_transcript_answer  33,559,232    64   1,280
- *   rz_judge_transcript_answer  16,779,680   266  10,496
+ *   rz_judge_transcript_answer  16,779,680   266  15,616
  *   rz_sheet_into               17,052,064   266  12,032
  *
  * lent: the bytes of all lists that the call is lent; at smaller sizes the lengths above give it.
