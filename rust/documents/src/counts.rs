@@ -76,14 +76,15 @@ fn grouped(number: usize) -> String {
 /// Each with those that it names.
 type Crates = BTreeMap<String, Vec<String>>;
 
-/// The crates of crates.txt.
+/// The crates of crates.txt: `NAME: ..`, or `NAME staticlib: ..`.
 fn crates(root: &Path) -> Result<Crates, String> {
     let list = read(root, "crates.txt")?;
     let lines = list.lines().map(|line| line.split('#').next().unwrap_or(""));
     let named = lines.filter_map(|line| line.split_once(':'));
     Ok(named
         .map(|(name, uses)| {
-            (name.trim().to_owned(), uses.split_whitespace().map(str::to_owned).collect())
+            let name = name.split_whitespace().next().unwrap_or("");
+            (name.to_owned(), uses.split_whitespace().map(str::to_owned).collect())
         })
         .collect())
 }

@@ -163,7 +163,7 @@ fn known_words(root: &Path) -> Result<HashSet<String>, String> {
     let mut known = HashSet::new();
     let mut open: Vec<PathBuf> = FOLDERS.iter().map(|folder| root.join(folder)).collect();
     open.extend(
-        ["crates.txt", "test", "library", "install", "README.md"].map(|name| root.join(name)),
+        ["crates.txt", "test", "library", "programs", "install", "README.md"].map(|name| root.join(name)),
     );
     while let Some(path) = open.pop() {
         let name = path.file_name().unwrap_or_default().to_string_lossy().into_owned();

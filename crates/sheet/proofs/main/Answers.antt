@@ -1,0 +1,7 @@
+-- `sheet::main` keeps to the contracts of what it calls. Assumes nothing.
+use Prim.Native.Nat.{ℕ}
+use lib.ListN.{length-replicate}
+use Rattle.sheet.proofs.main.Goals as goal
+
+pub answer-length-requires-clause-room : goal.answer-length-requires-clause-room
+answer-length-requires-clause-room c = length-replicate {A = ℕ} 272384 0
