@@ -86,6 +86,19 @@ def shown(kind):
     return value[0] if word == "Struct" else word
 
 
+def lent_in(body):
+    """The types of the constants that a body lends."""
+    left = [body]
+    while left:
+        at = left.pop()
+        if isinstance(at, list):
+            left.extend(at)
+        elif isinstance(at, dict):
+            if "LendStatic" in at:
+                yield at["LendStatic"][1]
+            left.extend(at.values())
+
+
 def rows_of(name, function):
     yield "function", name
     called, named = called_in(function["body"])
@@ -94,11 +107,11 @@ def rows_of(name, function):
     for _ in range(named):
         yield "unknown", name
     shapes = {it["name"]: it["shape"] for it in function["types"]}
-    for local in function["locals"]:
+    for kind in [local["ty"] for local in function["locals"]] + list(lent_in(function["body"])):
         try:
-            most = elements(local["ty"], shapes)
+            most = elements(kind, shapes)
             if most:
-                yield "local", name, str(most), shown(local["ty"])
+                yield "local", name, str(most), shown(kind)
         except Unknown as unknown:
             yield "local", name, "?", str(unknown)
 

@@ -32,12 +32,8 @@ fn counted(root: &Path, crates: &Crates) -> Result<Phrases, String> {
     };
     let (rust, rust_alone) = (version("reference")?, version("tool")?);
     Ok(vec![
-        ("README.md", format!("for each of {programs} crates")),
-        ("README.md", format!("rt: ok, {programs} crates proved")),
-        (
-            "README.md",
-            format!("proves all {all} crates from nothing, tries {edits} wrong programs"),
-        ),
+        ("README.md", format!("proves the {programs} crates that the two programs are made of")),
+        ("README.md", format!("proves all {all} crates, tries {edits} wrong programs")),
         ("README.md", format!("{} passed, 0 failed", all + edits)),
         (
             "README.md",

@@ -130,7 +130,7 @@ fn there(root: &Path, name: &str) -> bool {
 
 /// Release notes and decisions may name what is gone.
 fn tells_of_the_past(document: &Document) -> bool {
-    ["RELEASE_NOTES.md", "docs/DECISIONS.md"].contains(&&document.name[..])
+    ["RELEASE_NOTES.md", "docs/DECISIONS.md", "docs/PORT.md"].contains(&&document.name[..])
 }
 
 /// Each name between backticks, as `Element::sum`, `Subspaces.zero` or `rz_fold`, is made of words
@@ -162,17 +162,15 @@ fn is_in_word(c: char) -> bool {
 fn known_words(root: &Path) -> Result<HashSet<String>, String> {
     let mut known = HashSet::new();
     let mut open: Vec<PathBuf> = FOLDERS.iter().map(|folder| root.join(folder)).collect();
-    open.extend(
-        ["crates.txt", "test", "library", "programs", "install", "README.md"].map(|name| root.join(name)),
-    );
+    let scripts = ["test", "library", "programs", "install"];
+    open.extend(["crates.txt", "README.md"].iter().chain(&scripts).map(|name| root.join(name)));
     while let Some(path) = open.pop() {
         let name = path.file_name().unwrap_or_default().to_string_lossy().into_owned();
         known.extend(name.split('.').map(str::to_owned));
         if path.is_dir() {
             let entries = fs::read_dir(&path).map_err(|e| format!("{}: {e}", path.display()))?;
-            open.extend(
-                entries.flatten().map(|e| e.path()).filter(|path| !path.ends_with("target")),
-            );
+            let made = |path: &PathBuf| path.ends_with("target") || path.ends_with("out");
+            open.extend(entries.flatten().map(|e| e.path()).filter(|path| !made(path)));
         } else if !name.ends_with(".md") {
             let text = String::from_utf8_lossy(&fs::read(&path).unwrap_or_default()).into_owned();
             let words = text.split(|c| !is_in_word(c)).filter(|word| !word.is_empty());
