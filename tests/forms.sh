@@ -37,6 +37,15 @@ prove() {
     (cd "crates/$1" && rt "$command") >"$work/said" 2>&1 || { cat "$work/said" >&2 && failed "rt $command of $1"; }
 }
 
+# Makes a library of the text of a program in a folder, $1.
+rename_main() {
+    sed 's/^fn main(/fn main_of_library(/' "$1/src/main.rt" >"$1/src/lib.rt"
+    rm "$1/src/main.rt"
+    [ -d "$1/proofs/main" ] || return 0
+    mv "$1/proofs/main" "$1/proofs/main_of_library"
+    sed -i 's/[.]proofs[.]main[.]/.proofs.main_of_library./' "$1"/proofs/main_of_library/*
+}
+
 # The form of a library is in what rt builds of it. Of a static library or a program rt keeps none: its form is made
 # here of its text as a library, in which main has another name.
 mir_of() {
@@ -46,8 +55,7 @@ mir_of() {
     fi
     mkdir -p "$work/$1/src"
     cp -r "crates/$1"/{src,specs,proofs} "$work/$1" 2>/dev/null || true
-    [ ! -f "$work/$1/src/main.rt" ] || sed 's/^fn main(/fn main_of_library(/' "$work/$1/src/main.rt" >"$work/$1/src/lib.rt"
-    rm -f "$work/$1/src/main.rt"
+    [ ! -f "$work/$1/src/main.rt" ] || rename_main "$work/$1"
     build "$1" "$work/$1/src/lib.rt" --statements -o "$work/$1/rlib" >"$work/said" 2>&1 ||
         { cat "$work/said" >&2 && failed "the form of $1"; }
     cat "$work/$1/rlib/toolchain/mir.json"
