@@ -6,23 +6,25 @@
 # where PROVED is set, which ./test does when rt ci has just passed, what it left is built over as it lies there.
 kit=$(dirname "$(rt doc)")
 
-# The crates that a crate, $1, names, of those of the repository.
+# Of the repository's crates those that a crate, $1, names, or with `all` behind it also those that these name.
 named_by() {
-    sed 's/#.*//' crates.txt | awk -F : -v crate="$1" '
-        NF > 1 { split($1, words, " "); named[words[1]] = $2 }
-        END {
+    sed 's/#.*//' crates.txt | awk -F : -v crate="$1" -v all="${2:-}" '
+        function find(crate,    list, count, i) {
             count = split(named[crate], list, " ")
-            for (i = 1; i <= count; i++) if (list[i] in named) print list[i]
-        }'
+            for (i = 1; i <= count; i++) {
+                if (!(list[i] in named) || list[i] in found) continue
+                found[list[i]] = 1
+                print list[i]
+                if (all != "") find(list[i])
+            }
+        }
+        NF > 1 { split($1, words, " "); named[words[1]] = $2 }
+        END { find(crate) }'
 }
 
 # The crates below a crate, $1: those that it names, and those that these name.
 below() {
-    local crate
-    for crate in $(named_by "$1"); do
-        echo "$crate"
-        below "$crate"
-    done | sort -u
+    named_by "$1" all | sort
 }
 
 rlib_of() {
