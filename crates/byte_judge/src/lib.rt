@@ -2,15 +2,13 @@
 #![tactic(auto)]
 
 ghost use Rattle.std.specs.Prelude.{◌≡◌};
-ghost use Rattle.refusal.specs.declared.Outcome.TheVariants as outcomes;
 ghost use Rattle.fri.specs.Judge.{verdict_of};
 ghost use Rattle.transcript.specs.Sections.{run_in, queries_in};
 ghost use Rattle.transcript.specs.Checks.{transcript_outcome};
 ghost use Rattle.transcript.specs.Judge.{transcript_verdict};
 ghost use Rattle.sections.specs.Views.{sections_in};
 
-use fri::{Answer, Verdict};
-use refusal::Outcome;
+use fri::Verdict;
 use sections::Sections;
 
 // The verdict on a transcript whose sections begin there.
@@ -20,9 +18,9 @@ pub fn verdict(bytes: &[u8], sections: Sections) -> Verdict
 {
     let outcome = layer_sections::checked(bytes, sections);
     match outcome {
-        Outcome::Done => judge_checked(bytes, sections),
-        Outcome::Refused(cause) => Verdict {
-            answer: Answer::Refused(cause),
+        Ok(()) => judge_checked(bytes, sections),
+        Err(cause) => Verdict {
+            answer: Err(cause),
             reads: 0,
         },
     }
@@ -30,7 +28,7 @@ pub fn verdict(bytes: &[u8], sections: Sections) -> Verdict
 
 // The verdict where all sections pass.
 fn judge_checked(bytes: &[u8], sections: Sections) -> Verdict
-    requires { (sections ≡ sections_in bytes.now) × (transcript_outcome bytes.now ≡ outcomes.Done) }
+    requires { (sections ≡ sections_in bytes.now) × (transcript_outcome bytes.now ≡ Ok tt) }
     ensures { let sent = bytes.now in result ≡ verdict_of (run_in sent) (queries_in sent) }
 {
     let lists = small_lists::read(bytes, sections);

@@ -6,7 +6,7 @@ use Prim.Native.Nat.{ℕ, zero, suc, ◌+◌, ◌≤◌}
 use native.Mathlib.Omega.{arith}
 use lib.ListN.{length, take, length-take}
 use Rattle.poly.proofs.Filling.{padded_taken}
-use Rattle.refusal.specs.declared.Outcome.TheVariants.{Done}
+use Rattle.std.specs.Prelude.{Ok}
 use Rattle.fri.specs.Run.{Run}
 use Rattle.fri.specs.Judge.{checks_outcome}
 use Rattle.layout.specs.declared.Parameters.{Parameters}
@@ -39,7 +39,7 @@ sent_is bytes p offset basis challenges last ep eo eb ec el =
 taken_fits : (n : ℕ) (l : List ℕ) → length (take n l) ≡ n → n ≤ length l
 taken_fits n l e = omega (arith, length-take n l)
 
-module _ (bytes : List ℕ) (done : transcript_outcome bytes ≡ Done) where
+module _ (bytes : List ℕ) (done : transcript_outcome bytes ≡ Ok tt) where
   abbrev carries : Carries bytes
   carries = passed_carries bytes done
 
@@ -158,7 +158,7 @@ module _ (bytes : List ℕ) (done : transcript_outcome bytes ≡ Done) where
         (take lists.rounds lists.challenges) (take lists.last_count lists.last)
         parameters_are (ap (λ (l : Lists). l.offset.0) held) basis_front challenges_front last_front
 
-    pub sent_checks : checks_outcome sent (take lists.query_count lists.queries) ≡ Done
+    pub sent_checks : checks_outcome sent (take lists.query_count lists.queries) ≡ Ok tt
     sent_checks = ap₂ checks_outcome sent_run queries_front ∙ sym (checks_are bytes carries) ∙ done
 
     pub sent_layers : AreBytes bytes → {sections : Sections} → sections ≡ sections_in bytes

@@ -6,7 +6,7 @@ use native.Mathlib.Numerals.{add-one}
 use native.Mathlib.Omega.{arith}
 use lib.Dec.{ltb}
 use lib.ListN.{get_or, take, drop}
-use Rattle.refusal.specs.declared.Outcome.TheVariants.{Done}
+use Rattle.std.specs.Prelude.{Ok}
 use Rattle.coset.proofs.Points.{all_elements}
 use Rattle.fold.specs.Fold.{coset_entries}
 use Rattle.fri.specs.Layout.{dimension}
@@ -31,7 +31,7 @@ use Rattle.byte_rounds.specs.Layers.{sent_in, layer_at, LaidOut, part_at, value_
 
 -- what the checks tell of a run whose layers lie in bytes
 pub checked_sent : (p : Parameters) (offset : ℕ) (basis challenges bytes last queries : List ℕ)
-    → checks_outcome (sent_in p offset basis challenges bytes last) queries ≡ Done → offset < 2 ^ 64
+    → checks_outcome (sent_in p offset basis challenges bytes last) queries ≡ Ok tt → offset < 2 ^ 64
     → ((i : ℕ) → get_or basis i 0 < 2 ^ 64) → ((i : ℕ) → get_or challenges i 0 < 2 ^ 64)
     → ((i : ℕ) → get_or bytes i 0 < 256) → Checked (sent_in p offset basis challenges bytes last)
 checked_sent p offset basis challenges bytes last queries done ho hb hc known =

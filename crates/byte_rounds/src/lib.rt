@@ -3,7 +3,6 @@
 #![tactic(auto)]
 
 ghost use Rattle.std.specs.Prelude.{◌≡◌, ◌+◌, ◌*◌, ◌^◌, ◌≤◌, length};
-ghost use Rattle.refusal.specs.declared.Outcome.TheVariants as outcomes;
 ghost use Rattle.fri.specs.Layout.{dimension};
 ghost use Rattle.fri.specs.Run.{Run};
 ghost use Rattle.fri.specs.Judge.{checks_outcome, verdict_of};
@@ -13,7 +12,7 @@ ghost use Rattle.transcript.specs.Numerals.{entries_at};
 ghost use Rattle.byte_rounds.specs.Layers.{sent_in, LaidOut, part_at, value_read_at};
 
 use field::Element;
-use fri::{Answer, Verdict};
+use fri::Verdict;
 use layout::Parameters;
 use refusal::Cause;
 use round_checks::{QueryPoint, Round};
@@ -32,7 +31,7 @@ pub fn judge_rounds(
 ) -> Verdict
     ghost run: { Run }
     requires last_value { sent_in parameters offset.0 basis.now challenges.now bytes.now last.now ≡ run }
-    requires queries_value { checks_outcome run queries.now ≡ outcomes.Done }
+    requires queries_value { checks_outcome run queries.now ≡ Ok tt }
     requires laid_out { LaidOut bytes.now begin run }
     ensures { result ≡ verdict_of run queries.now }
 {
@@ -65,12 +64,12 @@ pub fn judge_rounds(
     let reads = (cosets << parameters.step) as u64;
     if query < queries.len() {
         return Verdict {
-            answer: Answer::Refused(Cause::RoundCheckFails { query, round: i }),
+            answer: Err(Cause::RoundCheckFails { query, round: i }),
             reads,
         };
     }
     Verdict {
-        answer: Answer::Accepted,
+        answer: Ok(()),
         reads,
     }
 }

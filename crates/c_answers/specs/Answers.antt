@@ -1,11 +1,10 @@
 -- The convention of the C interface: an answer is five numbers, in a lent list of length 5.
 use Rattle.std.specs.Prelude.{cond, List, [], ◌∷◌, ℕ, ◌-◌, ◌^◌, eqb, length}
 use Rattle.refusal.specs.declared.Cause.{Cause}
-use Rattle.refusal.specs.declared.Outcome.{Outcome}
-use Rattle.refusal.specs.declared.Position.{Position}
-use Rattle.refusal.specs.declared.Position.TheVariants.{At, Absent}
+use Rattle.std.specs.Prelude.{Option, Some, None, Result}
+use Rattle.refusal.specs.Outcome.{Outcome}
+use Rattle.field.specs.declared.Element.{Element}
 use Rattle.refusal.specs.Numbers.{number_of, place_of, round_of, number_of_outcome, place_of_outcome, round_of_outcome}
-use Rattle.fold.specs.declared.Folded.{Folded}
 use Rattle.fold.specs.Answers.{number_of_folded, place_of_folded, round_of_folded, value_of_folded}
 use Rattle.fri.specs.declared.Verdict.{Verdict}
 use Rattle.fri.specs.Judge.{number_of_answer, place_of_answer, round_of_answer}
@@ -17,9 +16,9 @@ abbrev pub none : ℕ
 none = 2 ^ 64 - 1
 
 -- a place or a round is far below 2^64 - 1, being a small number, a degree or an index of a list
-abbrev pub or_none : (position : Position) → ℕ
-or_none (At n) = n
-or_none Absent = none
+abbrev pub or_none : (position : Option ℕ) → ℕ
+or_none (Some n) = n
+or_none None = none
 
 -- it went well: `value` where the operation gives one, which may be any number, and `none` where it gives none
 abbrev pub answer_of_value : (reads value : ℕ) → Answer
@@ -37,7 +36,7 @@ answer_of_cause cause reads =
     }
 
 -- the answer of a fold, whose value is the next offset; only a judge counts reads
-abbrev pub answer_of_folded : (folded : Folded) → Answer
+abbrev pub answer_of_folded : (folded : Result Element Cause) → Answer
 answer_of_folded folded =
     record {
       number = number_of_folded folded;

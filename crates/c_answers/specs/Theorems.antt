@@ -2,9 +2,7 @@
 -- values.
 use Rattle.std.specs.Prelude.{◌≡◌, List, [], ◌∷◌, ℕ, length, take, drop}
 use Rattle.refusal.specs.declared.Cause.TheVariants.{WrongLength, DegreeTooLarge, RoundCheckFails, CosetShared}
-use Rattle.refusal.specs.declared.Outcome.TheVariants as outcomes
-use Rattle.fold.specs.declared.Folded.TheVariants.{NextOffset, Refused}
-use Rattle.fri.specs.declared.Answer.TheVariants as answers
+use Rattle.std.specs.Prelude.{Ok, Err}
 use Rattle.fri.specs.Lookup.{layer_part}
 use Rattle.layout.specs.declared.Parameters.{Parameters}
 use Rattle.layout.specs.Parts.{part_of}
@@ -12,22 +10,22 @@ use Rattle.c_answers.specs.Answers.{none, numbers_of, answer_of_folded, answer_o
 use Rattle.c_answers.specs.Answers.{answer_of_verdict}
 
 pub record FoldNumbers : Type 0 where
-  pub done : numbers_of (answer_of_folded (NextOffset (record { 0 = 0x48 }))) ≡ 0 ∷ none ∷ none ∷ 0 ∷ 0x48 ∷ []
-  pub wrong_length : numbers_of (answer_of_folded (Refused (WrongLength 7))) ≡ 13 ∷ 7 ∷ none ∷ 0 ∷ none ∷ []
+  pub done : numbers_of (answer_of_folded (Ok (record { 0 = 0x48 }))) ≡ 0 ∷ none ∷ none ∷ 0 ∷ 0x48 ∷ []
+  pub wrong_length : numbers_of (answer_of_folded (Err (WrongLength 7))) ≡ 13 ∷ 7 ∷ none ∷ 0 ∷ none ∷ []
 
 -- prover, judge and lookup
 pub record RunNumbers : Type 0 where
-  pub proved : numbers_of (answer_of_proved outcomes.Done) ≡ 0 ∷ none ∷ none ∷ 0 ∷ none ∷ []
+  pub proved : numbers_of (answer_of_proved (Ok tt)) ≡ 0 ∷ none ∷ none ∷ 0 ∷ none ∷ []
   -- the degree is place and value
-  pub degree : numbers_of (answer_of_proved (outcomes.Refused (DegreeTooLarge 1))) ≡ 12 ∷ 1 ∷ none ∷ 0 ∷ 1 ∷ []
-  pub store : numbers_of (answer_of_proved (outcomes.Refused (WrongLength 4))) ≡ 13 ∷ 4 ∷ none ∷ 0 ∷ none ∷ []
+  pub degree : numbers_of (answer_of_proved (Err (DegreeTooLarge 1))) ≡ 12 ∷ 1 ∷ none ∷ 0 ∷ 1 ∷ []
+  pub store : numbers_of (answer_of_proved (Err (WrongLength 4))) ≡ 13 ∷ 4 ∷ none ∷ 0 ∷ none ∷ []
   -- cases G and H
-  pub accepted : numbers_of (answer_of_verdict (record { answer = answers.Accepted; reads = 4 }))
+  pub accepted : numbers_of (answer_of_verdict (record { answer = Ok tt; reads = 4 }))
       ≡ 0 ∷ none ∷ none ∷ 4 ∷ none ∷ []
-  pub refused : numbers_of (answer_of_verdict (record { answer = answers.Refused (RoundCheckFails 1 0); reads = 4 }))
+  pub refused : numbers_of (answer_of_verdict (record { answer = Err (RoundCheckFails 1 0); reads = 4 }))
       ≡ 11 ∷ 1 ∷ 0 ∷ 4 ∷ none ∷ []
   -- two queries in one first-layer coset
-  pub shared : numbers_of (answer_of_verdict (record { answer = answers.Refused (CosetShared 1); reads = 0 }))
+  pub shared : numbers_of (answer_of_verdict (record { answer = Err (CosetShared 1); reads = 0 }))
       ≡ 17 ∷ 1 ∷ none ∷ 0 ∷ none ∷ []
   -- as many entries as the value says, from the place on, are what the lookup hands back
   pub part : (p : Parameters) (store : List ℕ) (i : ℕ)

@@ -6,10 +6,9 @@ ghost use Rattle.c_answers.specs.Answers.{or_none, answer_of_value, answer_of_ca
 ghost use Rattle.c_answers.specs.Answers.{answer_of_outcome, answer_of_proved, answer_of_part, answer_of_verdict};
 ghost use Rattle.c_answers.specs.Answers.{numbers_of};
 
-use fold::Folded;
 use fri::Verdict;
 use layout::Part;
-use refusal::{Cause, Outcome, Position};
+use refusal::Cause;
 
 // The five numbers of an answer.
 #[derive(Drop)]
@@ -27,12 +26,12 @@ const DEGREE_TOO_LARGE: u64 = 12;
 // Stands for a place, a round or a value that there is none of: 2^64 - 1.
 const NONE: u64 = 0xffffffffffffffff;
 
-fn or_none(p: Position) -> u64
+fn or_none(p: Option<usize>) -> u64
     ensures { result ≡ or_none p }
 {
     match p {
-        Position::At(n) => n as u64,
-        Position::Absent => NONE,
+        Some(n) => n as u64,
+        None => NONE,
     }
 }
 
@@ -64,26 +63,26 @@ impl Answer {
         }
     }
 
-    pub fn of_folded(folded: Folded) -> Answer
+    pub fn of_folded(folded: Result<Element, Cause>) -> Answer
         ensures { result ≡ answer_of_folded folded }
     {
         match folded {
-            Folded::NextOffset(offset) => Answer::of_value(0, offset.0),
-            Folded::Refused(cause) => Answer::of_cause(cause, 0),
+            Ok(offset) => Answer::of_value(0, offset.0),
+            Err(cause) => Answer::of_cause(cause, 0),
         }
     }
 
-    pub fn of_outcome(outcome: Outcome) -> Answer
+    pub fn of_outcome(outcome: Result<(), Cause>) -> Answer
         ensures { result ≡ answer_of_outcome outcome }
     {
         match outcome {
-            Outcome::Done => Answer::of_value(0, NONE),
-            Outcome::Refused(cause) => Answer::of_cause(cause, 0),
+            Ok(()) => Answer::of_value(0, NONE),
+            Err(cause) => Answer::of_cause(cause, 0),
         }
     }
 
     // The degree that number 12 tells is the value too.
-    pub fn of_proved(outcome: Outcome) -> Answer
+    pub fn of_proved(outcome: Result<(), Cause>) -> Answer
         ensures { result ≡ answer_of_proved outcome }
     {
         let answer = Answer::of_outcome(outcome);
@@ -116,8 +115,8 @@ impl Answer {
     {
         let answer = verdict.answer;
         match answer {
-            fri::Answer::Accepted => Answer::of_value(verdict.reads, NONE),
-            fri::Answer::Refused(cause) => Answer::of_cause(cause, verdict.reads),
+            Ok(()) => Answer::of_value(verdict.reads, NONE),
+            Err(cause) => Answer::of_cause(cause, verdict.reads),
         }
     }
 

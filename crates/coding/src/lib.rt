@@ -8,12 +8,12 @@ ghost use Rattle.reed_solomon.specs.Answers.{checked, encode_outcome, interpolat
 ghost use Rattle.reed_solomon.specs.Answers.{coefficients_after};
 
 use field::Element;
-use refusal::{Cause, Outcome};
+use refusal::Cause;
 
 // The polynomial's values at all 2^k points, in point order; k is the length of the basis, and coefficients that are
 // left off are zero. Refused, in this order: k over 20 (4); over 2^k coefficients or other than 2^k values (13, list
 // 3 or 6); a dependent basis (8). A refusal leaves the values as they were.
-pub fn encode(offset: Element, basis: &[u64], coefficients: &[u64], values: &mut [u64]) -> Outcome
+pub fn encode(offset: Element, basis: &[u64], coefficients: &[u64], values: &mut [u64]) -> Result<(), Cause>
     ensures answer { result ≡ encode_outcome basis.now coefficients.now values.old }
     ensures output { values.new
         ≡ values_after offset.0 basis.now coefficients.now values.old }
@@ -21,13 +21,13 @@ pub fn encode(offset: Element, basis: &[u64], coefficients: &[u64], values: &mut
     let size = size_of(basis.len());
     let outcome = checked(basis, coefficients.len() <= size, values.len() == size);
     match outcome {
-        Outcome::Done => {
+        Ok(()) => {
             fill(coefficients, values);
             let used = dimension_of(coefficients.len());
             coset_transform::evaluate_in_place(offset, basis, used, values);
-            Outcome::Done
+            Ok(())
         }
-        Outcome::Refused(cause) => Outcome::Refused(cause),
+        Err(cause) => Err(cause),
     }
 }
 
@@ -39,7 +39,7 @@ pub fn interpolate(
     basis: &[u64],
     word: &[u64],
     coefficients: &mut [u64],
-) -> Outcome
+) -> Result<(), Cause>
     ensures answer { result ≡ interpolate_outcome basis.now word.now coefficients.old }
     ensures output { coefficients.new
         ≡ coefficients_after offset.0 basis.now word.now coefficients.old }
@@ -47,12 +47,12 @@ pub fn interpolate(
     let size = size_of(basis.len());
     let outcome = checked(basis, word.len() == size, coefficients.len() == size);
     match outcome {
-        Outcome::Done => {
+        Ok(()) => {
             poly::copy(word, coefficients);
             coset_transform::interpolate_in_place(offset, basis, coefficients);
-            Outcome::Done
+            Ok(())
         }
-        Outcome::Refused(cause) => Outcome::Refused(cause),
+        Err(cause) => Err(cause),
     }
 }
 
@@ -63,17 +63,17 @@ fn size_of(k: usize) -> usize
     if k <= 20 { 1 << k } else { 0 }
 }
 
-fn checked(basis: &[u64], fits3: bool, fits6: bool) -> Outcome
+fn checked(basis: &[u64], fits3: bool, fits6: bool) -> Result<(), Cause>
     ensures { result ≡ checked basis.now fits3 fits6 }
 {
     if basis.len() > 20 {
-        return Outcome::Refused(Cause::DimensionOutOfRange);
+        return Err(Cause::DimensionOutOfRange);
     }
     if !fits3 {
-        return Outcome::Refused(Cause::WrongLength { list: 3 });
+        return Err(Cause::WrongLength { list: 3 });
     }
     if !fits6 {
-        return Outcome::Refused(Cause::WrongLength { list: 6 });
+        return Err(Cause::WrongLength { list: 6 });
     }
     independence::checked_basis(basis)
 }

@@ -10,7 +10,7 @@ use lib.Dec.{T, eqb→eq}
 use lib.Bits.{bit_xor, xor_comm, xor_zero_r}
 use Rattle.gf64.specs.Field.{sum}
 use Rattle.gf64.proofs.Xor.{xor_assoc, xor_left_comm, xor_cancel, by_bit}
-use Rattle.refusal.specs.declared.Position.TheVariants.{At, Absent}
+use Rattle.std.specs.Prelude.{Some, None}
 use Rattle.coset.specs.Coset.{point, points}
 use Rattle.coset.specs.Span.{in_span, first_dependent_after, first_dependent, Independent}
 use Rattle.coset.proofs.Span.{at_not_absent}
@@ -101,7 +101,7 @@ at_later : (earlier : List ℕ) (b : ℕ) (elements : List ℕ) (t : ℕ)
 at_later earlier b elements t =
     ap (λ (l : List ℕ). in_span l (get_or elements t 0)) (sym (append_assoc earlier (b ∷ []) (take t elements)))
 
-at_equal : (m n : ℕ) → At m ≡ At n → m ≡ n
+at_equal : (m n : ℕ) → Some m ≡ Some n → m ≡ n
 at_equal m n e = cc
 
 -- the place found is that of the first dependent element
@@ -112,7 +112,7 @@ record Found (earlier elements : List ℕ) (place i : ℕ) : Type 0 where
   dependent : dependent_at earlier elements index ≡ true
   before : (t : ℕ) → t < index → dependent_at earlier elements t ≡ false
 
-found_first : (earlier : List ℕ) (b : ℕ) (elements : List ℕ) (place i : ℕ) → in_span earlier b ≡ true → At place ≡ At i
+found_first : (earlier : List ℕ) (b : ℕ) (elements : List ℕ) (place i : ℕ) → in_span earlier b ≡ true → Some place ≡ Some i
     → Found earlier (b ∷ elements) place i
 found_first earlier b elements place i d e =
     record {
@@ -138,7 +138,7 @@ found_later earlier b elements place i d f =
     none_before zero h = at_first earlier b elements ∙ d
     none_before (suc t) h = at_later earlier b elements t ∙ f.before t (omega arith)
 
-found_after : (earlier elements : List ℕ) (place i : ℕ) → first_dependent_after earlier elements place ≡ At i
+found_after : (earlier elements : List ℕ) (place i : ℕ) → first_dependent_after earlier elements place ≡ Some i
     → Found earlier elements place i
 unfolding first_dependent_after
 found_after earlier [] place i e = absurd (at_not_absent i (sym e))
@@ -146,14 +146,14 @@ found_after earlier (b ∷ elements) place i e =
     by_test (in_span earlier b) refl e (found_after (earlier ++ (b ∷ [])) elements (suc place) i)
   where
     by_test : (t : Bool) → in_span earlier b ≡ t
-        → cond t (At place) (first_dependent_after (earlier ++ (b ∷ [])) elements (suc place)) ≡ At i
-        → (first_dependent_after (earlier ++ (b ∷ [])) elements (suc place) ≡ At i
+        → cond t (Some place) (first_dependent_after (earlier ++ (b ∷ [])) elements (suc place)) ≡ Some i
+        → (first_dependent_after (earlier ++ (b ∷ [])) elements (suc place) ≡ Some i
         → Found (earlier ++ (b ∷ [])) elements (suc place) i)
         → Found earlier (b ∷ elements) place i
     by_test true d h later = found_first earlier b elements place i d h
     by_test false d h later = found_later earlier b elements place i d (later h)
 
-none_after : (earlier elements : List ℕ) (place : ℕ) → first_dependent_after earlier elements place ≡ Absent
+none_after : (earlier elements : List ℕ) (place : ℕ) → first_dependent_after earlier elements place ≡ None
     → (t : ℕ) → t < length elements → dependent_at earlier elements t ≡ false
 unfolding first_dependent_after
 none_after earlier [] place e t h = absurd (omega arith)
@@ -161,15 +161,15 @@ none_after earlier (b ∷ elements) place e t h =
     by_test (in_span earlier b) refl e (none_after (earlier ++ (b ∷ [])) elements (suc place)) t h
   where
     by_test : (s : Bool) → in_span earlier b ≡ s
-        → cond s (At place) (first_dependent_after (earlier ++ (b ∷ [])) elements (suc place)) ≡ Absent
-        → (first_dependent_after (earlier ++ (b ∷ [])) elements (suc place) ≡ Absent → (t : ℕ) → t < length elements
+        → cond s (Some place) (first_dependent_after (earlier ++ (b ∷ [])) elements (suc place)) ≡ None
+        → (first_dependent_after (earlier ++ (b ∷ [])) elements (suc place) ≡ None → (t : ℕ) → t < length elements
         → dependent_at (earlier ++ (b ∷ [])) elements t ≡ false)
         → (t : ℕ) → t < suc (length elements) → dependent_at earlier (b ∷ elements) t ≡ false
     by_test true d k later t l = absurd (at_not_absent place k)
     by_test false d k later zero l = at_first earlier b elements ∙ d
     by_test false d k later (suc t) l = at_later earlier b elements t ∙ later k t (omega arith)
 
-pub first_found : (basis : List ℕ) (i : ℕ) → first_dependent basis ≡ At i
+pub first_found : (basis : List ℕ) (i : ℕ) → first_dependent basis ≡ Some i
     → (i < length basis) × (in_span (take i basis) (get_or basis i 0) ≡ true)
 unfolding first_dependent
 first_found basis i e =
@@ -179,7 +179,7 @@ first_found basis i e =
       subst (λ (n : ℕ). dependent_at [] basis n ≡ true) same f.dependent,
     )
 
-pub first_before : (basis : List ℕ) (i t : ℕ) → first_dependent basis ≡ At i → t < i
+pub first_before : (basis : List ℕ) (i t : ℕ) → first_dependent basis ≡ Some i → t < i
     → in_span (take t basis) (get_or basis t 0) ≡ false
 unfolding first_dependent
 first_before basis i t e h =

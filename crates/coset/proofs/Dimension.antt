@@ -14,8 +14,7 @@ use lib.ListN.{length, get_or, take}
 use lib.Seq.{take-take, get_or-take, length-take-le}
 use Rattle.gf64.specs.Field.{IsElement}
 use Rattle.poly.specs.Polynomial.{All, Distinct}
-use Rattle.refusal.specs.declared.Position.{Position}
-use Rattle.refusal.specs.declared.Position.TheVariants.{At, Absent}
+use Rattle.std.specs.Prelude.{Option, Some, None}
 use Rattle.coset.specs.Coset.{points}
 use Rattle.coset.specs.Span.{in_span, first_dependent_after, first_dependent, Independent}
 use Rattle.coset.proofs.Points.{length-points, points_distinct, points-elements}
@@ -91,8 +90,8 @@ independent_short basis e d = le_of_suc-le-suc (lt_of_not-le too_long)
 -- ---- the first dependent place of a list by that of its first elements
 
 prefix_found : (n : ℕ) (earlier elements : List ℕ) (place i : ℕ)
-    → first_dependent_after earlier (take n elements) place ≡ At i
-    → first_dependent_after earlier elements place ≡ At i
+    → first_dependent_after earlier (take n elements) place ≡ Some i
+    → first_dependent_after earlier elements place ≡ Some i
 unfolding first_dependent_after
 prefix_found zero earlier elements place i e = absurd (at_not_absent i (sym e))
 prefix_found (suc n) earlier [] place i e = e
@@ -100,24 +99,24 @@ prefix_found (suc n) earlier (b ∷ elements) place i e =
     by_test (in_span earlier b) e (prefix_found n (earlier ++ (b ∷ [])) elements (suc place) i)
   where
     by_test : (t : Bool)
-        → cond t (At place) (first_dependent_after (earlier ++ (b ∷ [])) (take n elements) (suc place)) ≡ At i
-        → (first_dependent_after (earlier ++ (b ∷ [])) (take n elements) (suc place) ≡ At i
-        → first_dependent_after (earlier ++ (b ∷ [])) elements (suc place) ≡ At i)
-        → cond t (At place) (first_dependent_after (earlier ++ (b ∷ [])) elements (suc place)) ≡ At i
+        → cond t (Some place) (first_dependent_after (earlier ++ (b ∷ [])) (take n elements) (suc place)) ≡ Some i
+        → (first_dependent_after (earlier ++ (b ∷ [])) (take n elements) (suc place) ≡ Some i
+        → first_dependent_after (earlier ++ (b ∷ [])) elements (suc place) ≡ Some i)
+        → cond t (Some place) (first_dependent_after (earlier ++ (b ∷ [])) elements (suc place)) ≡ Some i
     by_test true h later = h
     by_test false h later = later h
 
-pub found_in_prefix : (n : ℕ) (basis : List ℕ) (i : ℕ) → first_dependent (take n basis) ≡ At i
-    → first_dependent basis ≡ At i
+pub found_in_prefix : (n : ℕ) (basis : List ℕ) (i : ℕ) → first_dependent (take n basis) ≡ Some i
+    → first_dependent basis ≡ Some i
 unfolding first_dependent
 found_in_prefix n basis i e = prefix_found n [] basis 0 i e
 
 pub independent_prefix : (n : ℕ) (basis : List ℕ) → Independent basis → Independent (take n basis)
 independent_prefix n basis d = by (first_dependent (take n basis)) refl
   where
-    by : (q : Position) → first_dependent (take n basis) ≡ q → first_dependent (take n basis) ≡ Absent
-    by Absent f = f
-    by (At i) f = absurd (at_not_absent i (sym (found_in_prefix n basis i f) ∙ d))
+    by : (q : Option ℕ) → first_dependent (take n basis) ≡ q → first_dependent (take n basis) ≡ None
+    by None f = f
+    by (Some i) f = absurd (at_not_absent i (sym (found_in_prefix n basis i f) ∙ d))
 
 -- a place of a prefix is the same place of the list
 same_test : (n : ℕ) (basis : List ℕ) (t : ℕ) → t < n
@@ -126,14 +125,14 @@ same_test n basis t h = ap₂ in_span (take-take t n basis (le_of_lt h)) (get_or
 
 -- where the first 64 of more elements are independent the next is dependent
 pub sixty_fifth : (basis : List ℕ) → All IsElement basis → 64 < length basis → Independent (take 64 basis)
-    → first_dependent basis ≡ At 64
+    → first_dependent basis ≡ Some 64
 sixty_fifth basis e h d = by (first_dependent (take 65 basis)) refl
   where
     both : (t : Bool) → t ≡ true → t ≡ false → ⊥
     both t p q = let impossible : ◌≡◌ {A = ℕ} 0 1 = cc in omega arith
 
-    at : (i : ℕ) → first_dependent (take 65 basis) ≡ At i → i < 65 → (i ≡ 64) ⊎ (i < 64) → first_dependent basis ≡ At 64
-    at i f l (inl s) = found_in_prefix 65 basis i f ∙ ap At s
+    at : (i : ℕ) → first_dependent (take 65 basis) ≡ Some i → i < 65 → (i ≡ 64) ⊎ (i < 64) → first_dependent basis ≡ Some 64
+    at i f l (inl s) = found_in_prefix 65 basis i f ∙ ap Some s
     at i f l (inr s) =
         absurd
         (both (in_span (take i basis) (get_or basis i 0))
@@ -141,10 +140,10 @@ sixty_fifth basis e h d = by (first_dependent (take 65 basis)) refl
         (sym (same_test 64 basis i s)
         ∙ none_dependent (take 64 basis) i d (omega (arith, length-take-le 64 basis (le_of_lt h)))))
 
-    by : (q : Position) → first_dependent (take 65 basis) ≡ q → first_dependent basis ≡ At 64
-    by Absent f =
+    by : (q : Option ℕ) → first_dependent (take 65 basis) ≡ q → first_dependent basis ≡ Some 64
+    by None f =
         absurd
         (omega (arith, independent_short (take 65 basis) (all_take IsElement 65 basis e) f, length-take-le 65 basis h))
-    by (At i) f =
+    by (Some i) f =
         let l : i < 65 = omega (arith, (first_found (take 65 basis) i f).0, length-take-le 65 basis h) in
         at i f l (eq-or-lt_of_le (le_of_suc-le-suc l))

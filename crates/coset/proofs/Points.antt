@@ -13,7 +13,7 @@ use borrow.Author.Tests.{eq-eqb, ne_eqb}
 use Rattle.gf64.specs.Field.{IsElement}
 use Rattle.gf64.proofs.Xor.{xor_cancel, by_bit, halves_eq}
 use Rattle.gf64.proofs.Additive.{Additive, additive_zero}
-use Rattle.refusal.specs.declared.Position.TheVariants.{At, Absent}
+use Rattle.std.specs.Prelude.{Some, None}
 use Rattle.poly.specs.Polynomial.{All, Distinct}
 use Rattle.poly.proofs.Entries.{all_of}
 use Rattle.coset.specs.Coset.{point, tabulated, points}
@@ -71,16 +71,16 @@ pub first_taken : (b : ℕ) (basis : List ℕ) (place : ℕ) → b ≢ 0
     → first_dependent_after [] (b ∷ basis) place ≡ first_dependent_after [] (map (cleared b) basis) (suc place)
 unfolding first_dependent_after in_span
 first_taken b basis place nz =
-    ap (λ (t : Bool). cond t (At place) (first_dependent_after (b ∷ []) basis (suc place))) (ne_eqb b 0 nz)
+    ap (λ (t : Bool). cond t (Some place) (first_dependent_after (b ∷ []) basis (suc place))) (ne_eqb b 0 nz)
     ∙ first_image (λ a. record {}) (λ a c pa pc. record {}) (cleared b) b (cleared_additive b nz)
     (cleared_kernel b nz) [] basis (suc place) (record {}) (all_of (λ a. record {}) (λ a. record {}) basis)
 
-pub first_zero : (b : ℕ) (basis : List ℕ) (place : ℕ) → b ≡ 0 → first_dependent_after [] (b ∷ basis) place ≡ At place
+pub first_zero : (b : ℕ) (basis : List ℕ) (place : ℕ) → b ≡ 0 → first_dependent_after [] (b ∷ basis) place ≡ Some place
 unfolding first_dependent_after in_span
 first_zero b basis place z =
-    ap (λ (t : Bool). cond t (At place) (first_dependent_after (b ∷ []) basis (suc place))) (eq-eqb b 0 z)
+    ap (λ (t : Bool). cond t (Some place) (first_dependent_after (b ∷ []) basis (suc place))) (eq-eqb b 0 z)
 
-pub first_not_zero : (b : ℕ) (basis : List ℕ) (place : ℕ) → first_dependent_after [] (b ∷ basis) place ≡ Absent → b ≢ 0
+pub first_not_zero : (b : ℕ) (basis : List ℕ) (place : ℕ) → first_dependent_after [] (b ∷ basis) place ≡ None → b ≢ 0
 first_not_zero b basis place e z = at_not_absent place (sym (first_zero b basis place z) ∙ e)
 
 -- the first elements of the basis go by the lower bits of the index, the others by the upper ones
@@ -140,7 +140,7 @@ lowest_bit b offset basis i j nz h e =
     (ap (λ (m : ℕ). bit_xor (i % 2 * b) (point offset basis m)) (sym h) ∙ e))
 
 injective_of : (k : ℕ) (offset : ℕ) (basis : List ℕ) (place i j : ℕ) → length basis ≡ k
-    → first_dependent_after [] basis place ≡ Absent → i < 2 ^ k → j < 2 ^ k
+    → first_dependent_after [] basis place ≡ None → i < 2 ^ k → j < 2 ^ k
     → point offset basis i ≡ point offset basis j → i ≡ j
 injective_of zero offset basis place i j l d hi hj e = omega arith
 injective_of (suc k) offset [] place i j l d hi hj e = absurd (omega arith)

@@ -8,8 +8,7 @@ use lib.Dec.{eqb}
 use lib.Bits.{bit_xor, xor_comm}
 use Rattle.gf64.proofs.Xor.{xor_assoc}
 use Rattle.gf64.proofs.Additive.{Additive}
-use Rattle.refusal.specs.declared.Position.{Position}
-use Rattle.refusal.specs.declared.Position.TheVariants.{At, Absent}
+use Rattle.std.specs.Prelude.{Option, Some, None}
 use Rattle.poly.specs.Polynomial.{All}
 use Rattle.poly.proofs.Entries.{all_append}
 use Rattle.coset.specs.Span.{in_span, first_dependent_after}
@@ -23,7 +22,7 @@ Kernel P f b = (a : ℕ) → P a → eqb (f a) 0 ≡ (eqb a 0 || eqb (bit_xor a 
 abbrev pub Closed : (ℕ → Type 0) → Type 0
 Closed P = (a b : ℕ) → P a → P b → P (bit_xor a b)
 
-pub at_not_absent : (place : ℕ) → At place ≡ Absent → ⊥
+pub at_not_absent : (place : ℕ) → Some place ≡ None → ⊥
 at_not_absent place e = let impossible : ◌≡◌ {A = ℕ} 0 1 = cc in omega arith
 
 or_swap : (a b c d : Bool) → ((a || b) || (c || d)) ≡ ((a || c) || (b || d))
@@ -55,7 +54,7 @@ module _ (P : ℕ → Type 0) (closed : Closed P) (f : ℕ → ℕ) (b : ℕ) (a
   unfolding first_dependent_after
   first_image earlier [] place pe ps = refl
   first_image earlier (c ∷ elements) place pe ps =
-      ap₂ (λ (t : Bool) (rest : Position). cond t (At place) rest) (sym (span_image earlier c pe ps.0))
+      ap₂ (λ (t : Bool) (rest : Option ℕ). cond t (Some place) rest) (sym (span_image earlier c pe ps.0))
       (first_image (earlier ++ (c ∷ [])) elements (suc place)
       (all_append P earlier (c ∷ []) pe (ps.0, record {})) ps.1
       ∙ ap (λ (l : List ℕ). first_dependent_after l (map f elements) (suc place)) (map-append f earlier (c ∷ [])))

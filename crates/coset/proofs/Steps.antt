@@ -29,7 +29,7 @@ use Rattle.poly.proofs.Entries.{all_map, all_take, map_agree, map-take, map-drop
 use Rattle.poly.proofs.Sums.{equal_of_sum}
 use Rattle.poly.proofs.Filling.{get_d_map}
 use Rattle.poly.proofs.Vanishing.{evaluate-vanishing}
-use Rattle.refusal.specs.declared.Position.TheVariants.{At, Absent}
+use Rattle.std.specs.Prelude.{Some, None}
 use Rattle.coset.specs.Coset.{point, tabulated, points}
 use Rattle.coset.specs.Span.{in_span, first_dependent_after, first_dependent, Independent}
 use Rattle.coset.specs.Subspace.{subspace_polynomial, image}
@@ -244,16 +244,16 @@ through_point (suc n) offset (b ∷ basis) i =
 -- ---- independence
 
 absent_anywhere : (earlier elements : List ℕ) (place other : ℕ)
-    → first_dependent_after earlier elements place ≡ Absent → first_dependent_after earlier elements other ≡ Absent
+    → first_dependent_after earlier elements place ≡ None → first_dependent_after earlier elements other ≡ None
 unfolding first_dependent_after
 absent_anywhere earlier [] place other e = refl
 absent_anywhere earlier (b ∷ elements) place other e =
     by_test (in_span earlier b) e (absent_anywhere (earlier ++ (b ∷ [])) elements (suc place) (suc other))
   where
-    by_test : (t : Bool) → cond t (At place) (first_dependent_after (earlier ++ (b ∷ [])) elements (suc place)) ≡ Absent
-        → (first_dependent_after (earlier ++ (b ∷ [])) elements (suc place) ≡ Absent
-        → first_dependent_after (earlier ++ (b ∷ [])) elements (suc other) ≡ Absent)
-        → cond t (At other) (first_dependent_after (earlier ++ (b ∷ [])) elements (suc other)) ≡ Absent
+    by_test : (t : Bool) → cond t (Some place) (first_dependent_after (earlier ++ (b ∷ [])) elements (suc place)) ≡ None
+        → (first_dependent_after (earlier ++ (b ∷ [])) elements (suc place) ≡ None
+        → first_dependent_after (earlier ++ (b ∷ [])) elements (suc other) ≡ None)
+        → cond t (Some other) (first_dependent_after (earlier ++ (b ∷ [])) elements (suc other)) ≡ None
     by_test true h later = absurd (at_not_absent place h)
     by_test false h later = later h
 
@@ -266,9 +266,9 @@ independent_step b basis h d =
     (sym (first_image IsElement (xor_lt 64) (one_step b) b (one_step_additive b) (one_step_kernel b h.0) [] basis 1
     (record {}) h.1) ∙ others)
   where
-    others : first_dependent_after (b ∷ []) basis 1 ≡ Absent
+    others : first_dependent_after (b ∷ []) basis 1 ≡ None
     others =
-        sym (ap (λ (t : Bool). cond t (At 0) (first_dependent_after (b ∷ []) basis 1))
+        sym (ap (λ (t : Bool). cond t (Some 0) (first_dependent_after (b ∷ []) basis 1))
         (ne_eqb b 0 (first_not_zero b basis 0 d))) ∙ d
 
 pub independent_through : (n : ℕ) (basis : List ℕ) → All IsElement basis → Independent basis

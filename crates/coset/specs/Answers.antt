@@ -1,16 +1,14 @@
 -- What is answered where a basis must be independent, by its first dependent place.
 use Rattle.std.specs.Prelude.{List, ℕ}
 use Rattle.refusal.specs.declared.Cause.TheVariants.{BasisDependent}
-use Rattle.refusal.specs.declared.Outcome.{Outcome}
-use Rattle.refusal.specs.declared.Outcome.TheVariants.{Done, Refused}
-use Rattle.refusal.specs.declared.Position.{Position}
-use Rattle.refusal.specs.declared.Position.TheVariants.{At, Absent}
+use Rattle.std.specs.Prelude.{Option, Some, None, Ok, Err}
+use Rattle.refusal.specs.Outcome.{Outcome}
 use Rattle.coset.specs.Span.{first_dependent}
 
 -- a dependent basis is refused (8) at its first dependent place
-abbrev pub outcome_of_basis : (dependent : Position) → Outcome
-outcome_of_basis (At place) = Refused (BasisDependent place)
-outcome_of_basis Absent = Done
+abbrev pub outcome_of_basis : (dependent : Option ℕ) → Outcome
+outcome_of_basis (Some place) = Err (BasisDependent place)
+outcome_of_basis None = Ok tt
 
 -- the check of a basis: no element may lie in the span of earlier ones (8)
 abbrev pub basis_outcome : (basis : List ℕ) → Outcome

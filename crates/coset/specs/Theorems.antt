@@ -1,7 +1,7 @@
 -- What is proved of cosets, as statements: proofs/Theorems.antt has a value of each.
 use Rattle.std.specs.Prelude.{◌≡◌, ◌≢◌, ◌↔◌, true, false, List, [], ◌∷◌, ◌++◌, ℕ, suc, ◌+◌, ◌*◌, ◌-◌, ◌/◌, ◌^◌, ◌≤◌, ◌<◌, length, get_or, take}
 use Rattle.std.specs.Int.Count.{count_trailing_zeros}
-use Rattle.refusal.specs.declared.Position.TheVariants.{At}
+use Rattle.std.specs.Prelude.{Some}
 use Rattle.gf64.specs.Field.{IsElement, sum}
 use Rattle.poly.specs.Polynomial.{All, Distinct}
 use Rattle.coset.specs.Coset.{point, points}
@@ -29,10 +29,10 @@ pub record Cosets : Type 0 where
 -- `first_dependent` finds the first element that lies in the span of the earlier ones
 pub record FirstDependent : Type 0 where
   -- it lies there
-  pub found : (basis : List ℕ) (i : ℕ) → first_dependent basis ≡ At i
+  pub found : (basis : List ℕ) (i : ℕ) → first_dependent basis ≡ Some i
       → (i < length basis) × (in_span (take i basis) (get_or basis i 0) ≡ true)
   -- and none before it does
-  pub first : (basis : List ℕ) (i t : ℕ) → first_dependent basis ≡ At i → t < i
+  pub first : (basis : List ℕ) (i t : ℕ) → first_dependent basis ≡ Some i → t < i
       → in_span (take t basis) (get_or basis t 0) ≡ false
   -- an independent basis has none
   pub none : (basis : List ℕ) (t : ℕ) → Independent basis → t < length basis

@@ -4,7 +4,7 @@ use mathlib.Core.Logic.{inl, inr}
 use mathlib.Core.List.{List, [], ◌∷◌}
 use Prim.Native.Nat.{ℕ}
 use Rattle.poly.specs.Polynomial.{All}
-use Rattle.fri.specs.declared.Answer.TheVariants as answers
+use Rattle.std.specs.Prelude.{Ok}
 use Rattle.fri.specs.declared.Verdict.{Verdict}
 use Rattle.fri.specs.Run.{Run}
 use Rattle.fri.specs.Judge.{verdict_of}
@@ -44,7 +44,7 @@ lists [] = []
 lists (judging ∷ judgings) = judging.queries ∷ lists judgings
 
 visited : (run : Run) (coset : ℕ) (judgings : List Judging) → All (Judged run) judgings
-    → Any (λ judging. (judging.verdict.answer ≡ answers.Accepted) × Visits run judging.queries coset) judgings
+    → Any (λ judging. (judging.verdict.answer ≡ Ok tt) × Visits run judging.queries coset) judgings
     → Any (λ queries. Accepted run queries × Visits run queries coset) (lists judgings)
 unfolding lists
 visited run coset (judging ∷ judgings) judged (inl (a, v)) =

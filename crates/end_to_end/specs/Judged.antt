@@ -1,6 +1,6 @@
 -- The promises of prover and judge together, and of prover, writer and judge over bytes, in named parts.
 use Rattle.std.specs.Prelude.{◌≡◌, List, ℕ, length}
-use Rattle.refusal.specs.declared.Outcome.TheVariants.{Done}
+use Rattle.std.specs.Prelude.{Ok}
 use Rattle.fri.specs.Run.{Run, steps_in}
 use Rattle.fri.specs.Judge.{verdict_of}
 use Rattle.transcript.specs.Judge.{transcript_verdict}
@@ -19,7 +19,7 @@ pub record ProvedThenJudged (run : Run) (queries : List ℕ) (r : ProvedAndJudge
   -- the judge's verdict on what the lists hold then
   pub verdict : r.verdict ≡ verdict_of (leaving run stored coefficients) queries
   -- where the input is honest it is proved and accepted
-  pub accepts : Honest run queries → (r.outcome ≡ Done) × (r.verdict ≡ accepted run queries)
+  pub accepts : Honest run queries → (r.outcome ≡ Ok tt) × (r.verdict ≡ accepted run queries)
 
 -- what is answered on a run with these queries and a list of bytes that held this, and what is left in the three lent
 -- lists
@@ -33,4 +33,4 @@ pub record ProvedThenWritten (run : Run) (queries held : List ℕ) (r : ProvedWr
   pub verdict : r.verdict ≡ transcript_verdict bytes
   -- where the input is honest and the bytes are as many as are needed, it is proved, written and accepted
   pub accepts : Honest run queries → length held ≡ transcript_length run.k run.rate (steps_in run) (length queries)
-      → (r.proved ≡ Done) × (r.written ≡ Done) × (r.verdict ≡ accepted run queries)
+      → (r.proved ≡ Ok tt) × (r.written ≡ Ok tt) × (r.verdict ≡ accepted run queries)

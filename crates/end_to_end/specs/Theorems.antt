@@ -4,9 +4,8 @@
 -- `write` and the judge over bytes.
 use Rattle.std.specs.Prelude.{◌≡◌, List, ℕ, ◌*◌, ◌-◌, ◌^◌, ◌<◌, length}
 use Rattle.poly.specs.Polynomial.{All}
-use Rattle.refusal.specs.declared.Outcome.{Outcome}
-use Rattle.refusal.specs.declared.Outcome.TheVariants.{Done}
-use Rattle.fri.specs.declared.Answer.TheVariants as answers
+use Rattle.std.specs.Prelude.{Ok}
+use Rattle.refusal.specs.Outcome.{Outcome}
 use Rattle.fri.specs.declared.Verdict.{Verdict}
 use Rattle.fri.specs.Layout.{last_count, store_length}
 use Rattle.fri.specs.Run.{Run, steps_in, rounds_in, step_in}
@@ -30,7 +29,7 @@ pub record Honest (run : Run) (queries : List ℕ) : Type 0 where
 
 -- accepted, with queries · r · 2^η entries read
 abbrev pub accepted : (run : Run) (queries : List ℕ) → Verdict
-accepted run queries = record { answer = answers.Accepted; reads = length queries * rounds_in run * 2 ^ run.step }
+accepted run queries = record { answer = Ok tt; reads = length queries * rounds_in run * 2 ^ run.step }
 
 -- the run with these lists in the place of its store and its last coefficients
 abbrev pub leaving : (run : Run) (store last : List ℕ) → Run
@@ -52,7 +51,7 @@ abbrev pub ProvedIsAccepted : Type 0
 ProvedIsAccepted =
     (run : Run) (queries : List ℕ) (outcome : Outcome) (store last : List ℕ) (verdict : Verdict)
     → Honest run queries → Proved run outcome store last → verdict ≡ verdict_of (leaving run store last) queries
-    → (outcome ≡ Done) × (verdict ≡ accepted run queries)
+    → (outcome ≡ Ok tt) × (verdict ≡ accepted run queries)
 
 -- the same through bytes: `write` puts what `prove` leaves of such a word into as many bytes as are needed, and these
 -- are accepted
@@ -62,7 +61,7 @@ WrittenIsAccepted =
     → Honest run queries → length held ≡ transcript_length run.k run.rate (steps_in run) (length queries)
     → Proved run proved store last → Written (leaving run store last) queries held written bytes
     → verdict ≡ transcript_verdict bytes
-    → (proved ≡ Done) × (written ≡ Done) × (verdict ≡ accepted run queries)
+    → (proved ≡ Ok tt) × (written ≡ Ok tt) × (verdict ≡ accepted run queries)
 
 -- a query list and the verdict on it
 pub record Judging : Type 0 where
@@ -77,7 +76,7 @@ Judged run judging = judging.verdict ≡ verdict_of run judging.queries
 abbrev pub VisitedByAccepted : (run : Run) (judgings : List Judging) → Type 0
 VisitedByAccepted run judgings =
     (coset : ℕ) → coset < 2 ^ (run.k - step_in run 0)
-    → Any (λ judging. (judging.verdict.answer ≡ answers.Accepted) × Visits run judging.queries coset) judgings
+    → Any (λ judging. (judging.verdict.answer ≡ Ok tt) × Visits run judging.queries coset) judgings
 
 -- demand 3, second half: one claim over any list of judgings of the same layers from anybody
 abbrev pub JudgedSoundness : Type 0

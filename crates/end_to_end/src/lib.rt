@@ -5,23 +5,23 @@
 ghost use Rattle.layout.specs.Parameters.{run_of};
 ghost use Rattle.end_to_end.specs.Judged.{ProvedThenJudged, ProvedThenWritten};
 
+use refusal::Cause;
 use field::Element;
 use fri::Verdict;
 use layout::Parameters;
-use refusal::Outcome;
 
 // What the prover answered, and the verdict on what it left.
 #[derive(Drop)]
 pub struct ProvedAndJudged {
-    pub outcome: Outcome,
+    pub outcome: Result<(), Cause>,
     pub verdict: Verdict,
 }
 
 // What the prover and the writer answered, and the verdict on the bytes.
 #[derive(Drop)]
 pub struct ProvedWrittenJudged {
-    pub proved: Outcome,
-    pub written: Outcome,
+    pub proved: Result<(), Cause>,
+    pub written: Result<(), Cause>,
     pub verdict: Verdict,
 }
 

@@ -14,7 +14,7 @@ use Rattle.gf64.proofs.Inverse.{inverse_unique, inverse_right}
 use Rattle.gf64.proofs.Ring.{product_one_r}
 use lib.Bits.{bit_xor}
 use native.Mathlib.Nat.{le_of_eq}
-use Rattle.refusal.specs.declared.Outcome.TheVariants.{Done}
+use Rattle.std.specs.Prelude.{Ok}
 use Rattle.poly.specs.Carrier.{gf64}
 use Rattle.poly.specs.Polynomial.{All, Distinct, Zeros, evaluate, plus, scale, times_linear, vanishing_polynomial}
 use Rattle.poly.proofs.AtField.{gf64_laws}
@@ -30,7 +30,6 @@ use lib.Pow.{pow_pos}
 use Rattle.reed_solomon.specs.Codes.{encoded, interpolated, WordDegreeBelow}
 use Rattle.reed_solomon.proofs.Theorems.{round_trips, encoding}
 use Rattle.reed_solomon.proofs.Cases.{code_cases}
-use Rattle.fold.specs.declared.Folded.TheVariants.{NextOffset}
 use Rattle.fold.specs.Fold.{folded}
 use Rattle.fold.specs.Answers.{fold_outcome, fold_answer, next_basis_after}
 use Rattle.fold.proofs.Outcomes.{accepted}
@@ -260,16 +259,16 @@ k_coefficient =
 
 -- ---- case D as a call
 
-d_done : fold_outcome 2 1 (1 ∷ 2 ∷ []) (0 ∷ 0 ∷ 0 ∷ 0 ∷ []) (0 ∷ 0 ∷ []) (0 ∷ []) ≡ Done
+d_done : fold_outcome 2 1 (1 ∷ 2 ∷ []) (0 ∷ 0 ∷ 0 ∷ 0 ∷ []) (0 ∷ 0 ∷ []) (0 ∷ []) ≡ Ok tt
 d_done =
     (accepted.done 2 1 (1 ∷ 2 ∷ []) (0 ∷ 0 ∷ 0 ∷ 0 ∷ []) (0 ∷ 0 ∷ []) (0 ∷ [])).1
     ((omega arith, omega arith, omega arith, omega arith), omega arith, (refl, refl, refl, refl), independent)
 
-d_call : (fold_answer 2 1 0x8 (1 ∷ 2 ∷ []) (0 ∷ 0 ∷ 0 ∷ 0 ∷ []) (0 ∷ 0 ∷ []) (0 ∷ []) ≡ NextOffset (record { 0 = 0x48 }))
+d_call : (fold_answer 2 1 0x8 (1 ∷ 2 ∷ []) (0 ∷ 0 ∷ 0 ∷ 0 ∷ []) (0 ∷ 0 ∷ []) (0 ∷ []) ≡ Ok (record { 0 = 0x48 }))
     × (next_basis_after 2 1 (1 ∷ 2 ∷ []) (0 ∷ 0 ∷ 0 ∷ 0 ∷ []) (0 ∷ 0 ∷ []) (0 ∷ []) ≡ 6 ∷ [])
 d_call =
     let a = accepted.answer 2 1 0x8 (1 ∷ 2 ∷ []) (0 ∷ 0 ∷ 0 ∷ 0 ∷ []) 4 (0 ∷ 0 ∷ []) (0 ∷ []) d_done in
-    (a.0 ∙ ap (λ (o : ℕ). NextOffset (record { 0 = o })) d_offset, a.4 ∙ d_basis)
+    (a.0 ∙ ap (λ (o : ℕ). Ok (record { 0 = o })) d_offset, a.4 ∙ d_basis)
 
 -- ---- case F: the word has low degree, so that no challenge is exceptional
 

@@ -11,9 +11,9 @@ use borrow.Author.Tests.{le-leb, lt-leb, eq-eqb, ne_eqb}
 use Rattle.refusal.specs.declared.Cause.{Cause}
 use Rattle.refusal.specs.declared.Cause.TheVariants.{DimensionOutOfRange, StepOutOfRange}
 use Rattle.refusal.specs.declared.Cause.TheVariants.{DimensionTooSmall, WrongLength, BasisDependent}
-use Rattle.refusal.specs.declared.Outcome.{Outcome}
-use Rattle.refusal.specs.declared.Outcome.TheVariants.{Done, Refused}
-use Rattle.refusal.specs.declared.Position.TheVariants.{Absent}
+use Rattle.std.specs.Prelude.{None, Result, Ok, Err}
+use Rattle.refusal.specs.Outcome.{Outcome}
+use Rattle.field.specs.declared.Element.{Element}
 use Rattle.refusal.specs.Checks.{and_then, afterwards}
 use Rattle.refusal.specs.Numbers.{number_of, place_of, round_of, number_of_outcome}
 use Rattle.refusal.proofs.Checks.{within, outside, number_unless, number_then, then_passed, then_refused}
@@ -24,8 +24,6 @@ use Rattle.coset.proofs.Independence.{basis_number}
 use Rattle.fold.specs.Answers.{fold_ranges_outcome, fold_lengths_outcome}
 use Rattle.fold.specs.Answers.{fold_outcome, folded_of, fold_answer, fold_values_after, next_basis_after}
 use Rattle.fold.specs.Answers.{number_of_folded, place_of_folded, round_of_folded, value_of_folded}
-use Rattle.fold.specs.declared.Folded.{Folded}
-use Rattle.fold.specs.declared.Folded.TheVariants.{NextOffset}
 use Rattle.fold.specs.Fold.{folded}
 use Rattle.fold.specs.Theorems.{InRange, FoldFits, FoldTells, FoldAccepted, Refuses, FoldNumber, FoldRefusals}
 use Rattle.fold.proofs.Checks as checks
@@ -43,14 +41,14 @@ module _ (k step : ℕ) (basis word values next : List ℕ) where
   abbrev lengths : Outcome
   lengths = fold_lengths_outcome k step (length basis) (length word) (length values) (length next)
 
-  ranges_refuse : (cause : Cause) → Refused cause ≡ fold_ranges_outcome k step → Refused cause ≡ outcome
+  ranges_refuse : (cause : Cause) → Err cause ≡ fold_ranges_outcome k step → Err cause ≡ outcome
   ranges_refuse cause e = then_refused (fold_ranges_outcome k step) (and_then lengths (basis_outcome basis)) cause (sym e)
 
   module _ (r : InRange k step) (fits : step ≤ k) where
-    ranges_passed : fold_ranges_outcome k step ≡ Done
+    ranges_passed : fold_ranges_outcome k step ≡ Ok tt
     ranges_passed = sym (checks.ranges_pass k step (in_range_k k step r) (in_range_step k step r) (le-leb step k fits))
 
-    lengths_refuse : (cause : Cause) → Refused cause ≡ lengths → Refused cause ≡ outcome
+    lengths_refuse : (cause : Cause) → Err cause ≡ lengths → Err cause ≡ outcome
     lengths_refuse cause e =
         then_refused lengths (basis_outcome basis) cause (sym e)
         ∙ then_passed (fold_ranges_outcome k step) (and_then lengths (basis_outcome basis)) ranges_passed
@@ -65,7 +63,7 @@ module _ (k step : ℕ) (basis word values next : List ℕ) where
         ∙ then_passed (fold_ranges_outcome k step) (and_then lengths (basis_outcome basis)) ranges_passed
 
 accepts : (k step : ℕ) (basis word values next : List ℕ)
-    → (fold_outcome k step basis word values next ≡ Done)
+    → (fold_outcome k step basis word values next ≡ Ok tt)
     ↔ (InRange k step × (step ≤ k) × FoldFits k step basis word values next × Independent basis)
 accepts k step basis word values next = (
   λ e.
@@ -81,35 +79,35 @@ accepts k step basis word values next = (
 )
 
 -- a refusal carries its cause's number and place, no round and no value, and leaves both lists
-refuses : (k step : ℕ) (basis word values next : List ℕ) (cause : Cause) → round_of cause ≡ Absent
-    → Refused cause ≡ fold_outcome k step basis word values next
+refuses : (k step : ℕ) (basis word values next : List ℕ) (cause : Cause) → round_of cause ≡ None
+    → Err cause ≡ fold_outcome k step basis word values next
     → Refuses k step basis word values next (number_of cause) (place_of cause)
 refuses k step basis word values next cause n e offset x =
     subst
     (λ (o : Outcome).
-    FoldTells (folded_of o (next_offset step offset basis)) (number_of cause) (place_of cause) Absent
+    FoldTells (folded_of o (next_offset step offset basis)) (number_of cause) (place_of cause) None
     × ((none : ℕ) → value_of_folded (folded_of o (next_offset step offset basis)) none ≡ none)
     × (afterwards o (folded step offset basis word x) values ≡ values)
     × (afterwards o (next_basis step basis) next ≡ next))
     e ((refl, refl, n), (λ none. refl), refl, refl)
 
 answers_done : (k step offset : ℕ) (basis word : List ℕ) (x : ℕ) (values next : List ℕ)
-    → fold_outcome k step basis word values next ≡ Done
-    → (fold_answer k step offset basis word values next ≡ NextOffset (record { 0 = next_offset step offset basis }))
-    × FoldTells (fold_answer k step offset basis word values next) 0 Absent Absent
+    → fold_outcome k step basis word values next ≡ Ok tt
+    → (fold_answer k step offset basis word values next ≡ Ok (record { 0 = next_offset step offset basis }))
+    × FoldTells (fold_answer k step offset basis word values next) 0 None None
     × ((none : ℕ) → value_of_folded (fold_answer k step offset basis word values next) none ≡ next_offset step offset basis)
     × (fold_values_after k step offset basis word x values next ≡ folded step offset basis word x)
     × (next_basis_after k step basis word values next ≡ next_basis step basis)
 answers_done k step offset basis word x values next e = (
   is_offset,
   (ap number_of_folded is_offset, ap place_of_folded is_offset, ap round_of_folded is_offset),
-  λ none. ap (λ (a : Folded). value_of_folded a none) is_offset,
+  λ none. ap (λ (a : Result Element Cause). value_of_folded a none) is_offset,
   ap (λ (o : Outcome). afterwards o (folded step offset basis word x) values) e,
   ap (λ (o : Outcome). afterwards o (next_basis step basis) next) e,
 )
   where
     is_offset : fold_answer k step offset basis word values next
-        ≡ NextOffset (record { 0 = next_offset step offset basis })
+        ≡ Ok (record { 0 = next_offset step offset basis })
     is_offset = ap (λ (o : Outcome). folded_of o (next_offset step offset basis)) e
 
 -- ---- which numbers there are
@@ -119,7 +117,7 @@ module _ (P : ℕ → Type 0) (p0 : P 0) (p4 : P 4) (p6 : P 6) (p7 : P 7) (p8 : 
   ranges_number k step =
       number_unless P (leb 2 k && leb k 20) DimensionOutOfRange (checks.step_checked k step) p4
       (number_unless P (leb 1 step && leb step 3) StepOutOfRange (checks.small_enough k step) p6
-      (number_unless P (leb step k) DimensionTooSmall Done p7 p0))
+      (number_unless P (leb step k) DimensionTooSmall (Ok tt) p7 p0))
 
   lengths_number : (k step length1 length3 length6 length7 : ℕ)
       → P (number_of_outcome (fold_lengths_outcome k step length1 length3 length6 length7))
@@ -128,7 +126,7 @@ module _ (P : ℕ → Type 0) (p0 : P 0) (p4 : P 4) (p6 : P 6) (p7 : P 7) (p8 : 
       (number_unless P (eqb length3 (2 ^ k)) (WrongLength 3) (checks.after3 k step length1 length3 length6 length7) p13
       (number_unless P (eqb length6 (2 ^ (k - step))) (WrongLength 6)
       (checks.after6 k step length1 length3 length6 length7) p13
-      (number_unless P (eqb length7 (k - step)) (WrongLength 7) Done p13 p0)))
+      (number_unless P (eqb length7 (k - step)) (WrongLength 7) (Ok tt) p13 p0)))
 
   outcome_number : (k step : ℕ) (basis word values next : List ℕ)
       → P (number_of_outcome (fold_outcome k step basis word values next))
@@ -140,8 +138,8 @@ module _ (P : ℕ → Type 0) (p0 : P 0) (p4 : P 4) (p6 : P 6) (p7 : P 7) (p8 : 
       (basis_number P p0 p8 basis))
 
 same_number : (outcome : Outcome) (offset : ℕ) → number_of_folded (folded_of outcome offset) ≡ number_of_outcome outcome
-same_number Done offset = refl
-same_number (Refused cause) offset = refl
+same_number (Ok tt) offset = refl
+same_number (Err cause) offset = refl
 
 numbers : (k step offset : ℕ) (basis word values next : List ℕ)
     → FoldNumber (number_of_folded (fold_answer k step offset basis word values next))

@@ -3,16 +3,14 @@
 use Rattle.std.specs.Prelude.{◌&&◌, List, ℕ, ◌-◌, ◌^◌, leb, eqb, length}
 use Rattle.refusal.specs.declared.Cause.TheVariants.{DimensionOutOfRange, StepOutOfRange}
 use Rattle.refusal.specs.declared.Cause.TheVariants.{DimensionTooSmall, WrongLength}
-use Rattle.refusal.specs.declared.Outcome.{Outcome}
-use Rattle.refusal.specs.declared.Outcome.TheVariants.{Done, Refused}
-use Rattle.refusal.specs.declared.Position.{Position}
-use Rattle.refusal.specs.declared.Position.TheVariants.{Absent}
+use Rattle.std.specs.Prelude.{Option, None, Result, Ok, Err}
+use Rattle.refusal.specs.Outcome.{Outcome}
+use Rattle.refusal.specs.declared.Cause.{Cause}
+use Rattle.field.specs.declared.Element.{Element}
 use Rattle.refusal.specs.Checks.{refused_unless, and_then, afterwards}
 use Rattle.refusal.specs.Numbers.{number_of, place_of, round_of}
 use Rattle.coset.specs.Answers.{basis_outcome}
 use Rattle.coset.specs.Subspace.{next_offset, next_basis}
-use Rattle.fold.specs.declared.Folded.{Folded}
-use Rattle.fold.specs.declared.Folded.TheVariants as answers
 use Rattle.fold.specs.Fold.{folded}
 
 -- the ranges: k 2..20 (number 4), the step 1..3 (6), k at least the step (7)
@@ -21,7 +19,7 @@ fold_ranges_outcome k step =
     refused_unless (leb 2 k && leb k 20) DimensionOutOfRange
     (refused_unless (leb 1 step && leb step 3) StepOutOfRange
     (refused_unless (leb step k) DimensionTooSmall
-    Done))
+    (Ok tt)))
 
 -- the lengths of the lists: the lowest list whose length is not the one due (13)
 abbrev pub fold_lengths_outcome : (k step length1 length3 length6 length7 : ℕ) → Outcome
@@ -30,7 +28,7 @@ fold_lengths_outcome k step length1 length3 length6 length7 =
     (refused_unless (eqb length3 (2 ^ k)) (WrongLength 3)
     (refused_unless (eqb length6 (2 ^ (k - step))) (WrongLength 6)
     (refused_unless (eqb length7 (k - step)) (WrongLength 7)
-    Done)))
+    (Ok tt))))
 
 -- all checks, in the order of document 01: 4, 6, 7, 13, 8
 abbrev pub fold_outcome : (k step : ℕ) (basis word values next : List ℕ) → Outcome
@@ -40,12 +38,12 @@ fold_outcome k step basis word values next =
     (basis_outcome basis))
 
 -- the next offset, or the refusal
-abbrev pub folded_of : (outcome : Outcome) (offset : ℕ) → Folded
-folded_of Done offset = answers.NextOffset (record { 0 = offset })
-folded_of (Refused cause) offset = answers.Refused cause
+abbrev pub folded_of : (outcome : Outcome) (offset : ℕ) → Result Element Cause
+folded_of (Ok tt) offset = Ok (record { 0 = offset })
+folded_of (Err cause) offset = Err cause
 
 -- the answer of a call
-abbrev pub fold_answer : (k step offset : ℕ) (basis word values next : List ℕ) → Folded
+abbrev pub fold_answer : (k step offset : ℕ) (basis word values next : List ℕ) → Result Element Cause
 fold_answer k step offset basis word values next =
     folded_of (fold_outcome k step basis word values next) (next_offset step offset basis)
 
@@ -60,21 +58,21 @@ next_basis_after k step basis word values next =
     afterwards (fold_outcome k step basis word values next) (next_basis step basis) next
 
 -- the number of an answer: 0 where there is a next offset, else that of the cause
-abbrev pub number_of_folded : (answer : Folded) → ℕ
-number_of_folded (answers.NextOffset offset) = 0
-number_of_folded (answers.Refused cause) = number_of cause
+abbrev pub number_of_folded : (answer : Result Element Cause) → ℕ
+number_of_folded (Ok offset) = 0
+number_of_folded (Err cause) = number_of cause
 
 -- the place of an answer: that of the cause
-abbrev pub place_of_folded : (answer : Folded) → Position
-place_of_folded (answers.NextOffset offset) = Absent
-place_of_folded (answers.Refused cause) = place_of cause
+abbrev pub place_of_folded : (answer : Result Element Cause) → Option ℕ
+place_of_folded (Ok offset) = None
+place_of_folded (Err cause) = place_of cause
 
 -- the round of an answer: that of the cause
-abbrev pub round_of_folded : (answer : Folded) → Position
-round_of_folded (answers.NextOffset offset) = Absent
-round_of_folded (answers.Refused cause) = round_of cause
+abbrev pub round_of_folded : (answer : Result Element Cause) → Option ℕ
+round_of_folded (Ok offset) = None
+round_of_folded (Err cause) = round_of cause
 
 -- the value of an answer: the next offset, or `none` where there is none
-abbrev pub value_of_folded : (answer : Folded) (none : ℕ) → ℕ
-value_of_folded (answers.NextOffset offset) none = offset.0
-value_of_folded (answers.Refused cause) none = none
+abbrev pub value_of_folded : (answer : Result Element Cause) (none : ℕ) → ℕ
+value_of_folded (Ok offset) none = offset.0
+value_of_folded (Err cause) none = none

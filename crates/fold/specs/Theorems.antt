@@ -1,9 +1,9 @@
 -- What is proved of the fold, as statements: Theorems.antt, Outcomes.antt and Cases.antt of
 -- proofs/ have a value of each.
 use Rattle.std.specs.Prelude.{◌≡◌, ◌≢◌, ◌⊎◌, ◌↔◌, List, [], ◌∷◌, map, ℕ, ◌+◌, ◌*◌, ◌-◌, ◌^◌, ◌≤◌, ◌<◌, length, get_or}
-use Rattle.refusal.specs.declared.Outcome.TheVariants.{Done}
-use Rattle.refusal.specs.declared.Position.{Position}
-use Rattle.refusal.specs.declared.Position.TheVariants.{At, Absent}
+use Rattle.std.specs.Prelude.{Option, Some, None, Result, Ok}
+use Rattle.refusal.specs.declared.Cause.{Cause}
+use Rattle.field.specs.declared.Element.{Element}
 use Rattle.gf64.specs.Field.{IsElement, sum, inverse}
 use Rattle.poly.specs.Carrier.{gf64}
 use Rattle.poly.specs.Polynomial.{All, Distinct, Zeros, evaluate, interpolant}
@@ -12,8 +12,6 @@ use Rattle.coset.specs.Span.{first_dependent, Independent}
 use Rattle.coset.specs.Subspace.{image, next_offset, next_basis}
 use Rattle.coset.specs.Steps.{step_elements}
 use Rattle.reed_solomon.specs.Codes.{encoded, interpolated, WordDegreeBelow}
-use Rattle.fold.specs.declared.Folded.{Folded}
-use Rattle.fold.specs.declared.Folded.TheVariants.{NextOffset}
 use Rattle.fold.specs.Fold.{coset_points, coset_entries, fold_entry, folded}
 use Rattle.fold.specs.Halving.{value_at}
 use Rattle.fold.specs.Rows.{high_rows, rows_at}
@@ -86,7 +84,7 @@ pub record Halvings : Type 0 where
 
 -- cases D, F, J and K of Table A, as far as they speak of one fold at a time
 pub record FoldCases : Type 0 where
-  pub d : fold_answer 2 1 0x8 (1 ∷ 2 ∷ []) (0 ∷ 0 ∷ 0 ∷ 0 ∷ []) (0 ∷ 0 ∷ []) (0 ∷ []) ≡ NextOffset (record { 0 = 0x48 })
+  pub d : fold_answer 2 1 0x8 (1 ∷ 2 ∷ []) (0 ∷ 0 ∷ 0 ∷ 0 ∷ []) (0 ∷ 0 ∷ []) (0 ∷ []) ≡ Ok (record { 0 = 0x48 })
   pub d_basis : next_basis_after 2 1 (1 ∷ 2 ∷ []) (0 ∷ 0 ∷ 0 ∷ 0 ∷ []) (0 ∷ 0 ∷ []) (0 ∷ []) ≡ 6 ∷ []
   -- the word of case F over the coset of case D
   pub d_values : folded 1 0x8 (1 ∷ 2 ∷ []) (7 ∷ 4 ∷ 1 ∷ 2 ∷ []) 4 ≡ 0x13 ∷ 0x13 ∷ []
@@ -119,29 +117,29 @@ FoldFits k step basis word values next =
     (length basis ≡ k) × (length word ≡ 2 ^ k) × (length values ≡ 2 ^ (k - step)) × (length next ≡ k - step)
 
 -- an answer's number, place and round
-abbrev pub FoldTells : (answer : Folded) (number : ℕ) (place round : Position) → Type 0
+abbrev pub FoldTells : (answer : Result Element Cause) (number : ℕ) (place round : Option ℕ) → Type 0
 FoldTells answer number place round =
     (number_of_folded answer ≡ number) × (place_of_folded answer ≡ place) × (round_of_folded answer ≡ round)
 
 -- which calls are done, and what they answer and leave
 pub record FoldAccepted : Type 0 where
   pub done : (k step : ℕ) (basis word values next : List ℕ)
-      → (fold_outcome k step basis word values next ≡ Done)
+      → (fold_outcome k step basis word values next ≡ Ok tt)
       ↔ (InRange k step × (step ≤ k) × FoldFits k step basis word values next × Independent basis)
   pub answer : (k step offset : ℕ) (basis word : List ℕ) (x : ℕ) (values next : List ℕ)
-      → fold_outcome k step basis word values next ≡ Done
-      → (fold_answer k step offset basis word values next ≡ NextOffset (record { 0 = next_offset step offset basis }))
-      × FoldTells (fold_answer k step offset basis word values next) 0 Absent Absent
+      → fold_outcome k step basis word values next ≡ Ok tt
+      → (fold_answer k step offset basis word values next ≡ Ok (record { 0 = next_offset step offset basis }))
+      × FoldTells (fold_answer k step offset basis word values next) 0 None None
       × ((none : ℕ)
       → value_of_folded (fold_answer k step offset basis word values next) none ≡ next_offset step offset basis)
       × (fold_values_after k step offset basis word x values next ≡ folded step offset basis word x)
       × (next_basis_after k step basis word values next ≡ next_basis step basis)
 
 -- a call is refused with this number and place, no round and no value, and both lent lists are left as they were
-abbrev pub Refuses : (k step : ℕ) (basis word values next : List ℕ) (number : ℕ) (place : Position) → Type 0
+abbrev pub Refuses : (k step : ℕ) (basis word values next : List ℕ) (number : ℕ) (place : Option ℕ) → Type 0
 Refuses k step basis word values next number place =
     (offset x : ℕ)
-    → FoldTells (fold_answer k step offset basis word values next) number place Absent
+    → FoldTells (fold_answer k step offset basis word values next) number place None
     × ((none : ℕ) → value_of_folded (fold_answer k step offset basis word values next) none ≡ none)
     × (fold_values_after k step offset basis word x values next ≡ values)
     × (next_basis_after k step basis word values next ≡ next)
@@ -153,23 +151,23 @@ FoldNumber n = (n ≡ 0) ⊎ (n ≡ 4) ⊎ ((6 ≤ n) × (n ≤ 8)) ⊎ (n ≡ 1
 -- the refusals by the first check that fails
 pub record FoldRefusals : Type 0 where
   pub dimension : (k step : ℕ) (basis word values next : List ℕ) → (k < 2) ⊎ (20 < k)
-      → Refuses k step basis word values next 4 Absent
+      → Refuses k step basis word values next 4 None
   pub step : (k step : ℕ) (basis word values next : List ℕ) → 2 ≤ k → k ≤ 20 → (step < 1) ⊎ (3 < step)
-      → Refuses k step basis word values next 6 Absent
+      → Refuses k step basis word values next 6 None
   pub too_small : (k step : ℕ) (basis word values next : List ℕ) → InRange k step → k < step
-      → Refuses k step basis word values next 7 Absent
+      → Refuses k step basis word values next 7 None
   pub list1 : (k step : ℕ) (basis word values next : List ℕ) → InRange k step → step ≤ k → length basis ≢ k
-      → Refuses k step basis word values next 13 (At 1)
+      → Refuses k step basis word values next 13 (Some 1)
   pub list3 : (k step : ℕ) (basis word values next : List ℕ) → InRange k step → step ≤ k → length basis ≡ k
-      → length word ≢ 2 ^ k → Refuses k step basis word values next 13 (At 3)
+      → length word ≢ 2 ^ k → Refuses k step basis word values next 13 (Some 3)
   pub list6 : (k step : ℕ) (basis word values next : List ℕ) → InRange k step → step ≤ k → length basis ≡ k
-      → length word ≡ 2 ^ k → length values ≢ 2 ^ (k - step) → Refuses k step basis word values next 13 (At 6)
+      → length word ≡ 2 ^ k → length values ≢ 2 ^ (k - step) → Refuses k step basis word values next 13 (Some 6)
   pub list7 : (k step : ℕ) (basis word values next : List ℕ) → InRange k step → step ≤ k → length basis ≡ k
       → length word ≡ 2 ^ k
-      → length values ≡ 2 ^ (k - step) → length next ≢ k - step → Refuses k step basis word values next 13 (At 7)
+      → length values ≡ 2 ^ (k - step) → length next ≢ k - step → Refuses k step basis word values next 13 (Some 7)
   pub dependent : (k step : ℕ) (basis word values next : List ℕ) (place : ℕ) → InRange k step → step ≤ k
       → FoldFits k step basis word values next
-      → first_dependent basis ≡ At place → Refuses k step basis word values next 8 (At place)
+      → first_dependent basis ≡ Some place → Refuses k step basis word values next 8 (Some place)
   -- no number is given otherwise
   pub numbers : (k step offset : ℕ) (basis word values next : List ℕ)
       → FoldNumber (number_of_folded (fold_answer k step offset basis word values next))

@@ -5,10 +5,8 @@ use mathlib.Core.List.{List}
 use Prim.Native.Nat.{ℕ, zero, suc, ◌+◌}
 use lib.ListN.{length}
 use Rattle.refusal.specs.declared.Cause.{Cause}
-use Rattle.refusal.specs.declared.Outcome.{Outcome}
-use Rattle.refusal.specs.declared.Outcome.TheVariants.{Done, Refused}
-use Rattle.refusal.specs.declared.Position.{Position}
-use Rattle.refusal.specs.declared.Position.TheVariants.{At, Absent}
+use Rattle.std.specs.Prelude.{Option, Some, None, Ok, Err}
+use Rattle.refusal.specs.Outcome.{Outcome}
 use Rattle.refusal.specs.Checks.{and_then, afterwards}
 use Rattle.refusal.proofs.Checks.{then_passed, then_refused}
 use Rattle.gf64.specs.Field.{IsElement}
@@ -37,16 +35,16 @@ use Rattle.former_answers.specs.LaterBases.{former_fold_outcome, former_run_outc
 use Rattle.former_answers.specs.LaterBases.{former_transcript_outcome, verdict_after, RemovedCheck, AnswersAsBefore}
 
 -- a check that is done where the basis has passed changes nothing behind the check of the basis
-same : (basis : List ℕ) (later : Outcome) → (basis_outcome basis ≡ Done → later ≡ Done)
+same : (basis : List ℕ) (later : Outcome) → (basis_outcome basis ≡ Ok tt → later ≡ Ok tt)
     → basis_outcome basis ≡ and_then (basis_outcome basis) later
 same basis later done = by (first_dependent basis) refl
   where
-    by : (p : Position) → first_dependent basis ≡ p → outcome_of_basis p ≡ and_then (outcome_of_basis p) later
-    by (At place) e = refl
-    by Absent e = sym (done (ap outcome_of_basis e))
+    by : (p : Option ℕ) → first_dependent basis ≡ p → outcome_of_basis p ≡ and_then (outcome_of_basis p) later
+    by (Some place) e = refl
+    by None e = sym (done (ap outcome_of_basis e))
 
-next_done : (cause : Cause) (step : ℕ) (basis : List ℕ) → All IsElement basis → basis_outcome basis ≡ Done
-    → outcome_of_later_basis cause (first_dependent (next_basis step basis)) ≡ Done
+next_done : (cause : Cause) (step : ℕ) (basis : List ℕ) → All IsElement basis → basis_outcome basis ≡ Ok tt
+    → outcome_of_later_basis cause (first_dependent (next_basis step basis)) ≡ Ok tt
 next_done cause step basis h passed =
     ap (outcome_of_later_basis cause) (next_independent step basis h (independent_of basis passed))
 
@@ -56,15 +54,15 @@ module _ (cause : (round : ℕ) → Cause) where
       outcome_of_later_basis (cause round) (first_dependent (layer_basis steps basis (suc round)))
 
   later_refused : (steps basis : List ℕ) (round left place : ℕ)
-      → first_dependent (layer_basis steps basis (suc round)) ≡ At place
-      → later_bases_outcome cause steps basis round (suc left) ≡ Refused (cause round)
+      → first_dependent (layer_basis steps basis (suc round)) ≡ Some place
+      → later_bases_outcome cause steps basis round (suc left) ≡ Err (cause round)
   unfolding later_bases_outcome
   later_refused steps basis round left place e =
       sym (then_refused (later steps basis round) (later_bases_outcome cause steps basis (suc round) left) (cause round)
       (ap (outcome_of_later_basis (cause round)) e))
 
-  later_done : (steps basis : List ℕ) (round left : ℕ) → All IsElement basis → basis_outcome basis ≡ Done
-      → later_bases_outcome cause steps basis round left ≡ Done
+  later_done : (steps basis : List ℕ) (round left : ℕ) → All IsElement basis → basis_outcome basis ≡ Ok tt
+      → later_bases_outcome cause steps basis round left ≡ Ok tt
   unfolding later_bases_outcome
   later_done steps basis round zero h passed = refl
   later_done steps basis round (suc left) h passed =

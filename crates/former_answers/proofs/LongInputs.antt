@@ -10,10 +10,8 @@ use lib.ListN.{length}
 use borrow.Author.Tests.{le-leb, lt-leb, leb-true, leb-false}
 use Rattle.refusal.specs.declared.Cause.{Cause}
 use Rattle.refusal.specs.declared.Cause.TheVariants.{InputTooLong}
-use Rattle.refusal.specs.declared.Outcome.{Outcome}
-use Rattle.refusal.specs.declared.Outcome.TheVariants.{Done, Refused}
-use Rattle.refusal.specs.declared.Position.TheVariants.{Absent}
-use Rattle.fri.specs.declared.Answer.TheVariants as answers
+use Rattle.std.specs.Prelude.{None, Ok, Err}
+use Rattle.refusal.specs.Outcome.{Outcome}
 use Rattle.fri.specs.declared.Verdict.{Verdict}
 use Rattle.fri.specs.Judge.{number_of_answer, place_of_answer, round_of_answer}
 use Rattle.fri.specs.Theorems.{Tells}
@@ -34,7 +32,7 @@ not_fourteen n (inr (inr seventeen)) e = omega arith
 
 module _ (bytes : List ℕ) where
   abbrev too_long : Verdict
-  too_long = record { answer = answers.Refused InputTooLong; reads = 0 }
+  too_long = record { answer = Err InputTooLong; reads = 0 }
 
   abbrev former_by : (test : Bool) → Verdict
   former_by test = cond test (transcript_verdict bytes) too_long
@@ -45,7 +43,7 @@ module _ (bytes : List ℕ) where
   former_long : input_limit < length bytes → former_input_verdict bytes ≡ too_long
   former_long h = ap former_by (lt-leb (length bytes) input_limit h)
 
-  former : input_limit < length bytes → Tells (former_input_verdict bytes) 14 Absent Absent 0
+  former : input_limit < length bytes → Tells (former_input_verdict bytes) 14 None None 0
   former h =
       let told = former_long h in (
         ap number told,
@@ -56,8 +54,8 @@ module _ (bytes : List ℕ) where
 
   abbrev RefusedInFront : Type 0
   RefusedInFront =
-      (input_limit < length bytes) × ((cause : Cause) × (front_outcome bytes ≡ Refused cause)
-      × (input_verdict bytes ≡ record { answer = answers.Refused cause; reads = 0 }))
+      (input_limit < length bytes) × ((cause : Cause) × (front_outcome bytes ≡ Err cause)
+      × (input_verdict bytes ≡ record { answer = Err cause; reads = 0 }))
 
   -- the same answer, or a refusal of sections 1 to 4 over the limit
   same_or_refused : (input_verdict bytes ≡ former_input_verdict bytes) ⊎ RefusedInFront
@@ -65,8 +63,8 @@ module _ (bytes : List ℕ) where
     where
       by_front : input_limit < length bytes → (front : Outcome) → front_outcome bytes ≡ front
           → (input_verdict bytes ≡ former_input_verdict bytes) ⊎ RefusedInFront
-      by_front h Done e = inl (long_inputs.passed bytes h e ∙ sym (former_long h))
-      by_front h (Refused cause) e = inr (h, (cause, e, (long_inputs.refused bytes cause h e).0))
+      by_front h (Ok tt) e = inl (long_inputs.passed bytes h e ∙ sym (former_long h))
+      by_front h (Err cause) e = inr (h, (cause, e, (long_inputs.refused bytes cause h e).0))
 
       by_length : (test : Bool) → leb (length bytes) input_limit ≡ test
           → (input_verdict bytes ≡ former_input_verdict bytes) ⊎ RefusedInFront

@@ -2,10 +2,8 @@
 -- Its number, 16, is retired and has no cause any more: what is said holds whatever `cause` the check gave.
 use Rattle.std.specs.Prelude.{◌≡◌, List, ℕ, zero, suc, ◌+◌, length}
 use Rattle.refusal.specs.declared.Cause.{Cause}
-use Rattle.refusal.specs.declared.Outcome.{Outcome}
-use Rattle.refusal.specs.declared.Outcome.TheVariants.{Done, Refused}
-use Rattle.refusal.specs.declared.Position.{Position}
-use Rattle.refusal.specs.declared.Position.TheVariants.{At, Absent}
+use Rattle.std.specs.Prelude.{Option, Some, None, Ok, Err}
+use Rattle.refusal.specs.Outcome.{Outcome}
 use Rattle.refusal.specs.Checks.{and_then, afterwards}
 use Rattle.gf64.specs.Field.{IsElement}
 use Rattle.poly.specs.Polynomial.{All}
@@ -31,14 +29,14 @@ use Rattle.written.specs.Transcript.{transcript_of}
 use Rattle.written.specs.Writer.{size_outcome, write_outcome, bytes_after}
 
 -- a dependent basis of a later layer was refused
-abbrev pub outcome_of_later_basis : (cause : Cause) (dependent : Position) → Outcome
-outcome_of_later_basis cause (At place) = Refused cause
-outcome_of_later_basis cause Absent = Done
+abbrev pub outcome_of_later_basis : (cause : Cause) (dependent : Option ℕ) → Outcome
+outcome_of_later_basis cause (Some place) = Err cause
+outcome_of_later_basis cause None = Ok tt
 
 -- the check that was taken out: the bases of the layers after layer `round`, `left` of them, each with the cause of the
 -- round whose fold gives that layer
 unfoldable pub later_bases_outcome : (cause : (round : ℕ) → Cause) (steps basis : List ℕ) (round left : ℕ) → Outcome
-later_bases_outcome cause steps basis round zero = Done
+later_bases_outcome cause steps basis round zero = Ok tt
 later_bases_outcome cause steps basis round (suc left) =
     and_then (outcome_of_later_basis (cause round) (first_dependent (layer_basis steps basis (suc round))))
     (later_bases_outcome cause steps basis (suc round) left)
@@ -96,13 +94,13 @@ verdict_after checks run queries =
 pub record RemovedCheck : Type 0 where
   -- it was one: a dependent basis of layer round + 1 was refused with the cause of that round
   pub refused : (cause : (round : ℕ) → Cause) (steps basis : List ℕ) (round left place : ℕ)
-      → first_dependent (layer_basis steps basis (suc round)) ≡ At place
-      → later_bases_outcome cause steps basis round (suc left) ≡ Refused (cause round)
+      → first_dependent (layer_basis steps basis (suc round)) ≡ Some place
+      → later_bases_outcome cause steps basis round (suc left) ≡ Err (cause round)
   -- and was always `Done` where the check of the basis (8) had passed, in a run and in a lone fold
   pub done : (cause : (round : ℕ) → Cause) (steps basis : List ℕ) (round left : ℕ) → All IsElement basis
-      → basis_outcome basis ≡ Done → later_bases_outcome cause steps basis round left ≡ Done
-  pub done_in_fold : (cause : Cause) (step : ℕ) (basis : List ℕ) → All IsElement basis → basis_outcome basis ≡ Done
-      → outcome_of_later_basis cause (first_dependent (next_basis step basis)) ≡ Done
+      → basis_outcome basis ≡ Ok tt → later_bases_outcome cause steps basis round left ≡ Ok tt
+  pub done_in_fold : (cause : Cause) (step : ℕ) (basis : List ℕ) → All IsElement basis → basis_outcome basis ≡ Ok tt
+      → outcome_of_later_basis cause (first_dependent (next_basis step basis)) ≡ Ok tt
 
 -- so that everything else answers as it did, and leaves in lent lists what it left; sheets and the programs' answers
 -- were made of `transcript_verdict` by their definitions (of `judge` see LongInputs)

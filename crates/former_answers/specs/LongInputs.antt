@@ -2,9 +2,7 @@
 use Rattle.std.specs.Prelude.{◌≡◌, ◌≢◌, ◌↔◌, cond, List, ℕ, ◌<◌, leb, length}
 use Rattle.refusal.specs.declared.Cause.{Cause}
 use Rattle.refusal.specs.declared.Cause.TheVariants.{InputTooLong}
-use Rattle.refusal.specs.declared.Outcome.TheVariants.{Refused}
-use Rattle.refusal.specs.declared.Position.TheVariants.{Absent}
-use Rattle.fri.specs.declared.Answer.TheVariants as answers
+use Rattle.std.specs.Prelude.{None, Err}
 use Rattle.fri.specs.declared.Verdict.{Verdict}
 use Rattle.fri.specs.Judge.{number_of_answer}
 use Rattle.fri.specs.Theorems.{Tells}
@@ -16,11 +14,11 @@ use Rattle.transcript.specs.Theorems.{FrontNumber}
 abbrev pub former_input_verdict : (bytes : List ℕ) → Verdict
 former_input_verdict bytes =
     cond (leb (length bytes) input_limit) (transcript_verdict bytes)
-    (record { answer = answers.Refused InputTooLong; reads = 0 })
+    (record { answer = Err InputTooLong; reads = 0 })
 
 pub record ChangedAnswers : Type 0 where
   -- every input over the limit got 14
-  pub former : (bytes : List ℕ) → input_limit < length bytes → Tells (former_input_verdict bytes) 14 Absent Absent 0
+  pub former : (bytes : List ℕ) → input_limit < length bytes → Tells (former_input_verdict bytes) 14 None None 0
   -- the answers that changed are those to inputs over the limit that get 2, 4 to 10 or 17 now, and no others
   pub exactly : (bytes : List ℕ)
       → (input_verdict bytes ≢ former_input_verdict bytes)
@@ -28,5 +26,5 @@ pub record ChangedAnswers : Type 0 where
   -- that is, to those of them that sections 1 to 4 refuse, and with that refusal
   pub by_sections : (bytes : List ℕ)
       → (input_verdict bytes ≢ former_input_verdict bytes)
-      ↔ ((input_limit < length bytes) × ((cause : Cause) × (front_outcome bytes ≡ Refused cause)
-      × (input_verdict bytes ≡ record { answer = answers.Refused cause; reads = 0 })))
+      ↔ ((input_limit < length bytes) × ((cause : Cause) × (front_outcome bytes ≡ Err cause)
+      × (input_verdict bytes ≡ record { answer = Err cause; reads = 0 })))

@@ -13,10 +13,8 @@ use borrow.Author.Tests.{le-leb, lt-leb, lt-ltb, eq-eqb, ne_eqb, ltb-true, ltb-f
 use Rattle.refusal.specs.declared.Cause.TheVariants.{DimensionOutOfRange, RateOutOfRange, StepOutOfRange}
 use Rattle.refusal.specs.declared.Cause.TheVariants.{DimensionTooSmall, WrongLength}
 use Rattle.refusal.specs.declared.Cause.TheVariants.{QueryCountOutOfRange, QueryOutOfRange, CosetShared}
-use Rattle.refusal.specs.declared.Outcome.{Outcome}
-use Rattle.refusal.specs.declared.Outcome.TheVariants.{Done, Refused}
-use Rattle.refusal.specs.declared.Position.{Position}
-use Rattle.refusal.specs.declared.Position.TheVariants.{At, Absent}
+use Rattle.std.specs.Prelude.{Option, Some, None, Ok, Err}
+use Rattle.refusal.specs.Outcome.{Outcome}
 use Rattle.refusal.specs.Checks.{refused_unless, and_then}
 use Rattle.refusal.specs.Numbers.{number_of_outcome, place_of_outcome}
 use Rattle.refusal.proofs.Checks.{equal_of_test, le_of_test, refused_not_done, passed_by}
@@ -39,7 +37,7 @@ use Rattle.fri.proofs.Shared.{none_shared}
 
 module _ (k rate step : ℕ) where
   abbrev after_step : Outcome
-  after_step = refused_unless (leb (rate + step) k) DimensionTooSmall Done
+  after_step = refused_unless (leb (rate + step) k) DimensionTooSmall (Ok tt)
 
   abbrev after_rate : Outcome
   after_rate = refused_unless (leb 1 step && leb step 3) StepOutOfRange after_step
@@ -56,18 +54,18 @@ module _ (k rate step : ℕ) where
   step_passes : 1 ≤ step → step ≤ 3 → after_rate ≡ after_step
   step_passes l m = sym (passed_by (leb 1 step && leb step 3) StepOutOfRange after_step (within 1 3 step l m))
 
-  pub parameters_pass : ValidParameters k rate step → parameters_outcome k rate step ≡ Done
+  pub parameters_pass : ValidParameters k rate step → parameters_outcome k rate step ≡ Ok tt
   parameters_pass v =
       k_passes v.k_least v.k_most ∙ rate_passes v.rate_least v.rate_most
       ∙ step_passes v.step_least v.step_most
-      ∙ sym (passed_by (leb (rate + step) k) DimensionTooSmall Done (le-leb (rate + step) k v.k_enough))
+      ∙ sym (passed_by (leb (rate + step) k) DimensionTooSmall (Ok tt) (le-leb (rate + step) k v.k_enough))
 
-  pub parameters_valid : parameters_outcome k rate step ≡ Done → ValidParameters k rate step
+  pub parameters_valid : parameters_outcome k rate step ≡ Ok tt → ValidParameters k rate step
   parameters_valid e =
       let first = unless_done (leb 2 k && leb k 20) DimensionOutOfRange after_k e in
       let second = unless_done (leb 1 rate && leb rate 6) RateOutOfRange after_rate first.1 in
       let third = unless_done (leb 1 step && leb step 3) StepOutOfRange after_step second.1 in
-      let fourth = unless_done (leb (rate + step) k) DimensionTooSmall Done third.1 in
+      let fourth = unless_done (leb (rate + step) k) DimensionTooSmall (Ok tt) third.1 in
       let k-within = within_of 2 20 k first.0 in
       let rate-within = within_of 1 6 rate second.0 in
       let step_within = within_of 1 3 step third.0 in
@@ -81,24 +79,24 @@ module _ (k rate step : ℕ) where
         k_enough = le_of_test (rate + step) k fourth.0;
       }
 
-  pub k_refused : (k < 2) ⊎ (20 < k) → parameters_outcome k rate step ≡ Refused DimensionOutOfRange
+  pub k_refused : (k < 2) ⊎ (20 < k) → parameters_outcome k rate step ≡ Err DimensionOutOfRange
   k_refused o = sym (refused_by (leb 2 k && leb k 20) DimensionOutOfRange after_k (outside 2 20 k o))
 
-  pub rate_refused : 2 ≤ k → k ≤ 20 → (rate < 1) ⊎ (6 < rate) → parameters_outcome k rate step ≡ Refused RateOutOfRange
+  pub rate_refused : 2 ≤ k → k ≤ 20 → (rate < 1) ⊎ (6 < rate) → parameters_outcome k rate step ≡ Err RateOutOfRange
   rate_refused l m o =
       k_passes l m ∙ sym (refused_by (leb 1 rate && leb rate 6) RateOutOfRange after_rate (outside 1 6 rate o))
 
   pub step_refused : 2 ≤ k → k ≤ 20 → 1 ≤ rate → rate ≤ 6 → (step < 1) ⊎ (3 < step)
-      → parameters_outcome k rate step ≡ Refused StepOutOfRange
+      → parameters_outcome k rate step ≡ Err StepOutOfRange
   step_refused l m a b o =
       k_passes l m ∙ rate_passes a b
       ∙ sym (refused_by (leb 1 step && leb step 3) StepOutOfRange after_step (outside 1 3 step o))
 
   pub too_small_refused : 2 ≤ k → k ≤ 20 → 1 ≤ rate → rate ≤ 6 → 1 ≤ step → step ≤ 3 → k < rate + step
-      → parameters_outcome k rate step ≡ Refused DimensionTooSmall
+      → parameters_outcome k rate step ≡ Err DimensionTooSmall
   too_small_refused l m a b s t h =
       k_passes l m ∙ rate_passes a b ∙ step_passes s t
-      ∙ sym (refused_by (leb (rate + step) k) DimensionTooSmall Done (lt-leb (rate + step) k h))
+      ∙ sym (refused_by (leb (rate + step) k) DimensionTooSmall (Ok tt) (lt-leb (rate + step) k h))
 
 -- ---- lists, check by check
 
@@ -110,7 +108,7 @@ module _ (run : Run) where
   last_due = last_count run.k run.rate (steps_in run)
 
   abbrev after4 : Outcome
-  after4 = refused_unless (eqb (length run.last) last_due) (WrongLength 5) Done
+  after4 = refused_unless (eqb (length run.last) last_due) (WrongLength 5) (Ok tt)
 
   abbrev after3 : Outcome
   after3 = refused_unless (eqb (length run.store) stored) (WrongLength 4) after4
@@ -140,19 +138,19 @@ module _ (run : Run) where
   list4_passes e =
       sym (passed_by (eqb (length run.store) stored) (WrongLength 4) after4 (eq-eqb (length run.store) stored e))
 
-  pub lengths_pass : Fit run → lengths_outcome run ≡ Done
+  pub lengths_pass : Fit run → lengths_outcome run ≡ Ok tt
   lengths_pass f =
       list1_passes f.basis ∙ list2_passes f.challenges ∙ list3_passes f.word ∙ list4_passes f.store
-      ∙ sym (passed_by (eqb (length run.last) last_due) (WrongLength 5) Done
+      ∙ sym (passed_by (eqb (length run.last) last_due) (WrongLength 5) (Ok tt)
       (eq-eqb (length run.last) last_due f.last))
 
-  pub lengths_fit : lengths_outcome run ≡ Done → Fit run
+  pub lengths_fit : lengths_outcome run ≡ Ok tt → Fit run
   lengths_fit e =
       let first = unless_done (eqb (length run.basis) run.k) (WrongLength 1) after1 e in
       let second = unless_done (eqb (length run.challenges) (rounds_in run)) (WrongLength 2) after2 first.1 in
       let third = unless_done (eqb (length run.word) (2 ^ run.k)) (WrongLength 3) after3 second.1 in
       let fourth = unless_done (eqb (length run.store) stored) (WrongLength 4) after4 third.1 in
-      let fifth = unless_done (eqb (length run.last) last_due) (WrongLength 5) Done fourth.1 in
+      let fifth = unless_done (eqb (length run.last) last_due) (WrongLength 5) (Ok tt) fourth.1 in
       record {
         basis = equal_of_test (length run.basis) run.k first.0;
         challenges = equal_of_test (length run.challenges) (rounds_in run) second.0;
@@ -161,27 +159,27 @@ module _ (run : Run) where
         last = equal_of_test (length run.last) last_due fifth.0;
       }
 
-  pub list1_refused : length run.basis ≢ run.k → lengths_outcome run ≡ Refused (WrongLength 1)
+  pub list1_refused : length run.basis ≢ run.k → lengths_outcome run ≡ Err (WrongLength 1)
   list1_refused n =
       sym
       (refused_by (eqb (length run.basis) run.k) (WrongLength 1) after1 (ne_eqb (length run.basis) run.k n))
 
   pub list2_refused : length run.basis ≡ run.k → length run.challenges ≢ rounds_in run
-      → lengths_outcome run ≡ Refused (WrongLength 2)
+      → lengths_outcome run ≡ Err (WrongLength 2)
   list2_refused a n =
       list1_passes a
       ∙ sym (refused_by (eqb (length run.challenges) (rounds_in run)) (WrongLength 2) after2
       (ne_eqb (length run.challenges) (rounds_in run) n))
 
   pub list3_refused : length run.basis ≡ run.k → length run.challenges ≡ rounds_in run
-      → length run.word ≢ 2 ^ run.k → lengths_outcome run ≡ Refused (WrongLength 3)
+      → length run.word ≢ 2 ^ run.k → lengths_outcome run ≡ Err (WrongLength 3)
   list3_refused a b n =
       list1_passes a ∙ list2_passes b
       ∙ sym (refused_by (eqb (length run.word) (2 ^ run.k)) (WrongLength 3) after3
       (ne_eqb (length run.word) (2 ^ run.k) n))
 
   pub list4_refused : length run.basis ≡ run.k → length run.challenges ≡ rounds_in run
-      → length run.word ≡ 2 ^ run.k → length run.store ≢ stored → lengths_outcome run ≡ Refused (WrongLength 4)
+      → length run.word ≡ 2 ^ run.k → length run.store ≢ stored → lengths_outcome run ≡ Err (WrongLength 4)
   list4_refused a b d n =
       list1_passes a ∙ list2_passes b ∙ list3_passes d
       ∙ sym
@@ -189,16 +187,16 @@ module _ (run : Run) where
 
   pub list5_refused : length run.basis ≡ run.k → length run.challenges ≡ rounds_in run
       → length run.word ≡ 2 ^ run.k
-      → length run.store ≡ stored → length run.last ≢ last_due → lengths_outcome run ≡ Refused (WrongLength 5)
+      → length run.store ≡ stored → length run.last ≢ last_due → lengths_outcome run ≡ Err (WrongLength 5)
   list5_refused a b d s n =
       list1_passes a ∙ list2_passes b ∙ list3_passes d ∙ list4_passes s
       ∙ sym
-      (refused_by (eqb (length run.last) last_due) (WrongLength 5) Done (ne_eqb (length run.last) last_due n))
+      (refused_by (eqb (length run.last) last_due) (WrongLength 5) (Ok tt) (ne_eqb (length run.last) last_due n))
 
 -- ---- a run
 
 pub run_passes : (run : Run) → ValidParameters run.k run.rate run.step → Fit run → Independent run.basis
-    → run_outcome run ≡ Done
+    → run_outcome run ≡ Ok tt
 run_passes run v f d =
     sym (then_passed (parameters_outcome run.k run.rate run.step)
     (and_then (lengths_outcome run) (basis_outcome run.basis))
@@ -206,7 +204,7 @@ run_passes run v f d =
     ∙ sym (then_passed (lengths_outcome run) (basis_outcome run.basis) (lengths_pass run f))
     ∙ ap outcome_of_basis d
 
-pub run_valid : (run : Run) → run_outcome run ≡ Done
+pub run_valid : (run : Run) → run_outcome run ≡ Ok tt
     → ValidParameters run.k run.rate run.step × Fit run × Independent run.basis
 run_valid run e =
     let first = then_done (parameters_outcome run.k run.rate run.step)
@@ -220,24 +218,24 @@ run_valid run e =
 -- ---- queries
 
 -- what the first query outside tells
-abbrev Outside : ℕ → List ℕ → ℕ → Position → Type 0
-Outside size queries place Absent = All (λ j. j < size) queries
-Outside size queries place (At query) =
+abbrev Outside : ℕ → List ℕ → ℕ → Option ℕ → Type 0
+Outside size queries place None = All (λ j. j < size) queries
+Outside size queries place (Some query) =
     (t : ℕ) × (query ≡ place + t) × (t < length queries) × (size ≤ get_or queries t 0)
     × ((u : ℕ) → u < t → get_or queries u 0 < size)
 
-one_inside : (size j : ℕ) (queries : List ℕ) (place : ℕ) → j < size → (p : Position)
+one_inside : (size j : ℕ) (queries : List ℕ) (place : ℕ) → j < size → (p : Option ℕ)
     → Outside size queries (suc place) p → Outside size (j ∷ queries) place p
-one_inside size j queries place h Absent told = (h, told)
-one_inside size j queries place h (At query)
+one_inside size j queries place h None told = (h, told)
+one_inside size j queries place h (Some query)
     (t, e, l, o, before) = (suc t, e ∙ suc-add place t ∙ sym (add-suc place t), omega arith, o, earlier)
   where
     earlier : (u : ℕ) → u < suc t → get_or (j ∷ queries) u 0 < size
     earlier zero b = h
     earlier (suc u) b = before u (omega arith)
 
-one_query : (size j : ℕ) (queries : List ℕ) (place : ℕ) (rest : Position) → Outside size queries (suc place) rest
-    → (test : Bool) → ltb j size ≡ test → Outside size (j ∷ queries) place (cond test rest (At place))
+one_query : (size j : ℕ) (queries : List ℕ) (place : ℕ) (rest : Option ℕ) → Outside size queries (suc place) rest
+    → (test : Bool) → ltb j size ≡ test → Outside size (j ∷ queries) place (cond test rest (Some place))
 one_query size j queries place rest told true e = one_inside size j queries place (ltb-true j size e) rest told
 one_query size j queries place rest told false e =
     (0, sym (add-zero place), omega arith, ltb-false j size e, λ u b. absurd (omega arith))
@@ -250,31 +248,31 @@ outside_told size (j ∷ queries) place =
     (outside_told size queries (suc place)) (ltb j size) refl
 
 none_outside : (size : ℕ) (queries : List ℕ) (place : ℕ) → All (λ j. j < size) queries
-    → first_outside size queries place ≡ Absent
+    → first_outside size queries place ≡ None
 unfolding first_outside
 none_outside size [] place h = refl
 none_outside size (j ∷ queries) place h =
-    ap (λ (t : Bool). cond t (first_outside size queries (suc place)) (At place)) (lt-ltb j size h.0)
+    ap (λ (t : Bool). cond t (first_outside size queries (suc place)) (Some place)) (lt-ltb j size h.0)
     ∙ none_outside size queries (suc place) h.1
 
-pub first-outside : (size : ℕ) (queries : List ℕ) (query : ℕ) → first_outside size queries 0 ≡ At query
+pub first-outside : (size : ℕ) (queries : List ℕ) (query : ℕ) → first_outside size queries 0 ≡ Some query
     → (query < length queries) × (size ≤ get_or queries query 0) × ((t : ℕ) → t < query → get_or queries t 0 < size)
 first-outside size queries query e = by (subst (Outside size queries 0) e (outside_told size queries 0))
   where
-    by : Outside size queries 0 (At query)
+    by : Outside size queries 0 (Some query)
         → (query < length queries) × (size ≤ get_or queries query 0) × ((t : ℕ) → t < query → get_or queries t 0 < size)
     by (t, s, l, o, before) =
         let same : t ≡ query = omega (arith, s) in
         subst (λ (q : ℕ). (q < length queries) × (size ≤ get_or queries q 0)
         × ((u : ℕ) → u < q → get_or queries u 0 < size)) same (l, o, before)
 
-all_inside : (p : Position) → outcome_of_outside p ≡ Done → p ≡ Absent
-all_inside (At query) e = absurd (refused_not_done (QueryOutOfRange query) e)
-all_inside Absent e = refl
+all_inside : (p : Option ℕ) → outcome_of_outside p ≡ Ok tt → p ≡ None
+all_inside (Some query) e = absurd (refused_not_done (QueryOutOfRange query) e)
+all_inside None e = refl
 
-none_together : (p : Position) → outcome_of_shared p ≡ Done → p ≡ Absent
-none_together (At query) e = absurd (refused_not_done (CosetShared query) e)
-none_together Absent e = refl
+none_together : (p : Option ℕ) → outcome_of_shared p ≡ Ok tt → p ≡ None
+none_together (Some query) e = absurd (refused_not_done (CosetShared query) e)
+none_together None e = refl
 
 abbrev counted : List ℕ → Bool
 counted queries = leb 1 (length queries) && leb (length queries) 256
@@ -297,10 +295,10 @@ module _ (k first : ℕ) (queries : List ℕ) where
       ∙ sym (then_passed outside_outcome shared_outcome
       (ap outcome_of_outside (none_outside (2 ^ k) queries 0 v.within)))
 
-  pub queries_pass : ValidQueries k queries → Apart first queries → queries_outcome k first queries ≡ Done
+  pub queries_pass : ValidQueries k queries → Apart first queries → queries_outcome k first queries ≡ Ok tt
   queries_pass v apart = inside_passes v ∙ ap outcome_of_shared ((none_shared first queries).1 apart)
 
-  inside_valid : (counted queries ≡ true) → outside_outcome ≡ Done → ValidQueries k queries
+  inside_valid : (counted queries ≡ true) → outside_outcome ≡ Ok tt → ValidQueries k queries
   inside_valid c e =
       let count = within_of 1 256 (length queries) c in
       let inside = all_inside (first_outside (2 ^ k) queries 0) e in
@@ -310,7 +308,7 @@ module _ (k first : ℕ) (queries : List ℕ) where
         within = subst (Outside (2 ^ k) queries 0) inside (outside_told (2 ^ k) queries 0);
       }
 
-  pub queries_valid : queries_outcome k first queries ≡ Done → ValidQueries k queries × Apart first queries
+  pub queries_valid : queries_outcome k first queries ≡ Ok tt → ValidQueries k queries × Apart first queries
   queries_valid e =
       let both = unless_done (counted queries) QueryCountOutOfRange indices e in
       let each = then_done outside_outcome shared_outcome both.1 in (
@@ -319,17 +317,17 @@ module _ (k first : ℕ) (queries : List ℕ) where
       )
 
   pub count_refused : (length queries < 1) ⊎ (256 < length queries)
-      → queries_outcome k first queries ≡ Refused QueryCountOutOfRange
+      → queries_outcome k first queries ≡ Err QueryCountOutOfRange
   count_refused o = sym (refused_by (counted queries) QueryCountOutOfRange indices (outside 1 256 (length queries) o))
 
   pub outside_refused : (query : ℕ) → 1 ≤ length queries → length queries ≤ 256
-      → first_outside (2 ^ k) queries 0 ≡ At query → queries_outcome k first queries ≡ Refused (QueryOutOfRange query)
+      → first_outside (2 ^ k) queries 0 ≡ Some query → queries_outcome k first queries ≡ Err (QueryOutOfRange query)
   outside_refused query l m e =
       sym (passed_by (counted queries) QueryCountOutOfRange indices (within 1 256 (length queries) l m))
       ∙ sym (then_refused outside_outcome shared_outcome (QueryOutOfRange query) (ap outcome_of_outside e))
 
-  pub shared_refused : (query : ℕ) → ValidQueries k queries → first_shared first queries ≡ At query
-      → queries_outcome k first queries ≡ Refused (CosetShared query)
+  pub shared_refused : (query : ℕ) → ValidQueries k queries → first_shared first queries ≡ Some query
+      → queries_outcome k first queries ≡ Err (CosetShared query)
   shared_refused query v e = inside_passes v ∙ ap outcome_of_shared e
 
 -- ---- which numbers there are
@@ -342,7 +340,7 @@ parameters_number P p0 low k rate step =
     (low 5 (omega arith) (omega arith))
     (number_unless P (leb 1 step && leb step 3) StepOutOfRange (after_step k rate step)
     (low 6 (omega arith) (omega arith))
-    (number_unless P (leb (rate + step) k) DimensionTooSmall Done (low 7 (omega arith) (omega arith)) p0)))
+    (number_unless P (leb (rate + step) k) DimensionTooSmall (Ok tt) (low 7 (omega arith) (omega arith)) p0)))
 
 -- what holds of 0, of 4 to 8 and of 13 holds of a run's number
 pub run_number : (P : ℕ → Type 0) → P 0 → ((n : ℕ) → 4 ≤ n → n ≤ 8 → P n) → P 13 → (run : Run)
@@ -360,20 +358,20 @@ run_number P p0 low p13 run =
         (number_unless P (eqb (length run.challenges) (rounds_in run)) (WrongLength 2) (after2 run) p13
         (number_unless P (eqb (length run.word) (2 ^ run.k)) (WrongLength 3) (after3 run) p13
         (number_unless P (eqb (length run.store) (stored run)) (WrongLength 4) (after4 run) p13
-        (number_unless P (eqb (length run.last) (last_due run)) (WrongLength 5) Done p13 p0))))
+        (number_unless P (eqb (length run.last) (last_due run)) (WrongLength 5) (Ok tt) p13 p0))))
 
 -- which is none from 9 on but 13
 pub run_not : (run : Run) (m : ℕ) → 9 ≤ m → m ≢ 13 → number_of_outcome (run_outcome run) ≢ m
 run_not run m l other =
     run_number (λ n. n ≢ m) (ne_of_lt (omega arith)) (λ n least most. ne_of_lt (omega arith)) (λ e. other (sym e)) run
 
-outside_number : (P : ℕ → Type 0) → P 0 → P 10 → (p : Position) → P (number_of_outcome (outcome_of_outside p))
-outside_number P p0 p10 (At query) = p10
-outside_number P p0 p10 Absent = p0
+outside_number : (P : ℕ → Type 0) → P 0 → P 10 → (p : Option ℕ) → P (number_of_outcome (outcome_of_outside p))
+outside_number P p0 p10 (Some query) = p10
+outside_number P p0 p10 None = p0
 
-shared_number : (P : ℕ → Type 0) → P 0 → P 17 → (p : Position) → P (number_of_outcome (outcome_of_shared p))
-shared_number P p0 p17 (At query) = p17
-shared_number P p0 p17 Absent = p0
+shared_number : (P : ℕ → Type 0) → P 0 → P 17 → (p : Option ℕ) → P (number_of_outcome (outcome_of_shared p))
+shared_number P p0 p17 (Some query) = p17
+shared_number P p0 p17 None = p0
 
 pub indices_number : (P : ℕ → Type 0) → P 0 → P 10 → P 17 → (k first : ℕ) (queries : List ℕ)
     → P (number_of_outcome (indices_outcome k first queries))
@@ -389,29 +387,29 @@ queries_number P p0 p9 p10 p17 k first queries =
 
 -- ---- which query list is refused by 17
 
-outside_not_shared : (p : Position) (query : ℕ) → outcome_of_outside p ≢ Refused (CosetShared query)
-outside_not_shared (At other) query e = let impossible : ◌≡◌ {A = ℕ} 10 17 = ap number_of_outcome e in omega arith
-outside_not_shared Absent query e = let impossible : ◌≡◌ {A = ℕ} 0 17 = ap number_of_outcome e in omega arith
+outside_not_shared : (p : Option ℕ) (query : ℕ) → outcome_of_outside p ≢ Err (CosetShared query)
+outside_not_shared (Some other) query e = let impossible : ◌≡◌ {A = ℕ} 10 17 = ap number_of_outcome e in omega arith
+outside_not_shared None query e = let impossible : ◌≡◌ {A = ℕ} 0 17 = ap number_of_outcome e in omega arith
 
-shared_at : (p : Position) (query : ℕ) → outcome_of_shared p ≡ Refused (CosetShared query) → p ≡ At query
-shared_at (At other) query e = ap place_of_outcome e
-shared_at Absent query e = absurd (let impossible : ◌≡◌ {A = ℕ} 0 17 = ap number_of_outcome e in omega arith)
+shared_at : (p : Option ℕ) (query : ℕ) → outcome_of_shared p ≡ Err (CosetShared query) → p ≡ Some query
+shared_at (Some other) query e = ap place_of_outcome e
+shared_at None query e = absurd (let impossible : ◌≡◌ {A = ℕ} 0 17 = ap number_of_outcome e in omega arith)
 
 module _ (k first : ℕ) (queries : List ℕ) (query : ℕ) where
-  pub shared_of : queries_outcome k first queries ≡ Refused (CosetShared query)
-      → ValidQueries k queries × (first_shared first queries ≡ At query)
+  pub shared_of : queries_outcome k first queries ≡ Err (CosetShared query)
+      → ValidQueries k queries × (first_shared first queries ≡ Some query)
   shared_of e = by_count (counted queries) refl e
     where
       by_index : counted queries ≡ true
           → Either (outside_outcome k first queries) (shared_outcome k first queries) (CosetShared query)
-          → ValidQueries k queries × (first_shared first queries ≡ At query)
+          → ValidQueries k queries × (first_shared first queries ≡ Some query)
       by_index c (inl f) = absurd (outside_not_shared (first_outside (2 ^ k) queries 0) query f)
       by_index c (inr f) =
           (inside_valid k first queries c f.0, shared_at (first_shared first queries) query f.1)
 
       by_count : (test : Bool) → counted queries ≡ test
-          → refused_unless test QueryCountOutOfRange (indices_outcome k first queries) ≡ Refused (CosetShared query)
-          → ValidQueries k queries × (first_shared first queries ≡ At query)
+          → refused_unless test QueryCountOutOfRange (indices_outcome k first queries) ≡ Err (CosetShared query)
+          → ValidQueries k queries × (first_shared first queries ≡ Some query)
       by_count true c f =
           by_index c (which (outside_outcome k first queries) (shared_outcome k first queries) (CosetShared query) f)
       by_count false c f = absurd (let impossible : ◌≡◌ {A = ℕ} 9 17 = ap number_of_outcome f in omega arith)

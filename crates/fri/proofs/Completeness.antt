@@ -18,8 +18,8 @@ use Rattle.poly.proofs.Evaluation.{evaluate_taken}
 use Rattle.poly.proofs.Degree.{below_bound}
 use Rattle.poly.proofs.Entries.{all_append, all_take}
 use Rattle.poly.proofs.Interpolation.{interpolant-elements}
-use Rattle.refusal.specs.declared.Outcome.{Outcome}
-use Rattle.refusal.specs.declared.Outcome.TheVariants.{Done}
+use Rattle.std.specs.Prelude.{Ok}
+use Rattle.refusal.specs.Outcome.{Outcome}
 use Rattle.refusal.specs.Numbers.{number_of_outcome}
 use Rattle.refusal.proofs.Checks.{number_then}
 use Rattle.coset.specs.Coset.{point, points, tabulated}
@@ -27,7 +27,6 @@ use Rattle.coset.proofs.Points.{points-elements}
 use Rattle.reed_solomon.specs.Codes.{interpolated}
 use Rattle.reed_solomon.proofs.Theorems.{round_trips, encoding}
 use Rattle.fold.specs.Theorems.{IsWord}
-use Rattle.fri.specs.declared.Answer.TheVariants as answers
 use Rattle.fri.specs.declared.Verdict.{Verdict}
 use Rattle.fri.specs.Layout.{dimension, last_count, store_length, index_in}
 use Rattle.fri.specs.Run.{Run, steps_in, rounds_in, step_in}
@@ -157,7 +156,7 @@ module _ (run : Run) (v : ValidCoset run) (p : ProverInput run) where
   pub honest_accepted : LowDegree run → (queries : List ℕ) → ValidQueries run.k queries
       → Apart (step_in run 0) queries
       → verdict_of (honest run) queries
-      ≡ record { answer = answers.Accepted; reads = length queries * rounds_in run * 2 ^ run.step }
+      ≡ record { answer = Ok tt; reads = length queries * rounds_in run * 2 ^ run.step }
   honest_accepted low queries q apart =
       accepted_verdict (honest run) queries
       (checks_pass (honest run) queries
@@ -178,9 +177,9 @@ never12 run v p low =
 proves : (run : Run) → ValidCoset run → ProverInput run → LowDegree run
     → length run.store ≡ store_length run.k (steps_in run)
     → length run.last ≡ last_count run.k run.rate (steps_in run)
-    → (prove_outcome run ≡ Done) × (store_after run ≡ honest_store run) × (last_after run ≡ honest_last run)
+    → (prove_outcome run ≡ Ok tt) × (store_after run ≡ honest_store run) × (last_after run ≡ honest_last run)
 proves run v p low ls ll =
-    let done : prove_outcome run ≡ Done =
+    let done : prove_outcome run ≡ (Ok tt) =
     degree_done run (run_passes run v.parameters fit v.independent) (low_last run v p low) in
     let both = done_holds_both run done in
     (done, both.0, both.1)

@@ -9,8 +9,8 @@ use lib.Dec.{leb, ltb, eqb}
 use lib.ListN.{length, get_or, drop}
 use lib.Seq.{get_or-take, get_or-drop}
 use borrow.Author.Tests.{le-leb, lt-leb, lt-ltb, le-ltb, eq-eqb, ne_eqb}
-use Rattle.refusal.specs.declared.Outcome.{Outcome}
-use Rattle.refusal.specs.declared.Outcome.TheVariants.{Done, Refused}
+use Rattle.std.specs.Prelude.{Ok, Err}
+use Rattle.refusal.specs.Outcome.{Outcome}
 use Rattle.refusal.proofs.Checks.{both_true, first_false, second_false}
 use Rattle.fri.specs.Layout.{rounds_of, steps_of, dimension, layer_start, store_length, stored_layer}
 use Rattle.fri.specs.Run.{Run, steps_in, rounds_in, layer_in}
@@ -32,8 +32,8 @@ module _ (k rate step : ℕ) (store : List ℕ) (i : ℕ) where
   test = in_store k steps store i
 
   empty_after : (o : Outcome) → part_after o [] ≡ []
-  empty_after Done = refl
-  empty_after (Refused cause) = refl
+  empty_after (Ok tt) = refl
+  empty_after (Err cause) = refl
 
   empty_by : test ≡ false → layer_part k rate step store i ≡ []
   empty_by e =
@@ -48,9 +48,9 @@ module _ (k rate step : ℕ) (store : List ℕ) (i : ℕ) where
       (λ (u : rounds_of k rate step ≤ i). second_false (leb 1 i) (ltb i (length steps))
       (le-ltb i (length steps) (subst (λ (n : ℕ). n ≤ i) (sym (laws.length_steps k rate step)) u))) o))
 
-  not_done : (o : Outcome) (part : List ℕ) → o ≢ Done → part_after o part ≡ []
-  not_done Done part n = absurd (n refl)
-  not_done (Refused cause) part n = refl
+  not_done : (o : Outcome) (part : List ℕ) → o ≢ (Ok tt) → part_after o part ≡ []
+  not_done (Ok tt) part n = absurd (n refl)
+  not_done (Err cause) part n = refl
 
   looked_up : ValidParameters k rate step → 1 ≤ i → i < rounds_of k rate step → length store ≡ store_length k steps
       → layer_part k rate step store i ≡ stored_layer k steps store i

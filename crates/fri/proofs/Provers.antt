@@ -10,8 +10,8 @@ use borrow.Author.Tests.{le-leb, lt-leb, leb-false}
 use Rattle.poly.specs.Degree.{degree_bound}
 use Rattle.refusal.specs.declared.Cause.{Cause}
 use Rattle.refusal.specs.declared.Cause.TheVariants.{DegreeTooLarge}
-use Rattle.refusal.specs.declared.Outcome.{Outcome}
-use Rattle.refusal.specs.declared.Outcome.TheVariants.{Done, Refused}
+use Rattle.std.specs.Prelude.{Ok, Err}
+use Rattle.refusal.specs.Outcome.{Outcome}
 use Rattle.refusal.specs.Checks.{refused_unless, afterwards}
 use Rattle.refusal.specs.Numbers.{number_of_outcome}
 use Rattle.refusal.proofs.Checks.{le_of_test, refused_not_done, passed_by, refused_by, unless_done}
@@ -31,21 +31,21 @@ module _ (run : Run) where
   abbrev d : ℕ
   d = last_count run.k run.rate (steps_in run)
 
-  done_degree : prove_outcome run ≡ Done → (run_outcome run ≡ Done) × (bound ≤ d)
+  done_degree : prove_outcome run ≡ Ok tt → (run_outcome run ≡ Ok tt) × (bound ≤ d)
   done_degree e =
       let both = then_done (run_outcome run) (degree_outcome run) e in
-      (both.0, le_of_test bound d (unless_done (leb bound d) (DegreeTooLarge (bound - 1)) Done both.1).0)
+      (both.0, le_of_test bound d (unless_done (leb bound d) (DegreeTooLarge (bound - 1)) (Ok tt) both.1).0)
 
-  pub degree_passes : bound ≤ d → degree_outcome run ≡ Done
-  degree_passes l = sym (passed_by (leb bound d) (DegreeTooLarge (bound - 1)) Done (le-leb bound d l))
+  pub degree_passes : bound ≤ d → degree_outcome run ≡ Ok tt
+  degree_passes l = sym (passed_by (leb bound d) (DegreeTooLarge (bound - 1)) (Ok tt) (le-leb bound d l))
 
-  pub degree_done : run_outcome run ≡ Done → bound ≤ d → prove_outcome run ≡ Done
+  pub degree_done : run_outcome run ≡ Ok tt → bound ≤ d → prove_outcome run ≡ Ok tt
   degree_done e l =
       sym (then_passed (run_outcome run) (degree_outcome run) e) ∙ degree_passes l
 
   -- a refusal by 12 is the degree's
   degree_refused : (degree : ℕ) (test : Bool) → leb bound d ≡ test
-      → refused_unless test (DegreeTooLarge (bound - 1)) Done ≡ Refused (DegreeTooLarge degree)
+      → refused_unless test (DegreeTooLarge (bound - 1)) (Ok tt) ≡ Err (DegreeTooLarge degree)
       → (bound ≡ suc degree) × (d ≤ degree)
   degree_refused degree true t e = absurd (refused_not_done (DegreeTooLarge degree) (sym e))
   degree_refused degree false t e =
@@ -53,43 +53,43 @@ module _ (run : Run) where
       let over : d < bound = leb-false bound d t in
       (omega (arith, same, over), omega (arith, same, over))
 
-  high_degree : (degree : ℕ) → prove_outcome run ≡ Refused (DegreeTooLarge degree)
-      → (run_outcome run ≡ Done) × (bound ≡ suc degree) × (d ≤ degree)
+  high_degree : (degree : ℕ) → prove_outcome run ≡ Err (DegreeTooLarge degree)
+      → (run_outcome run ≡ Ok tt) × (bound ≡ suc degree) × (d ≤ degree)
   high_degree degree e =
       ⊎_elim
-      (λ (h : run_outcome run ≡ Refused (DegreeTooLarge degree)). absurd
+      (λ (h : run_outcome run ≡ Err (DegreeTooLarge degree)). absurd
       (checks.run_not run 12 (omega arith) (ne_of_lt (omega arith)) (ap number_of_outcome h)))
-      (λ (h : (run_outcome run ≡ Done) × (degree_outcome run ≡ Refused (DegreeTooLarge degree))).
+      (λ (h : (run_outcome run ≡ Ok tt) × (degree_outcome run ≡ Err (DegreeTooLarge degree))).
       let told = degree_refused degree (leb bound d) refl h.1 in
       (h.0, told.0, told.1))
       (which (run_outcome run) (degree_outcome run) (DegreeTooLarge degree) e)
 
-  degree_high : (degree : ℕ) → run_outcome run ≡ Done → bound ≡ suc degree → d ≤ degree
-      → prove_outcome run ≡ Refused (DegreeTooLarge degree)
+  degree_high : (degree : ℕ) → run_outcome run ≡ Ok tt → bound ≡ suc degree → d ≤ degree
+      → prove_outcome run ≡ Err (DegreeTooLarge degree)
   degree_high degree e s l =
       let same : bound - 1 ≡ degree = omega (arith, s) in
       sym (then_passed (run_outcome run) (degree_outcome run) e)
-      ∙ sym (refused_by (leb bound d) (DegreeTooLarge (bound - 1)) Done (lt-leb bound d (omega (arith, s))))
-      ∙ ap (λ (n : ℕ). Refused (DegreeTooLarge n)) same
+      ∙ sym (refused_by (leb bound d) (DegreeTooLarge (bound - 1)) (Ok tt) (lt-leb bound d (omega (arith, s))))
+      ∙ ap (λ (n : ℕ). Err (DegreeTooLarge n)) same
 
-  high_holds : (degree : ℕ) → prove_outcome run ≡ Refused (DegreeTooLarge degree)
+  high_holds : (degree : ℕ) → prove_outcome run ≡ Err (DegreeTooLarge degree)
       → (store_after run ≡ honest_store run) × (last_after run ≡ run.last)
   high_holds degree e = (
     ap (λ (o : Outcome). afterwards o (honest_store run) run.store) (high_degree degree e).0,
     ap (λ (o : Outcome). afterwards o (honest_last run) run.last) e,
   )
 
-  pub done_holds_both : prove_outcome run ≡ Done → (store_after run ≡ honest_store run) × (last_after run ≡ honest_last run)
+  pub done_holds_both : prove_outcome run ≡ Ok tt → (store_after run ≡ honest_store run) × (last_after run ≡ honest_last run)
   done_holds_both e = (
     ap (λ (o : Outcome). afterwards o (honest_store run) run.store) (done_degree e).0,
     ap (λ (o : Outcome). afterwards o (honest_last run) run.last) e,
   )
 
   -- a refusal before the degree leaves both lists
-  pub refused_prove : (cause : Cause) → run_outcome run ≡ Refused cause → prove_outcome run ≡ Refused cause
+  pub refused_prove : (cause : Cause) → run_outcome run ≡ Err cause → prove_outcome run ≡ Err cause
   refused_prove cause e = sym (then_refused (run_outcome run) (degree_outcome run) cause e)
 
-  pub refused_holds_both : (cause : Cause) → run_outcome run ≡ Refused cause
+  pub refused_holds_both : (cause : Cause) → run_outcome run ≡ Err cause
       → (store_after run ≡ run.store) × (last_after run ≡ run.last)
   refused_holds_both cause e = (
     ap (λ (o : Outcome). afterwards o (honest_store run) run.store) e,
@@ -97,7 +97,7 @@ module _ (run : Run) where
   )
 
   pub degree_number : (P : ℕ → Type 0) → P 0 → P 12 → P (number_of_outcome (degree_outcome run))
-  degree_number P p0 p12 = number_unless P (leb bound d) (DegreeTooLarge (bound - 1)) Done p12 p0
+  degree_number P p0 p12 = number_unless P (leb bound d) (DegreeTooLarge (bound - 1)) (Ok tt) p12 p0
 
 pub prover_answers : ProverAnswers
 prover_answers =

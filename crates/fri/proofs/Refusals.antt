@@ -10,16 +10,14 @@ use Rattle.refusal.specs.declared.Cause.{Cause}
 use Rattle.refusal.specs.declared.Cause.TheVariants.{DimensionOutOfRange, RateOutOfRange, StepOutOfRange}
 use Rattle.refusal.specs.declared.Cause.TheVariants.{DimensionTooSmall, WrongLength, BasisDependent}
 use Rattle.refusal.specs.declared.Cause.TheVariants.{QueryCountOutOfRange, QueryOutOfRange, CosetShared}
-use Rattle.refusal.specs.declared.Outcome.{Outcome}
-use Rattle.refusal.specs.declared.Outcome.TheVariants.{Done, Refused}
-use Rattle.refusal.specs.declared.Position.TheVariants.{At, Absent}
+use Rattle.std.specs.Prelude.{Some, None, Ok, Err}
+use Rattle.refusal.specs.Outcome.{Outcome}
 use Rattle.refusal.specs.Checks.{and_then}
 use Rattle.refusal.specs.Numbers.{number_of, place_of, round_of, number_of_outcome, place_of_outcome, round_of_outcome}
 use Rattle.refusal.proofs.Checks.{then_passed, then_refused, which, number_then}
 use Rattle.coset.specs.Span.{first_dependent}
 use Rattle.coset.specs.Answers.{outcome_of_basis, basis_outcome}
 use Rattle.fri.specs.Run.{Run, step_in}
-use Rattle.fri.specs.declared.Answer.TheVariants as answers
 use Rattle.fri.specs.Checks.{parameters_outcome, lengths_outcome, run_outcome, queries_outcome}
 use Rattle.fri.specs.Judge.{checks_outcome, verdict_of, number_of_answer}
 use Rattle.fri.specs.Rounds.{rounds_outcome}
@@ -41,7 +39,7 @@ passing =
           (λ e. verdicts.checks_valid run queries e, λ t. verdicts.checks_pass run queries t.0 t.1 t.2);
     }
 
-both_refuse : (run : Run) (cause : Cause) → round_of cause ≡ Absent → run_outcome run ≡ Refused cause
+both_refuse : (run : Run) (cause : Cause) → round_of cause ≡ None → run_outcome run ≡ Err cause
     → BothRefuse run (number_of cause) (place_of cause)
 both_refuse run cause n e = (
   λ queries.
@@ -54,8 +52,8 @@ both_refuse run cause n e = (
   (refused_holds_both run cause e).1,
 )
 
-by_parameters : (run : Run) (cause : Cause) → parameters_outcome run.k run.rate run.step ≡ Refused cause
-    → run_outcome run ≡ Refused cause
+by_parameters : (run : Run) (cause : Cause) → parameters_outcome run.k run.rate run.step ≡ Err cause
+    → run_outcome run ≡ Err cause
 by_parameters run cause e =
     sym (then_refused (parameters_outcome run.k run.rate run.step)
     (and_then (lengths_outcome run) (basis_outcome run.basis)) cause e)
@@ -68,19 +66,19 @@ after_parameters run v =
     (checks.parameters_pass run.k run.rate run.step v))
 
 by_lengths : (run : Run) (cause : Cause) → ValidParameters run.k run.rate run.step
-    → lengths_outcome run ≡ Refused cause → run_outcome run ≡ Refused cause
+    → lengths_outcome run ≡ Err cause → run_outcome run ≡ Err cause
 by_lengths run cause v e =
     after_parameters run v ∙ sym (then_refused (lengths_outcome run) (basis_outcome run.basis) cause e)
 
 by_basis : (run : Run) (place : ℕ) → ValidParameters run.k run.rate run.step → Fit run
-    → first_dependent run.basis ≡ At place → run_outcome run ≡ Refused (BasisDependent place)
+    → first_dependent run.basis ≡ Some place → run_outcome run ≡ Err (BasisDependent place)
 by_basis run place v f e =
     after_parameters run v
     ∙ sym (then_passed (lengths_outcome run) (basis_outcome run.basis) (checks.lengths_pass run f))
     ∙ ap outcome_of_basis e
 
-by_queries : (run : Run) (queries : List ℕ) (cause : Cause) → run_outcome run ≡ Done
-    → queries_outcome run.k (step_in run 0) queries ≡ Refused cause
+by_queries : (run : Run) (queries : List ℕ) (cause : Cause) → run_outcome run ≡ Ok tt
+    → queries_outcome run.k (step_in run 0) queries ≡ Err cause
     → Tells (verdict_of run queries) (number_of cause) (place_of cause) (round_of cause) 0
 by_queries run queries cause d e =
     verdicts.told_early run queries cause
@@ -127,25 +125,25 @@ refusals =
 -- ---- queries that share a first-layer coset
 
 module _ (run : Run) (queries : List ℕ) (query : ℕ) where
-  shared_of_checks : checks_outcome run queries ≡ Refused (CosetShared query) → SharedAt run queries query
+  shared_of_checks : checks_outcome run queries ≡ Err (CosetShared query) → SharedAt run queries query
   shared_of_checks e =
       ⊎_elim
-      (λ (h : run_outcome run ≡ Refused (CosetShared query)). absurd
+      (λ (h : run_outcome run ≡ Err (CosetShared query)). absurd
       (checks.run_not run 17 (omega arith) (λ t. ne_of_lt (omega arith) (sym t)) (ap number_of_outcome h)))
-      (λ (h : (run_outcome run ≡ Done) × (queries_outcome run.k (step_in run 0) queries ≡ Refused (CosetShared query))).
+      (λ (h : (run_outcome run ≡ Ok tt) × (queries_outcome run.k (step_in run 0) queries ≡ Err (CosetShared query))).
       let told = checks.shared_of run.k (step_in run 0) queries query h.1 in
       (h.0, told.0, told.1))
       (which (run_outcome run) (queries_outcome run.k (step_in run 0) queries) (CosetShared query) e)
 
-  shared_of_verdict : (verdict_of run queries).answer ≡ answers.Refused (CosetShared query) → SharedAt run queries query
+  shared_of_verdict : (verdict_of run queries).answer ≡ Err (CosetShared query) → SharedAt run queries query
   shared_of_verdict e =
       ⊎_elim shared_of_checks
-      (λ (h : (checks_outcome run queries ≡ Done) × (rounds_outcome run queries 0 ≡ Refused (CosetShared query))).
+      (λ (h : (checks_outcome run queries ≡ Ok tt) × (rounds_outcome run queries 0 ≡ Err (CosetShared query))).
       absurd (let impossible : ◌≡◌ {A = ℕ} 17 11 = refused_by_round run queries (CosetShared query) h.1 in
       omega arith))
       (verdicts.refused_which run queries (CosetShared query) e)
 
-  checks_of_shared : SharedAt run queries query → checks_outcome run queries ≡ Refused (CosetShared query)
+  checks_of_shared : SharedAt run queries query → checks_outcome run queries ≡ Err (CosetShared query)
   checks_of_shared t =
       sym (then_passed (run_outcome run) (queries_outcome run.k (step_in run 0) queries) t.0)
       ∙ checks.shared_refused run.k (step_in run 0) queries query t.1 t.2
@@ -179,8 +177,8 @@ judge_number run queries =
     (by (rounds_outcome run queries 0) refl))
   where
     by : (o : Outcome) → rounds_outcome run queries 0 ≡ o → JudgeNumber (number_of_outcome o)
-    by Done e = inl refl
-    by (Refused cause) e =
+    by (Ok tt) e = inl refl
+    by (Err cause) e =
         inr
         (inl (omega (arith, refused_by_round run queries cause e), omega (arith, refused_by_round run queries cause e)))
 

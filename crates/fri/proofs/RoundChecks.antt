@@ -8,11 +8,9 @@ use native.Mathlib.Omega.{arith}
 use lib.ListN.{length, get_or}
 use Rattle.refusal.specs.declared.Cause.{Cause}
 use Rattle.refusal.specs.declared.Cause.TheVariants.{RoundCheckFails}
-use Rattle.refusal.specs.declared.Outcome.TheVariants.{Done, Refused}
-use Rattle.refusal.specs.declared.Position.TheVariants.{At, Absent}
+use Rattle.std.specs.Prelude.{Some, None, Ok, Err}
 use Rattle.refusal.specs.Numbers.{number_of, number_of_outcome}
 use Rattle.refusal.proofs.Checks.{number_then}
-use Rattle.fri.specs.declared.Answer.TheVariants as answers
 use Rattle.fri.specs.Layout.{dimension, index_in}
 use Rattle.fri.specs.Run.{Run, steps_in, step_in, rounds_in, layer_in}
 use Rattle.fri.specs.Layers.{fold_of}
@@ -37,13 +35,13 @@ checks_not_11 run queries =
     (λ e. ne_of_lt (omega arith) (sym e)) run.k (step_in run 0) queries)
 
 round_refused : (run : Run) (queries : List ℕ) (query round : ℕ)
-    → (verdict_of run queries).answer ≡ answers.Refused (RoundCheckFails query round)
-    → (checks_outcome run queries ≡ Done) × FailsFirst run queries query round
+    → (verdict_of run queries).answer ≡ Err (RoundCheckFails query round)
+    → (checks_outcome run queries ≡ Ok tt) × FailsFirst run queries query round
 round_refused run queries query round e =
     ⊎_elim
-    (λ (h : checks_outcome run queries ≡ Refused (RoundCheckFails query round)).
+    (λ (h : checks_outcome run queries ≡ Err (RoundCheckFails query round)).
     absurd (checks_not_11 run queries (ap number_of_outcome h)))
-    (λ (h : (checks_outcome run queries ≡ Done) × (rounds_outcome run queries 0 ≡ Refused (RoundCheckFails query round))).
+    (λ (h : (checks_outcome run queries ≡ Ok tt) × (rounds_outcome run queries 0 ≡ Err (RoundCheckFails query round))).
     (h.0, fails_of_refused run queries query round h.1))
     (verdicts.refused_which run queries (RoundCheckFails query round) e)
 
@@ -78,7 +76,7 @@ round_checks =
 -- ---- reads
 
 told_accepted : (run : Run) (queries : List ℕ) → Accepted run queries
-    → Tells (verdict_of run queries) 0 Absent Absent (length queries * rounds_in run * 2 ^ run.step)
+    → Tells (verdict_of run queries) 0 None None (length queries * rounds_in run * 2 ^ run.step)
 told_accepted run queries e =
     let told = verdicts.accepted_checks run queries e in (
       ap number_of_answer e,
@@ -88,8 +86,8 @@ told_accepted run queries e =
     )
 
 told_refused : (run : Run) (queries : List ℕ) (query round : ℕ)
-    → (verdict_of run queries).answer ≡ answers.Refused (RoundCheckFails query round)
-    → Tells (verdict_of run queries) 11 (At query) (At round)
+    → (verdict_of run queries).answer ≡ Err (RoundCheckFails query round)
+    → Tells (verdict_of run queries) 11 (Some query) (Some round)
     (query * rounds_in run * 2 ^ run.step + min (round + 2) (rounds_in run) * 2 ^ run.step)
 told_refused run queries query round e =
     let told = round_refused run queries query round e in (
@@ -99,12 +97,12 @@ told_refused run queries query round e =
       verdicts.reads_refused run queries query round told.0 told.1,
     )
 
-no_reads : (run : Run) (queries : List ℕ) (cause : Cause) → (verdict_of run queries).answer ≡ answers.Refused cause
+no_reads : (run : Run) (queries : List ℕ) (cause : Cause) → (verdict_of run queries).answer ≡ Err cause
     → number_of cause ≢ 11 → (verdict_of run queries).reads ≡ 0
 no_reads run queries cause e n =
     ⊎_elim
-    (λ (h : checks_outcome run queries ≡ Refused cause). (verdicts.refused_early run queries cause h).1)
-    (λ (h : (checks_outcome run queries ≡ Done) × (rounds_outcome run queries 0 ≡ Refused cause)).
+    (λ (h : checks_outcome run queries ≡ Err cause). (verdicts.refused_early run queries cause h).1)
+    (λ (h : (checks_outcome run queries ≡ Ok tt) × (rounds_outcome run queries 0 ≡ Err cause)).
     absurd (n (refused_by_round run queries cause h.1)))
     (verdicts.refused_which run queries cause e)
 

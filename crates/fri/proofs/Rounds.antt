@@ -12,9 +12,7 @@ use lib.ListN.{length, get_or, take, replicate}
 use borrow.Author.Tests.{eq-eqb, ne_eqb}
 use Rattle.refusal.specs.declared.Cause.{Cause}
 use Rattle.refusal.specs.declared.Cause.TheVariants.{RoundCheckFails}
-use Rattle.refusal.specs.declared.Outcome.TheVariants.{Done, Refused}
-use Rattle.refusal.specs.declared.Position.{Position}
-use Rattle.refusal.specs.declared.Position.TheVariants.{At, Absent}
+use Rattle.std.specs.Prelude.{Option, Some, None, Ok, Err}
 use Rattle.refusal.specs.Checks.{and_then}
 use Rattle.refusal.specs.Numbers.{number_of, number_of_outcome}
 use Rattle.refusal.proofs.Checks.{equal_of_test, refused_not_done}
@@ -34,43 +32,43 @@ module _ (run : Run) (j : ℕ) where
   PassFrom i n = (t : ℕ) → i ≤ t → t < n → value_computed run j t ≡ value_found run j t
 
   first_fails : (i left t : ℕ) → i ≤ t → t < i + left → value_computed run j t ≢ value_found run j t → PassFrom i t
-      → first_failing_round run j i left ≡ At t
+      → first_failing_round run j i left ≡ Some t
   unfolding first_failing_round
   first_fails i zero t least most f h = absurd (omega arith)
   first_fails i (suc left) t least most f h =
       ⊎_elim
-      (λ (e : i ≡ t). ap (λ (b : Bool). cond b (first_failing_round run j (suc i) left) (At i))
+      (λ (e : i ≡ t). ap (λ (b : Bool). cond b (first_failing_round run j (suc i) left) (Some i))
       (ne_eqb (value_computed run j i) (value_found run j i)
       (subst (λ (m : ℕ). value_computed run j m ≢ value_found run j m) (sym e) f))
-      ∙ ap At e)
-      (λ (l : i < t). ap (λ (b : Bool). cond b (first_failing_round run j (suc i) left) (At i))
+      ∙ ap Some e)
+      (λ (l : i < t). ap (λ (b : Bool). cond b (first_failing_round run j (suc i) left) (Some i))
       (eq-eqb (value_computed run j i) (value_found run j i) (h i (omega arith) l))
       ∙ first_fails (suc i) left t l (omega arith) f (λ u a b. h u (omega arith) b))
       (eq-or-lt_of_le least)
 
-  none_fails : (i left : ℕ) → PassFrom i (i + left) → first_failing_round run j i left ≡ Absent
+  none_fails : (i left : ℕ) → PassFrom i (i + left) → first_failing_round run j i left ≡ None
   unfolding first_failing_round
   none_fails i zero h = refl
   none_fails i (suc left) h =
-      ap (λ (t : Bool). cond t (first_failing_round run j (suc i) left) (At i))
+      ap (λ (t : Bool). cond t (first_failing_round run j (suc i) left) (Some i))
       (eq-eqb (value_computed run j i) (value_found run j i) (h i (omega arith) (omega arith)))
       ∙ none_fails (suc i) left (λ t l u. h t (omega arith) (omega arith))
 
   -- what a first failing round tells
-  abbrev Told : ℕ → ℕ → Position → Type 0
-  Told i n Absent = PassFrom i n
-  Told i n (At t) = (i ≤ t) × (t < n) × (value_computed run j t ≢ value_found run j t) × PassFrom i t
+  abbrev Told : ℕ → ℕ → Option ℕ → Type 0
+  Told i n None = PassFrom i n
+  Told i n (Some t) = (i ≤ t) × (t < n) × (value_computed run j t ≢ value_found run j t) × PassFrom i t
 
   not_equal : (m n : ℕ) → eqb m n ≡ false → m ≢ n
   not_equal m n e s =
       let impossible : ◌≡◌ {A = ℕ} 0 1 = ap (λ (t : Bool). cond t 0 1) (sym (eq-eqb m n s) ∙ e) in omega arith
 
-  extended : (i n : ℕ) → i < n → value_computed run j i ≡ value_found run j i → (p : Position) → Told (suc i) n p
+  extended : (i n : ℕ) → i < n → value_computed run j i ≡ value_found run j i → (p : Option ℕ) → Told (suc i) n p
       → Told i n p
-  extended i n h e Absent told = λ t l u.
+  extended i n h e None told = λ t l u.
       ⊎_elim (λ (s : i ≡ t). subst (λ (m : ℕ). value_computed run j m ≡ value_found run j m) s e)
       (λ (b : i < t). told t b u) (eq-or-lt_of_le l)
-  extended i n h e (At t) told = (
+  extended i n h e (Some t) told = (
     omega (arith, told.0),
     told.1,
     told.2,
@@ -78,8 +76,8 @@ module _ (run : Run) (j : ℕ) where
         (λ (a : i < u). told.3 u a b) (eq-or-lt_of_le l),
   )
 
-  one_round : (i n : ℕ) → i < n → (rest : Position) → Told (suc i) n rest → (test : Bool) → round_passes run j i ≡ test
-      → Told i n (cond test rest (At i))
+  one_round : (i n : ℕ) → i < n → (rest : Option ℕ) → Told (suc i) n rest → (test : Bool) → round_passes run j i ≡ test
+      → Told i n (cond test rest (Some i))
   one_round i n h rest told true e =
       extended i n h (equal_of_test (value_computed run j i) (value_found run j i) e) rest told
   one_round i n h rest told false e = (
@@ -97,22 +95,22 @@ module _ (run : Run) (j : ℕ) where
       (subst (λ (n : ℕ). Told (suc i) n (first_failing_round run j (suc i) left))
       (suc-add i left ∙ sym (add-suc i left)) (told_by (suc i) left)) (round_passes run j i) refl
 
-  pub passing : PassesEveryRound run j → failing_round run j ≡ Absent
+  pub passing : PassesEveryRound run j → failing_round run j ≡ None
   passing h = none_fails 0 (rounds_in run) (λ t l u. h t (omega arith))
 
-  pub passing_of : failing_round run j ≡ Absent → PassesEveryRound run j
+  pub passing_of : failing_round run j ≡ None → PassesEveryRound run j
   passing_of e = λ i h. subst (Told 0 (0 + rounds_in run)) e (told_by 0 (rounds_in run)) i (omega arith) (omega arith)
 
   pub failing : (t : ℕ) → t < rounds_in run → value_computed run j t ≢ value_found run j t
       → ((i : ℕ) → i < t → value_computed run j i ≡ value_found run j i)
-      → failing_round run j ≡ At t
+      → failing_round run j ≡ Some t
   failing t h f before = first_fails 0 (rounds_in run) t (omega arith) (omega arith) f (λ i l u. before i u)
 
-  pub failing_of : (t : ℕ) → failing_round run j ≡ At t
+  pub failing_of : (t : ℕ) → failing_round run j ≡ Some t
       → (t < rounds_in run) × (value_computed run j t ≢ value_found run j t)
       × ((i : ℕ) → i < t → value_computed run j i ≡ value_found run j i)
   failing_of t e =
-      let told : Told 0 (0 + rounds_in run) (At t) = subst (Told 0 (0 + rounds_in run)) e (told_by 0 (rounds_in run)) in
+      let told : Told 0 (0 + rounds_in run) (Some t) = subst (Told 0 (0 + rounds_in run)) e (told_by 0 (rounds_in run)) in
       (omega (arith, told.1), told.2, λ i u. told.3 i (omega arith) u)
 
 -- ---- all queries
@@ -130,38 +128,38 @@ fails_later run j queries t i f =
     }
 
 pub first_failing : (run : Run) (queries : List ℕ) (query t i : ℕ) → FailsFirst run queries t i
-    → rounds_outcome run queries query ≡ Refused (RoundCheckFails (query + t) i)
+    → rounds_outcome run queries query ≡ Err (RoundCheckFails (query + t) i)
 unfolding rounds_outcome
 first_failing run [] query t i f = absurd (omega (arith, f.query_within))
 first_failing run (j ∷ queries) query zero i f =
-    ap (λ (p : Position). and_then (outcome_of_rounds query p) (rounds_outcome run queries (suc query)))
+    ap (λ (p : Option ℕ). and_then (outcome_of_rounds query p) (rounds_outcome run queries (suc query)))
     (failing run j i f.round_within f.fails f.rounds_before)
-    ∙ ap (λ (m : ℕ). Refused (RoundCheckFails m i)) (sym (add-zero query))
+    ∙ ap (λ (m : ℕ). Err (RoundCheckFails m i)) (sym (add-zero query))
 first_failing run (j ∷ queries) query (suc t) i f =
-    ap (λ (p : Position). and_then (outcome_of_rounds query p) (rounds_outcome run queries (suc query)))
+    ap (λ (p : Option ℕ). and_then (outcome_of_rounds query p) (rounds_outcome run queries (suc query)))
     (passing run j (f.queries_before 0 (omega arith)))
     ∙ first_failing run queries (suc query) t i (fails_later run j queries t i f)
-    ∙ ap (λ (m : ℕ). Refused (RoundCheckFails m i)) (suc-add query t ∙ sym (add-suc query t))
+    ∙ ap (λ (m : ℕ). Err (RoundCheckFails m i)) (suc-add query t ∙ sym (add-suc query t))
 
 pub all_pass : (run : Run) (queries : List ℕ) (query : ℕ)
     → ((t : ℕ) → t < length queries → PassesEveryRound run (get_or queries t 0))
-    → rounds_outcome run queries query ≡ Done
+    → rounds_outcome run queries query ≡ Ok tt
 unfolding rounds_outcome
 all_pass run [] query h = refl
 all_pass run (j ∷ queries) query h =
-    ap (λ (p : Position). and_then (outcome_of_rounds query p) (rounds_outcome run queries (suc query)))
+    ap (λ (p : Option ℕ). and_then (outcome_of_rounds query p) (rounds_outcome run queries (suc query)))
     (passing run j (h 0 (omega arith)))
     ∙ all_pass run queries (suc query) (λ t l. h (suc t) (omega arith))
 
 -- what the outcome of the round checks tells
 abbrev pub Ended : Run → List ℕ → ℕ → Type 0
 Ended run queries query =
-    ((rounds_outcome run queries query ≡ Done)
+    ((rounds_outcome run queries query ≡ Ok tt)
     × ((t : ℕ) → t < length queries → PassesEveryRound run (get_or queries t 0)))
-    ⊎ ((t : ℕ) × (i : ℕ) × (rounds_outcome run queries query ≡ Refused (RoundCheckFails (query + t) i))
+    ⊎ ((t : ℕ) × (i : ℕ) × (rounds_outcome run queries query ≡ Err (RoundCheckFails (query + t) i))
     × FailsFirst run queries t i)
 
-after_passing : (run : Run) (j : ℕ) (queries : List ℕ) (query : ℕ) → failing_round run j ≡ Absent
+after_passing : (run : Run) (j : ℕ) (queries : List ℕ) (query : ℕ) → failing_round run j ≡ None
     → Ended run queries (suc query) → Ended run (j ∷ queries) query
 after_passing run j queries query e (inl h) =
     inl (all_pass run (j ∷ queries) query every, every)
@@ -186,10 +184,10 @@ after_passing run j queries query e (inr (t, i, o, f)) =
           queries_before = before;
         }
 
-one_query : (run : Run) (j : ℕ) (queries : List ℕ) (query : ℕ) (p : Position) → failing_round run j ≡ p
+one_query : (run : Run) (j : ℕ) (queries : List ℕ) (query : ℕ) (p : Option ℕ) → failing_round run j ≡ p
     → Ended run queries (suc query) → Ended run (j ∷ queries) query
-one_query run j queries query Absent e ended = after_passing run j queries query e ended
-one_query run j queries query (At i) e ended = inr (0, i, first_failing run (j ∷ queries) query 0 i fails, fails)
+one_query run j queries query None e ended = after_passing run j queries query e ended
+one_query run j queries query (Some i) e ended = inr (0, i, first_failing run (j ∷ queries) query 0 i fails, fails)
   where
     fails : FailsFirst run (j ∷ queries) 0 i
     fails =
@@ -206,7 +204,7 @@ unfolding rounds_outcome
 ended run [] query = inl (refl, λ t l. absurd (omega arith))
 ended run (j ∷ queries) query = one_query run j queries query (failing_round run j) refl (ended run queries (suc query))
 
-pub pass_of_done : (run : Run) (queries : List ℕ) → rounds_outcome run queries 0 ≡ Done → (t : ℕ) → t < length queries
+pub pass_of_done : (run : Run) (queries : List ℕ) → rounds_outcome run queries 0 ≡ Ok tt → (t : ℕ) → t < length queries
     → PassesEveryRound run (get_or queries t 0)
 pass_of_done run queries e = by (ended run queries 0)
   where
@@ -215,19 +213,19 @@ pass_of_done run queries e = by (ended run queries 0)
     by (inr (t, i, o, f)) = absurd (refused_not_done (RoundCheckFails (0 + t) i) (sym o ∙ e))
 
 pub fails_of_refused : (run : Run) (queries : List ℕ) (t i : ℕ)
-    → rounds_outcome run queries 0 ≡ Refused (RoundCheckFails t i) → FailsFirst run queries t i
+    → rounds_outcome run queries 0 ≡ Err (RoundCheckFails t i) → FailsFirst run queries t i
 fails_of_refused run queries t i e = by (ended run queries 0)
   where
     by : Ended run queries 0 → FailsFirst run queries t i
     by (inl h) = absurd (refused_not_done (RoundCheckFails t i) (sym e ∙ h.0))
     by (inr (u, n, o, f)) =
-        let told : Refused (RoundCheckFails (0 + u) n) ≡ Refused (RoundCheckFails t i) = sym o ∙ e in
+        let told : Err (RoundCheckFails (0 + u) n) ≡ Err (RoundCheckFails t i) = sym o ∙ e in
         let query : 0 + u ≡ t = cc in
         let round : n ≡ i = cc in
         subst (λ (m : ℕ). FailsFirst run queries m i) (omega (arith, query)) (subst (FailsFirst run queries u) round f)
 
 -- the round checks give no other number
-pub refused_by_round : (run : Run) (queries : List ℕ) (cause : Cause) → rounds_outcome run queries 0 ≡ Refused cause
+pub refused_by_round : (run : Run) (queries : List ℕ) (cause : Cause) → rounds_outcome run queries 0 ≡ Err cause
     → number_of cause ≡ 11
 refused_by_round run queries cause e = by (ended run queries 0)
   where
@@ -242,22 +240,22 @@ pub read_all : (run : Run) (queries : List ℕ) → ((t : ℕ) → t < length qu
 unfolding entries_read
 read_all run [] h = sym (zero-mul (entry_count (steps_in run)))
 read_all run (j ∷ queries) h =
-    ap (λ (p : Position). query_reads run p + unless_failed p (entries_read run queries))
+    ap (λ (p : Option ℕ). query_reads run p + unless_failed p (entries_read run queries))
     (passing run j (h 0 (omega arith)))
     ∙ ap (λ (n : ℕ). entry_count (steps_in run) + n) (read_all run queries (λ t l. h (suc t) (omega arith)))
     ∙ add_comm (entry_count (steps_in run)) (length queries * entry_count (steps_in run))
     ∙ sym (suc-mul (length queries) (entry_count (steps_in run)))
 
 pub read_until : (run : Run) (queries : List ℕ) (t i : ℕ) → FailsFirst run queries t i
-    → entries_read run queries ≡ t * entry_count (steps_in run) + query_reads run (At i)
+    → entries_read run queries ≡ t * entry_count (steps_in run) + query_reads run (Some i)
 unfolding entries_read
 read_until run [] t i f = absurd (omega (arith, f.query_within))
 read_until run (j ∷ queries) zero i f =
-    ap (λ (p : Position). query_reads run p + unless_failed p (entries_read run queries))
+    ap (λ (p : Option ℕ). query_reads run p + unless_failed p (entries_read run queries))
     (failing run j i f.round_within f.fails f.rounds_before)
     ∙ omega (arith, zero-mul (entry_count (steps_in run)))
 read_until run (j ∷ queries) (suc t) i f =
-    ap (λ (p : Position). query_reads run p + unless_failed p (entries_read run queries))
+    ap (λ (p : Option ℕ). query_reads run p + unless_failed p (entries_read run queries))
     (passing run j (f.queries_before 0 (omega arith)))
     ∙ ap (λ (n : ℕ). entry_count (steps_in run) + n) (read_until run queries t i (fails_later run j queries t i f))
     ∙ omega (arith, suc-mul t (entry_count (steps_in run)))
@@ -282,7 +280,7 @@ entries_of_rounds run =
     entries_alike (rounds_of run.k run.rate run.step) run.step
     ∙ ap (λ (n : ℕ). n * 2 ^ run.step) (sym (length_steps run.k run.rate run.step))
 
-pub entries_until : (run : Run) (i : ℕ) → query_reads run (At i) ≡ min (i + 2) (rounds_in run) * 2 ^ run.step
+pub entries_until : (run : Run) (i : ℕ) → query_reads run (Some i) ≡ min (i + 2) (rounds_in run) * 2 ^ run.step
 entries_until run i =
     let r : ℕ = rounds_of run.k run.rate run.step in
     ap entry_count (taken_alike (i + 2) r run.step) ∙ entries_alike (min (i + 2) r) run.step

@@ -14,8 +14,7 @@ use lib.Pow.{shr_lt}
 use borrow.Author.Tests.{eq-eqb, ne_eqb}
 use Rattle.poly.specs.Polynomial.{All, Distinct}
 use Rattle.poly.proofs.Entries.{all_append}
-use Rattle.refusal.specs.declared.Position.{Position}
-use Rattle.refusal.specs.declared.Position.TheVariants.{At, Absent}
+use Rattle.std.specs.Prelude.{Option, Some, None}
 use Rattle.refusal.proofs.Checks.{equal_of_test}
 use Rattle.fri.specs.Checks.{among, first_repeated_after, visited_cosets, first_shared}
 use Rattle.fri.specs.Demand.{ValidQueries, Apart}
@@ -144,16 +143,16 @@ few_distinct (suc n) xs d h =
 
 -- ---- what the first repeated entry tells
 
-abbrev Told : ℕ → List ℕ → List ℕ → ℕ → Position → Type 0
-Told d earlier xs place Absent = Distinct (earlier ++ xs)
-Told d earlier xs place (At query) =
+abbrev Told : ℕ → List ℕ → List ℕ → ℕ → Option ℕ → Type 0
+Told d earlier xs place None = Distinct (earlier ++ xs)
+Told d earlier xs place (Some query) =
     (t : ℕ) × (query ≡ place + t) × (t < length xs) × (among (earlier ++ take t xs) (get_or xs t d) ≡ true)
     × Distinct (earlier ++ take t xs)
 
-one_more : (d : ℕ) (earlier : List ℕ) (x : ℕ) (xs : List ℕ) (place : ℕ) (p : Position)
+one_more : (d : ℕ) (earlier : List ℕ) (x : ℕ) (xs : List ℕ) (place : ℕ) (p : Option ℕ)
     → Told d (earlier ++ (x ∷ [])) xs (suc place) p → Told d earlier (x ∷ xs) place p
-one_more d earlier x xs place Absent told = subst Distinct (append_assoc earlier (x ∷ []) xs) told
-one_more d earlier x xs place (At query) (t, e, l, a, before) = (
+one_more d earlier x xs place None told = subst Distinct (append_assoc earlier (x ∷ []) xs) told
+one_more d earlier x xs place (Some query) (t, e, l, a, before) = (
   suc t,
   e ∙ suc-add place t ∙ sym (add-suc place t),
   omega arith,
@@ -161,9 +160,9 @@ one_more d earlier x xs place (At query) (t, e, l, a, before) = (
   subst Distinct (append_assoc earlier (x ∷ []) (take t xs)) before,
 )
 
-told_step : (d : ℕ) (earlier : List ℕ) (x : ℕ) (xs : List ℕ) (place : ℕ) (rest : Position) → Distinct earlier
+told_step : (d : ℕ) (earlier : List ℕ) (x : ℕ) (xs : List ℕ) (place : ℕ) (rest : Option ℕ) → Distinct earlier
     → (Distinct (earlier ++ (x ∷ [])) → Told d (earlier ++ (x ∷ [])) xs (suc place) rest)
-    → (test : Bool) → among earlier x ≡ test → Told d earlier (x ∷ xs) place (cond test (At place) rest)
+    → (test : Bool) → among earlier x ≡ test → Told d earlier (x ∷ xs) place (cond test (Some place) rest)
 told_step d earlier x xs place rest h next true e =
     let none : earlier ≡ earlier ++ [] = sym (append-nil earlier) in (
       0,
@@ -195,17 +194,17 @@ module _ (first : ℕ) (queries : List ℕ) where
   coset_at : (t : ℕ) → get_or cosets t (0 / 2 ^ first) ≡ coset_of t
   coset_at t = get_or-map (λ (j : ℕ). j / 2 ^ first) queries t 0
 
-  told : (p : Position) → first_shared first queries ≡ p → Told (0 / 2 ^ first) [] cosets 0 p
+  told : (p : Option ℕ) → first_shared first queries ≡ p → Told (0 / 2 ^ first) [] cosets 0 p
   unfolding first_shared
   told p e = subst (Told (0 / 2 ^ first) [] cosets 0) e (told_of (0 / 2 ^ first) [] cosets 0 (record {}))
 
-  module _ (query : ℕ) (e : first_shared first queries ≡ At query) where
+  module _ (query : ℕ) (e : first_shared first queries ≡ Some query) where
     -- the place counted from 0
     at_query : (query < length cosets) × (among (take query cosets) (get_or cosets query (0 / 2 ^ first)) ≡ true)
         × Distinct (take query cosets)
-    at_query = by (told (At query) e)
+    at_query = by (told (Some query) e)
       where
-        by : Told (0 / 2 ^ first) [] cosets 0 (At query)
+        by : Told (0 / 2 ^ first) [] cosets 0 (Some query)
             → (query < length cosets)
             × (among (take query cosets) (get_or cosets query (0 / 2 ^ first)) ≡ true)
             × Distinct (take query cosets)
@@ -238,11 +237,11 @@ module _ (first : ℕ) (queries : List ℕ) where
         (subst (λ (n : ℕ). u < n) (sym taken) m)
         (at_place t (omega arith) ∙ same ∙ sym (at_place u m))
 
-  none_told : Apart first queries → (p : Position) → first_shared first queries ≡ p → p ≡ Absent
-  none_told apart Absent e = refl
-  none_told apart (At query) e = by (shared_found query e)
+  none_told : Apart first queries → (p : Option ℕ) → first_shared first queries ≡ p → p ≡ None
+  none_told apart None e = refl
+  none_told apart (Some query) e = by (shared_found query e)
     where
-      by : (query < length queries) × ((t : ℕ) × (t < query) × (coset_of t ≡ coset_of query)) → At query ≡ Absent
+      by : (query < length queries) × ((t : ℕ) × (t < query) × (coset_of t ≡ coset_of query)) → Some query ≡ None
       by (l, (t, m, same)) =
           absurd
           (distinct_places cosets (0 / 2 ^ first) apart t query m
@@ -250,8 +249,8 @@ module _ (first : ℕ) (queries : List ℕ) where
           (coset_at t ∙ same ∙ sym (coset_at query)))
 
   -- none is told exactly where no two queries share one
-  pub none_shared : (first_shared first queries ≡ Absent) ↔ Apart first queries
-  none_shared = (λ e. told Absent e, λ apart. none_told apart (first_shared first queries) refl)
+  pub none_shared : (first_shared first queries ≡ None) ↔ Apart first queries
+  none_shared = (λ e. told None e, λ apart. none_told apart (first_shared first queries) refl)
 
 cosets_below : (k first : ℕ) (queries : List ℕ) → first ≤ k → All (λ j. j < 2 ^ k) queries
     → All (λ coset. coset < 2 ^ (k - first)) (visited_cosets first queries)

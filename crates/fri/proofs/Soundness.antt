@@ -13,7 +13,7 @@ use lib.Seq.{ext_get_or}
 use Rattle.poly.specs.Carrier.{gf64}
 use Rattle.poly.specs.Polynomial.{evaluate}
 use Rattle.poly.proofs.Degree.{below_or_not}
-use Rattle.refusal.specs.declared.Outcome.TheVariants.{Done}
+use Rattle.std.specs.Prelude.{Ok}
 use Rattle.coset.specs.Coset.{point}
 use Rattle.reed_solomon.specs.Codes.{encoded, interpolated, WordDegreeBelow}
 use Rattle.reed_solomon.proofs.Theorems.{encoding}
@@ -45,7 +45,7 @@ visited run coset (j ∷ queries) h (inr v) = visited run coset queries (λ t l.
 
 covering : (run : Run) (coset : ℕ) (lists : List (List ℕ))
     → Any (λ queries. Accepted run queries × Visits run queries coset) lists
-    → (run_outcome run ≡ Done) × ((j : ℕ) × PassesEveryRound run j × (j / 2 ^ step_in run 0 ≡ coset))
+    → (run_outcome run ≡ Ok tt) × ((j : ℕ) × PassesEveryRound run j × (j / 2 ^ step_in run 0 ≡ coset))
 covering run coset [] s = absurd s
 covering run coset (queries ∷ lists) (inl h) =
     let told = accepted_checks run queries h.0 in
@@ -53,7 +53,7 @@ covering run coset (queries ∷ lists) (inl h) =
 covering run coset (queries ∷ lists) (inr s) = covering run coset lists s
 
 -- a run of 64-bit numbers that passes the checks has a valid coset
-valid_coset : (run : Run) → Elements run → run_outcome run ≡ Done → ValidCoset run
+valid_coset : (run : Run) → Elements run → run_outcome run ≡ Ok tt → ValidCoset run
 valid_coset run e checked =
     let told = run_valid run checked in
     record {
@@ -68,10 +68,10 @@ module _ (run : Run) (lists : List (List ℕ)) (e : Elements run) (cover : Cover
   -- ---- every index is a query's
 
   first_coset : (m : ℕ) → m < 2 ^ (run.k - step_in run 0)
-      → (run_outcome run ≡ Done) × ((j : ℕ) × PassesEveryRound run j × (j / 2 ^ step_in run 0 ≡ m))
+      → (run_outcome run ≡ Ok tt) × ((j : ℕ) × PassesEveryRound run j × (j / 2 ^ step_in run 0 ≡ m))
   first_coset m h = covering run m lists (cover m h)
 
-  checked : run_outcome run ≡ Done
+  checked : run_outcome run ≡ Ok tt
   checked = (first_coset 0 (pow_pos (run.k - step_in run 0))).0
 
   fit : Fit run

@@ -7,13 +7,11 @@ use native.Mathlib.Omega.{arith}
 use lib.ListN.{length, get_or}
 use Rattle.refusal.specs.declared.Cause.{Cause}
 use Rattle.refusal.specs.declared.Cause.TheVariants.{RoundCheckFails}
-use Rattle.refusal.specs.declared.Outcome.{Outcome}
-use Rattle.refusal.specs.declared.Outcome.TheVariants.{Done, Refused}
+use Rattle.std.specs.Prelude.{Ok, Err}
+use Rattle.refusal.specs.Outcome.{Outcome}
 use Rattle.refusal.specs.Checks.{and_then}
 use Rattle.refusal.specs.Numbers.{number_of, place_of, round_of, number_of_outcome}
 use Rattle.refusal.proofs.Checks.{then_passed, then_refused, then_done, Either, which}
-use Rattle.fri.specs.declared.Answer.{Answer}
-use Rattle.fri.specs.declared.Answer.TheVariants as answers
 use Rattle.fri.specs.Run.{Run, rounds_in, step_in}
 use Rattle.fri.specs.Checks.{run_outcome, queries_outcome}
 use Rattle.fri.specs.Judge.{checks_outcome, answer_of, reads_after, verdict_of}
@@ -28,17 +26,17 @@ use Rattle.fri.proofs.Checks.{queries_valid, queries_pass}
 
 -- ---- an outcome as an answer
 
-pub done_of : (o : Outcome) → answer_of o ≡ answers.Accepted → o ≡ Done
-done_of Done e = refl
-done_of (Refused cause) e = absurd (let impossible : ◌≡◌ {A = ℕ} 0 1 = cc in omega arith)
+pub done_of : (o : Outcome) → answer_of o ≡ Ok tt → o ≡ Ok tt
+done_of (Ok tt) e = refl
+done_of (Err cause) e = absurd (let impossible : ◌≡◌ {A = ℕ} 0 1 = cc in omega arith)
 
-pub refused_of : (o : Outcome) (cause : Cause) → answer_of o ≡ answers.Refused cause → o ≡ Refused cause
-refused_of Done cause e = absurd (let impossible : ◌≡◌ {A = ℕ} 0 1 = cc in omega arith)
-refused_of (Refused other) cause e = let same : other ≡ cause = cc in ap Refused same
+pub refused_of : (o : Outcome) (cause : Cause) → answer_of o ≡ Err cause → o ≡ Err cause
+refused_of (Ok tt) cause e = absurd (let impossible : ◌≡◌ {A = ℕ} 0 1 = cc in omega arith)
+refused_of (Err other) cause e = let same : other ≡ cause = cc in ap Err same
 
 pub same_number : (o : Outcome) → number_of_answer (answer_of o) ≡ number_of_outcome o
-same_number Done = refl
-same_number (Refused cause) = refl
+same_number (Ok tt) = refl
+same_number (Err cause) = refl
 
 module _ (run : Run) (queries : List ℕ) where
   abbrev outcome : Outcome
@@ -49,17 +47,17 @@ module _ (run : Run) (queries : List ℕ) where
 
   -- ---- accepted
 
-  pub accepted_checks : Accepted run queries → (checks_outcome run queries ≡ Done) × AllPass
+  pub accepted_checks : Accepted run queries → (checks_outcome run queries ≡ Ok tt) × AllPass
   accepted_checks e =
       let both = then_done (checks_outcome run queries) (rounds_outcome run queries 0) (done_of outcome e) in
       (both.0, pass_of_done run queries both.1)
 
-  pub accepted_by : checks_outcome run queries ≡ Done → AllPass → Accepted run queries
+  pub accepted_by : checks_outcome run queries ≡ Ok tt → AllPass → Accepted run queries
   accepted_by l h =
       ap answer_of
       (sym (then_passed (checks_outcome run queries) (rounds_outcome run queries 0) l) ∙ all_pass run queries 0 h)
 
-  pub reads_accepted : checks_outcome run queries ≡ Done → AllPass
+  pub reads_accepted : checks_outcome run queries ≡ Ok tt → AllPass
       → (verdict_of run queries).reads ≡ length queries * rounds_in run * 2 ^ run.step
   reads_accepted l h =
       ap (λ (o : Outcome). reads_after o (entries_read run queries)) l
@@ -67,27 +65,27 @@ module _ (run : Run) (queries : List ℕ) where
       ∙ ap (λ (n : ℕ). length queries * n) (entries_of_rounds run)
       ∙ sym (mul_assoc (length queries) (rounds_in run) (2 ^ run.step))
 
-  pub accepted_verdict : checks_outcome run queries ≡ Done → AllPass
+  pub accepted_verdict : checks_outcome run queries ≡ Ok tt → AllPass
       → verdict_of run queries
-      ≡ record { answer = answers.Accepted; reads = length queries * rounds_in run * 2 ^ run.step }
+      ≡ record { answer = Ok tt; reads = length queries * rounds_in run * 2 ^ run.step }
   accepted_verdict l h =
-      ap₂ (λ (a : Answer) (n : ℕ). record { answer = a; reads = n }) (accepted_by l h) (reads_accepted l h)
+      ap₂ (λ (a : Outcome) (n : ℕ). record { answer = a; reads = n }) (accepted_by l h) (reads_accepted l h)
 
   -- ---- refused by a round check
 
-  pub refused_which : (cause : Cause) → (verdict_of run queries).answer ≡ answers.Refused cause
+  pub refused_which : (cause : Cause) → (verdict_of run queries).answer ≡ Err cause
       → Either (checks_outcome run queries) (rounds_outcome run queries 0) cause
   refused_which cause e =
       which (checks_outcome run queries) (rounds_outcome run queries 0) cause (refused_of outcome cause e)
 
-  pub refused_by : (query round : ℕ) → checks_outcome run queries ≡ Done → FailsFirst run queries query round
-      → (verdict_of run queries).answer ≡ answers.Refused (RoundCheckFails query round)
+  pub refused_by : (query round : ℕ) → checks_outcome run queries ≡ Ok tt → FailsFirst run queries query round
+      → (verdict_of run queries).answer ≡ Err (RoundCheckFails query round)
   refused_by query round l f =
       ap answer_of (sym (then_passed (checks_outcome run queries) (rounds_outcome run queries 0) l)
       ∙ first_failing run queries 0 query round f)
-      ∙ ap (λ (n : ℕ). answers.Refused (RoundCheckFails n round)) (zero-add query)
+      ∙ ap (λ (n : ℕ). Err (RoundCheckFails n round)) (zero-add query)
 
-  pub reads_refused : (query round : ℕ) → checks_outcome run queries ≡ Done → FailsFirst run queries query round
+  pub reads_refused : (query round : ℕ) → checks_outcome run queries ≡ Ok tt → FailsFirst run queries query round
       → (verdict_of run queries).reads
       ≡ query * rounds_in run * 2 ^ run.step + min (round + 2) (rounds_in run) * 2 ^ run.step
   reads_refused query round l f =
@@ -99,14 +97,14 @@ module _ (run : Run) (queries : List ℕ) where
 
   -- ---- refused before the round checks
 
-  pub refused_early : (cause : Cause) → checks_outcome run queries ≡ Refused cause
-      → ((verdict_of run queries).answer ≡ answers.Refused cause) × ((verdict_of run queries).reads ≡ 0)
+  pub refused_early : (cause : Cause) → checks_outcome run queries ≡ Err cause
+      → ((verdict_of run queries).answer ≡ Err cause) × ((verdict_of run queries).reads ≡ 0)
   refused_early cause e = (
     ap answer_of (sym (then_refused (checks_outcome run queries) (rounds_outcome run queries 0) cause e)),
     ap (λ (o : Outcome). reads_after o (entries_read run queries)) e,
   )
 
-  pub told_early : (cause : Cause) → checks_outcome run queries ≡ Refused cause
+  pub told_early : (cause : Cause) → checks_outcome run queries ≡ Err cause
       → Tells (verdict_of run queries) (number_of cause) (place_of cause) (round_of cause) 0
   told_early cause e =
       let both = refused_early cause e in
@@ -116,16 +114,16 @@ module _ (run : Run) (queries : List ℕ) where
   of_queries = queries_outcome run.k (step_in run 0) queries
 
   -- a run's refusal is the judge's
-  pub run_refused : (cause : Cause) → run_outcome run ≡ Refused cause → checks_outcome run queries ≡ Refused cause
+  pub run_refused : (cause : Cause) → run_outcome run ≡ Err cause → checks_outcome run queries ≡ Err cause
   run_refused cause e = sym (then_refused (run_outcome run) of_queries cause e)
 
-  pub checks_pass : run_outcome run ≡ Done → ValidQueries run.k queries → Apart (step_in run 0) queries
-      → checks_outcome run queries ≡ Done
+  pub checks_pass : run_outcome run ≡ Ok tt → ValidQueries run.k queries → Apart (step_in run 0) queries
+      → checks_outcome run queries ≡ Ok tt
   checks_pass e v apart =
       sym (then_passed (run_outcome run) of_queries e) ∙ queries_pass run.k (step_in run 0) queries v apart
 
-  pub checks_valid : checks_outcome run queries ≡ Done
-      → (run_outcome run ≡ Done) × ValidQueries run.k queries × Apart (step_in run 0) queries
+  pub checks_valid : checks_outcome run queries ≡ Ok tt
+      → (run_outcome run ≡ Ok tt) × ValidQueries run.k queries × Apart (step_in run 0) queries
   checks_valid e =
       let both = then_done (run_outcome run) of_queries e in
       let valid = queries_valid run.k (step_in run 0) queries both.1 in

@@ -3,10 +3,8 @@ use Rattle.std.specs.Prelude.{Bool, false, cond, ◌&&◌, ◌||◌, List, [], �
 use Rattle.refusal.specs.declared.Cause.TheVariants.{DimensionOutOfRange, RateOutOfRange, StepOutOfRange}
 use Rattle.refusal.specs.declared.Cause.TheVariants.{DimensionTooSmall, WrongLength}
 use Rattle.refusal.specs.declared.Cause.TheVariants.{QueryCountOutOfRange, QueryOutOfRange, CosetShared}
-use Rattle.refusal.specs.declared.Outcome.{Outcome}
-use Rattle.refusal.specs.declared.Outcome.TheVariants.{Done, Refused}
-use Rattle.refusal.specs.declared.Position.{Position}
-use Rattle.refusal.specs.declared.Position.TheVariants.{At, Absent}
+use Rattle.std.specs.Prelude.{Option, Some, None, Ok, Err}
+use Rattle.refusal.specs.Outcome.{Outcome}
 use Rattle.refusal.specs.Checks.{refused_unless, and_then}
 use Rattle.coset.specs.Answers.{basis_outcome}
 use Rattle.fri.specs.Layout.{last_count, store_length}
@@ -19,7 +17,7 @@ parameters_outcome k rate step =
     (refused_unless (leb 1 rate && leb rate 6) RateOutOfRange
     (refused_unless (leb 1 step && leb step 3) StepOutOfRange
     (refused_unless (leb (rate + step) k) DimensionTooSmall
-    Done)))
+    (Ok tt))))
 
 -- lists 1 to 5: the lowest one whose length is not the one due (13)
 abbrev pub lengths_outcome : (run : Run) → Outcome
@@ -29,7 +27,7 @@ lengths_outcome run =
     (refused_unless (eqb (length run.word) (2 ^ run.k)) (WrongLength 3)
     (refused_unless (eqb (length run.store) (store_length run.k (steps_in run))) (WrongLength 4)
     (refused_unless (eqb (length run.last) (last_count run.k run.rate (steps_in run))) (WrongLength 5)
-    Done))))
+    (Ok tt)))))
 
 -- the checks that prover and judge have in common: 4, 5, 6, 7, 13, 8
 abbrev pub run_outcome : (run : Run) → Outcome
@@ -38,14 +36,14 @@ run_outcome run =
     (and_then (lengths_outcome run) (basis_outcome run.basis))
 
 -- the first query, its place counted from `place`, whose index is not below the size
-unfoldable pub first_outside : (size : ℕ) (queries : List ℕ) (place : ℕ) → Position
-first_outside size [] place = Absent
-first_outside size (j ∷ queries) place = cond (ltb j size) (first_outside size queries (suc place)) (At place)
+unfoldable pub first_outside : (size : ℕ) (queries : List ℕ) (place : ℕ) → Option ℕ
+first_outside size [] place = None
+first_outside size (j ∷ queries) place = cond (ltb j size) (first_outside size queries (suc place)) (Some place)
 
 -- a query outside is refused (10)
-abbrev pub outcome_of_outside : (outside : Position) → Outcome
-outcome_of_outside (At query) = Refused (QueryOutOfRange query)
-outcome_of_outside Absent = Done
+abbrev pub outcome_of_outside : (outside : Option ℕ) → Outcome
+outcome_of_outside (Some query) = Err (QueryOutOfRange query)
+outcome_of_outside None = Ok tt
 
 -- x is one of the entries
 unfoldable pub among : (entries : List ℕ) (x : ℕ) → Bool
@@ -54,10 +52,10 @@ among (y ∷ entries) x = eqb y x || among entries x
 
 -- the first of the entries that is one of those before it, `earlier` ones included;
 -- the first entry has the place given
-unfoldable pub first_repeated_after : (earlier entries : List ℕ) (place : ℕ) → Position
-first_repeated_after earlier [] place = Absent
+unfoldable pub first_repeated_after : (earlier entries : List ℕ) (place : ℕ) → Option ℕ
+first_repeated_after earlier [] place = None
 first_repeated_after earlier (x ∷ entries) place =
-    cond (among earlier x) (At place) (first_repeated_after (earlier ++ (x ∷ [])) entries (suc place))
+    cond (among earlier x) (Some place) (first_repeated_after (earlier ++ (x ∷ [])) entries (suc place))
 
 -- the first-layer coset that each query visits, by its number: coset j / 2^η holds point j, where η, here `first_step`,
 -- is the step of round 0
@@ -65,13 +63,13 @@ abbrev pub visited_cosets : (first_step : ℕ) (queries : List ℕ) → List ℕ
 visited_cosets first_step queries = map (λ j. j / 2 ^ first_step) queries
 
 -- the first place, from 0, whose query lies in the first-layer coset of an earlier one
-unfoldable pub first_shared : (first_step : ℕ) (queries : List ℕ) → Position
+unfoldable pub first_shared : (first_step : ℕ) (queries : List ℕ) → Option ℕ
 first_shared first_step queries = first_repeated_after [] (visited_cosets first_step queries) 0
 
 -- a query that shares a first-layer coset with an earlier one is refused (17)
-abbrev pub outcome_of_shared : (shared : Position) → Outcome
-outcome_of_shared (At query) = Refused (CosetShared query)
-outcome_of_shared Absent = Done
+abbrev pub outcome_of_shared : (shared : Option ℕ) → Outcome
+outcome_of_shared (Some query) = Err (CosetShared query)
+outcome_of_shared None = Ok tt
 
 -- the indices of a query list: each below 2^k (10), then no two in one first-layer coset (17)
 abbrev pub indices_outcome : (k first_step : ℕ) (queries : List ℕ) → Outcome

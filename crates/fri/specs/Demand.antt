@@ -5,12 +5,11 @@
 use Rattle.std.specs.Prelude.{◌≡◌, ◌≢◌, ◌⊎◌, List, [], ◌∷◌, ℕ, suc, ◌+◌, ◌*◌, ◌-◌, ◌/◌, ◌^◌, ◌≤◌, ◌<◌, length}
 use Rattle.gf64.specs.Field.{IsElement}
 use Rattle.poly.specs.Polynomial.{All, Distinct}
-use Rattle.refusal.specs.declared.Outcome.TheVariants.{Done}
+use Rattle.std.specs.Prelude.{Ok}
 use Rattle.refusal.specs.Numbers.{number_of_outcome}
 use Rattle.coset.specs.Span.{Independent}
 use Rattle.reed_solomon.specs.Codes.{encoded, WordDegreeBelow}
 use Rattle.fold.specs.Exceptional.{Exceptional}
-use Rattle.fri.specs.declared.Answer.TheVariants as answers
 use Rattle.fri.specs.Layout.{dimension, last_count, store_length}
 use Rattle.fri.specs.Run.{Run, steps_in, rounds_in, step_in, challenge_in, layer_in}
 use Rattle.fri.specs.Layers.{basis_in, offset_in, fold_of, honest_store, honest_last, honest}
@@ -64,7 +63,7 @@ Any P (x ∷ xs) = P x ⊎ Any P xs
 
 -- the judging with this query list is accepted
 abbrev pub Accepted : (run : Run) (queries : List ℕ) → Type 0
-Accepted run queries = (verdict_of run queries).answer ≡ answers.Accepted
+Accepted run queries = (verdict_of run queries).answer ≡ Ok tt
 
 -- document 01's own term: a query list visits the first-layer cosets that hold the points of its indices;
 -- coset j / 2^η holds point j, by `NextCosets`, and the step of round 0 is η
@@ -84,7 +83,7 @@ Completeness =
     (run : Run) (queries : List ℕ) → ValidCoset run → ProverInput run → LowDegree run
     → ValidQueries run.k queries → Apart (step_in run 0) queries
     → verdict_of (honest run) queries
-    ≡ record { answer = answers.Accepted; reads = length queries * rounds_in run * 2 ^ run.step }
+    ≡ record { answer = Ok tt; reads = length queries * rounds_in run * 2 ^ run.step }
 
 -- all numbers of a run are 64-bit numbers; nothing is said of lengths
 pub record Elements (run : Run) : Type 0 where
@@ -137,7 +136,7 @@ pub record HonestProofs : Type 0 where
   pub proves : (run : Run) → ValidCoset run → ProverInput run → LowDegree run
       → length run.store ≡ store_length run.k (steps_in run)
       → length run.last ≡ last_count run.k run.rate (steps_in run)
-      → (prove_outcome run ≡ Done) × (store_after run ≡ honest_store run) × (last_after run ≡ honest_last run)
+      → (prove_outcome run ≡ Ok tt) × (store_after run ≡ honest_store run) × (last_after run ≡ honest_last run)
   -- it never answers 12 on such a word
   pub never12 : (run : Run) → ValidCoset run → ProverInput run → LowDegree run → number_of_outcome (prove_outcome run) ≢ 12
   -- the second half is about something: an honest run has 64-bit numbers, and some query lists cover it

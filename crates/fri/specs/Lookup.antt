@@ -1,14 +1,14 @@
 -- The layer lookup: a layer as a part of the caller's store.
 use Rattle.std.specs.Prelude.{Bool, cond, ◌&&◌, List, [], ℕ, leb, ltb, eqb, length}
-use Rattle.refusal.specs.declared.Outcome.{Outcome}
-use Rattle.refusal.specs.declared.Outcome.TheVariants.{Done, Refused}
+use Rattle.std.specs.Prelude.{Ok, Err}
+use Rattle.refusal.specs.Outcome.{Outcome}
 use Rattle.fri.specs.Layout.{steps_of, store_length, stored_layer}
 use Rattle.fri.specs.Checks.{parameters_outcome}
 
 -- the part if the checks pass, else the empty part
 abbrev pub part_after : (outcome : Outcome) (part : List ℕ) → List ℕ
-part_after Done part = part
-part_after (Refused cause) part = []
+part_after (Ok tt) part = part
+part_after (Err cause) part = []
 
 -- the store has a layer i: 1 ≤ i < r, and the length of the store is the one due
 abbrev pub in_store : (k : ℕ) (steps store : List ℕ) (i : ℕ) → Bool

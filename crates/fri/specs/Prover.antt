@@ -2,8 +2,8 @@
 -- are what they held before.
 use Rattle.std.specs.Prelude.{List, ℕ, ◌-◌, leb}
 use Rattle.refusal.specs.declared.Cause.TheVariants.{DegreeTooLarge}
-use Rattle.refusal.specs.declared.Outcome.{Outcome}
-use Rattle.refusal.specs.declared.Outcome.TheVariants.{Done}
+use Rattle.std.specs.Prelude.{Ok}
+use Rattle.refusal.specs.Outcome.{Outcome}
 use Rattle.refusal.specs.Checks.{refused_unless, and_then, afterwards}
 use Rattle.poly.specs.Degree.{degree_bound}
 use Rattle.fri.specs.Layout.{last_count}
@@ -15,7 +15,7 @@ use Rattle.fri.specs.Checks.{run_outcome}
 abbrev pub degree_outcome : (run : Run) → Outcome
 degree_outcome run =
     refused_unless (leb (degree_bound (last_interpolant run)) (last_count run.k run.rate (steps_in run)))
-    (DegreeTooLarge (degree_bound (last_interpolant run) - 1)) Done
+    (DegreeTooLarge (degree_bound (last_interpolant run) - 1)) (Ok tt)
 
 -- all checks in the order of document 01: 4, 5, 6, 7, 13, 8, 12
 abbrev pub prove_outcome : (run : Run) → Outcome

@@ -1,7 +1,6 @@
 -- The entries read: the cosets met query by query, counted anew for each query.
 use Rattle.std.specs.Prelude.{List, [], ◌∷◌, ℕ, ◌+◌, ◌^◌, take}
-use Rattle.refusal.specs.declared.Position.{Position}
-use Rattle.refusal.specs.declared.Position.TheVariants.{At, Absent}
+use Rattle.std.specs.Prelude.{Option, Some, None}
 use Rattle.fri.specs.Run.{Run, steps_in}
 use Rattle.fri.specs.Rounds.{failing_round}
 
@@ -12,18 +11,18 @@ entry_count (step ∷ others) = 2 ^ step + entry_count others
 
 -- the steps of the rounds whose cosets a query reads: all or, where the check of round i fails,
 -- those up to round i and, for the value found, the next one, if there is one
-abbrev pub steps_read : (steps : List ℕ) (failing : Position) → List ℕ
-steps_read steps (At i) = take (i + 2) steps
-steps_read steps Absent = steps
+abbrev pub steps_read : (steps : List ℕ) (failing : Option ℕ) → List ℕ
+steps_read steps (Some i) = take (i + 2) steps
+steps_read steps None = steps
 
 -- the entries read for one query: those of these cosets
-abbrev pub query_reads : (run : Run) (failing : Position) → ℕ
+abbrev pub query_reads : (run : Run) (failing : Option ℕ) → ℕ
 query_reads run failing = entry_count (steps_read (steps_in run) failing)
 
 -- what is read after a query: nothing where a check of it failed
-abbrev pub unless_failed : (failing : Position) (reads : ℕ) → ℕ
-unless_failed (At round) reads = 0
-unless_failed Absent reads = reads
+abbrev pub unless_failed : (failing : Option ℕ) (reads : ℕ) → ℕ
+unless_failed (Some round) reads = 0
+unless_failed None reads = reads
 
 -- the entries read query by query, up to the first that fails, counted anew for each
 unfoldable pub entries_read : (run : Run) (queries : List ℕ) → ℕ

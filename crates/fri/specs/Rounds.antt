@@ -1,10 +1,8 @@
 -- The round checks: the two values of a check, and the first check that fails.
 use Rattle.std.specs.Prelude.{Bool, cond, List, [], ◌∷◌, ℕ, zero, suc, ltb, eqb, get_or}
 use Rattle.refusal.specs.declared.Cause.TheVariants.{RoundCheckFails}
-use Rattle.refusal.specs.declared.Outcome.{Outcome}
-use Rattle.refusal.specs.declared.Outcome.TheVariants.{Done, Refused}
-use Rattle.refusal.specs.declared.Position.{Position}
-use Rattle.refusal.specs.declared.Position.TheVariants.{At, Absent}
+use Rattle.std.specs.Prelude.{Option, Some, None, Ok, Err}
+use Rattle.refusal.specs.Outcome.{Outcome}
 use Rattle.refusal.specs.Checks.{and_then}
 use Rattle.poly.specs.Carrier.{gf64}
 use Rattle.poly.specs.Polynomial.{evaluate}
@@ -33,21 +31,21 @@ abbrev pub round_passes : (run : Run) (j i : ℕ) → Bool
 round_passes run j i = eqb (value_computed run j i) (value_found run j i)
 
 -- the first round whose check fails for a query at index j, of the next `left` rounds from round i on
-unfoldable pub first_failing_round : (run : Run) (j i left : ℕ) → Position
-first_failing_round run j i zero = Absent
-first_failing_round run j i (suc left) = cond (round_passes run j i) (first_failing_round run j (suc i) left) (At i)
+unfoldable pub first_failing_round : (run : Run) (j i left : ℕ) → Option ℕ
+first_failing_round run j i zero = None
+first_failing_round run j i (suc left) = cond (round_passes run j i) (first_failing_round run j (suc i) left) (Some i)
 
 -- the first failing round of a query at index j, of all rounds
-abbrev pub failing_round : (run : Run) (j : ℕ) → Position
+abbrev pub failing_round : (run : Run) (j : ℕ) → Option ℕ
 failing_round run j = first_failing_round run j 0 (rounds_in run)
 
 -- a failing check is refused with its query and round (11)
-abbrev pub outcome_of_rounds : (query : ℕ) (failing : Position) → Outcome
-outcome_of_rounds query (At round) = Refused (RoundCheckFails query round)
-outcome_of_rounds query Absent = Done
+abbrev pub outcome_of_rounds : (query : ℕ) (failing : Option ℕ) → Outcome
+outcome_of_rounds query (Some round) = Err (RoundCheckFails query round)
+outcome_of_rounds query None = Ok tt
 
 -- the first check that fails, lowest query first, then lowest round; the queries are counted from `query`
 unfoldable pub rounds_outcome : (run : Run) (queries : List ℕ) (query : ℕ) → Outcome
-rounds_outcome run [] query = Done
+rounds_outcome run [] query = Ok tt
 rounds_outcome run (j ∷ queries) query =
     and_then (outcome_of_rounds query (failing_round run j)) (rounds_outcome run queries (suc query))

@@ -9,14 +9,11 @@ use Rattle.reed_solomon.specs.Codes.{interpolated}
 use Rattle.fold.specs.Fold.{folded}
 use Rattle.refusal.specs.declared.Cause.{Cause}
 use Rattle.refusal.specs.declared.Cause.TheVariants.{RoundCheckFails, DegreeTooLarge, CosetShared}
-use Rattle.refusal.specs.declared.Outcome.TheVariants.{Done, Refused}
-use Rattle.refusal.specs.declared.Position.{Position}
-use Rattle.refusal.specs.declared.Position.TheVariants.{At, Absent}
+use Rattle.std.specs.Prelude.{Option, Some, None, Ok, Err}
 use Rattle.refusal.specs.Numbers.{number_of, number_of_outcome, place_of_outcome, round_of_outcome}
 use Rattle.coset.specs.Coset.{point}
 use Rattle.coset.specs.Span.{first_dependent, Independent}
 use Rattle.coset.specs.Subspace.{image}
-use Rattle.fri.specs.declared.Answer.TheVariants as answers
 use Rattle.fri.specs.declared.Verdict.{Verdict}
 use Rattle.fri.specs.Layout.{rounds_of, steps_of, step_at, dimension, last_count}
 use Rattle.fri.specs.Layout.{layer_start, store_length, stored_layer, index_in}
@@ -138,88 +135,88 @@ pub record Fit (run : Run) : Type 0 where
 -- basis and queries are valid, and no two queries share a first-layer coset
 pub record Passing : Type 0 where
   pub common : (run : Run)
-      → (run_outcome run ≡ Done)
+      → (run_outcome run ≡ Ok tt)
       ↔ (ValidParameters run.k run.rate run.step × Fit run × Independent run.basis)
   pub all : (run : Run) (queries : List ℕ)
-      → (checks_outcome run queries ≡ Done)
-      ↔ ((run_outcome run ≡ Done) × ValidQueries run.k queries × Apart (step_in run 0) queries)
+      → (checks_outcome run queries ≡ Ok tt)
+      ↔ ((run_outcome run ≡ Ok tt) × ValidQueries run.k queries × Apart (step_in run 0) queries)
 
 -- a verdict's number, place, round and reads
-abbrev pub Tells : (verdict : Verdict) (number : ℕ) (place round : Position) (reads : ℕ) → Type 0
+abbrev pub Tells : (verdict : Verdict) (number : ℕ) (place round : Option ℕ) (reads : ℕ) → Type 0
 Tells verdict number place round reads =
     (number_of_answer verdict.answer ≡ number) × (place_of_answer verdict.answer ≡ place)
     × (round_of_answer verdict.answer ≡ round) × (verdict.reads ≡ reads)
 
 -- prover and judge both refuse with this number and place: nothing is read, whatever the queries,
 -- and both lent lists are left as they were
-abbrev pub BothRefuse : (run : Run) (number : ℕ) (place : Position) → Type 0
+abbrev pub BothRefuse : (run : Run) (number : ℕ) (place : Option ℕ) → Type 0
 BothRefuse run number place =
-    ((queries : List ℕ) → Tells (verdict_of run queries) number place Absent 0)
+    ((queries : List ℕ) → Tells (verdict_of run queries) number place None 0)
     × (number_of_outcome (prove_outcome run) ≡ number) × (place_of_outcome (prove_outcome run) ≡ place)
-    × (round_of_outcome (prove_outcome run) ≡ Absent)
+    × (round_of_outcome (prove_outcome run) ≡ None)
     × (store_after run ≡ run.store) × (last_after run ≡ run.last)
 
 -- the refusals before the round checks, by the first check that fails
 pub record Refusals : Type 0 where
-  pub dimension : (run : Run) → (run.k < 2) ⊎ (20 < run.k) → BothRefuse run 4 Absent
-  pub rate : (run : Run) → 2 ≤ run.k → run.k ≤ 20 → (run.rate < 1) ⊎ (6 < run.rate) → BothRefuse run 5 Absent
+  pub dimension : (run : Run) → (run.k < 2) ⊎ (20 < run.k) → BothRefuse run 4 None
+  pub rate : (run : Run) → 2 ≤ run.k → run.k ≤ 20 → (run.rate < 1) ⊎ (6 < run.rate) → BothRefuse run 5 None
   pub step : (run : Run) → 2 ≤ run.k → run.k ≤ 20 → 1 ≤ run.rate → run.rate ≤ 6 → (run.step < 1) ⊎ (3 < run.step)
-      → BothRefuse run 6 Absent
+      → BothRefuse run 6 None
   pub too_small : (run : Run) → 2 ≤ run.k → run.k ≤ 20 → 1 ≤ run.rate → run.rate ≤ 6 → 1 ≤ run.step → run.step ≤ 3
       → run.k < run.rate + run.step
-      → BothRefuse run 7 Absent
+      → BothRefuse run 7 None
   pub list1 : (run : Run) → ValidParameters run.k run.rate run.step → length run.basis ≢ run.k
-      → BothRefuse run 13 (At 1)
+      → BothRefuse run 13 (Some 1)
   pub list2 : (run : Run) → ValidParameters run.k run.rate run.step → length run.basis ≡ run.k
-      → length run.challenges ≢ rounds_in run → BothRefuse run 13 (At 2)
+      → length run.challenges ≢ rounds_in run → BothRefuse run 13 (Some 2)
   pub list3 : (run : Run) → ValidParameters run.k run.rate run.step → length run.basis ≡ run.k
-      → length run.challenges ≡ rounds_in run → length run.word ≢ 2 ^ run.k → BothRefuse run 13 (At 3)
+      → length run.challenges ≡ rounds_in run → length run.word ≢ 2 ^ run.k → BothRefuse run 13 (Some 3)
   pub list4 : (run : Run) → ValidParameters run.k run.rate run.step → length run.basis ≡ run.k
       → length run.challenges ≡ rounds_in run → length run.word ≡ 2 ^ run.k
-      → length run.store ≢ store_length run.k (steps_in run) → BothRefuse run 13 (At 4)
+      → length run.store ≢ store_length run.k (steps_in run) → BothRefuse run 13 (Some 4)
   pub list5 : (run : Run) → ValidParameters run.k run.rate run.step → length run.basis ≡ run.k
       → length run.challenges ≡ rounds_in run → length run.word ≡ 2 ^ run.k
       → length run.store ≡ store_length run.k (steps_in run)
-      → length run.last ≢ last_count run.k run.rate (steps_in run) → BothRefuse run 13 (At 5)
+      → length run.last ≢ last_count run.k run.rate (steps_in run) → BothRefuse run 13 (Some 5)
   pub dependent : (run : Run) (place : ℕ) → ValidParameters run.k run.rate run.step → Fit run
-      → first_dependent run.basis ≡ At place
-      → BothRefuse run 8 (At place)
+      → first_dependent run.basis ≡ Some place
+      → BothRefuse run 8 (Some place)
   -- the judge alone
-  pub query_count : (run : Run) (queries : List ℕ) → run_outcome run ≡ Done
+  pub query_count : (run : Run) (queries : List ℕ) → run_outcome run ≡ Ok tt
       → (length queries < 1) ⊎ (256 < length queries)
-      → Tells (verdict_of run queries) 9 Absent Absent 0
-  pub query_outside : (run : Run) (queries : List ℕ) (query : ℕ) → run_outcome run ≡ Done → 1 ≤ length queries
+      → Tells (verdict_of run queries) 9 None None 0
+  pub query_outside : (run : Run) (queries : List ℕ) (query : ℕ) → run_outcome run ≡ Ok tt → 1 ≤ length queries
       → length queries ≤ 256
-      → first_outside (2 ^ run.k) queries 0 ≡ At query → Tells (verdict_of run queries) 10 (At query) Absent 0
+      → first_outside (2 ^ run.k) queries 0 ≡ Some query → Tells (verdict_of run queries) 10 (Some query) None 0
   -- which is the first query whose index is not below 2^k
-  pub first-outside : (size : ℕ) (queries : List ℕ) (query : ℕ) → first_outside size queries 0 ≡ At query
+  pub first-outside : (size : ℕ) (queries : List ℕ) (query : ℕ) → first_outside size queries 0 ≡ Some query
       → (query < length queries) × (size ≤ get_or queries query 0) × ((t : ℕ) → t < query → get_or queries t 0 < size)
   -- `SharedCosets` says which query that is
-  pub query_shared : (run : Run) (queries : List ℕ) (query : ℕ) → run_outcome run ≡ Done → ValidQueries run.k queries
-      → first_shared (step_in run 0) queries ≡ At query → Tells (verdict_of run queries) 17 (At query) Absent 0
+  pub query_shared : (run : Run) (queries : List ℕ) (query : ℕ) → run_outcome run ≡ Ok tt → ValidQueries run.k queries
+      → first_shared (step_in run 0) queries ≡ Some query → Tells (verdict_of run queries) 17 (Some query) None 0
 
 -- all checks of the run and of its queries pass but the last: this query is the first that shares a first-layer coset
 -- with an earlier one
 abbrev pub SharedAt : (run : Run) (queries : List ℕ) (query : ℕ) → Type 0
 SharedAt run queries query =
-    (run_outcome run ≡ Done) × ValidQueries run.k queries × (first_shared (step_in run 0) queries ≡ At query)
+    (run_outcome run ≡ Ok tt) × ValidQueries run.k queries × (first_shared (step_in run 0) queries ≡ Some query)
 
 -- queries that share a first-layer coset; `first_step` is the step of round 0
 pub record SharedCosets : Type 0 where
   -- the place told is the first whose query lies in the first-layer coset of an earlier one
-  pub found : (first_step : ℕ) (queries : List ℕ) (query : ℕ) → first_shared first_step queries ≡ At query
+  pub found : (first_step : ℕ) (queries : List ℕ) (query : ℕ) → first_shared first_step queries ≡ Some query
       → (query < length queries)
       × ((t : ℕ) × (t < query) × (get_or queries t 0 / 2 ^ first_step ≡ get_or queries query 0 / 2 ^ first_step))
-  pub earliest : (first_step : ℕ) (queries : List ℕ) (query : ℕ) → first_shared first_step queries ≡ At query
+  pub earliest : (first_step : ℕ) (queries : List ℕ) (query : ℕ) → first_shared first_step queries ≡ Some query
       → (t u : ℕ) → t < u → u < query → get_or queries t 0 / 2 ^ first_step ≢ get_or queries u 0 / 2 ^ first_step
   -- none is told exactly where no two share one
-  pub none : (first_step : ℕ) (queries : List ℕ) → (first_shared first_step queries ≡ Absent) ↔ Apart first_step queries
+  pub none : (first_step : ℕ) (queries : List ℕ) → (first_shared first_step queries ≡ None) ↔ Apart first_step queries
   -- 17 comes exactly where all other checks before the round checks pass and a place is told, in the checks and so in
   -- the judge's answer
   pub checks : (run : Run) (queries : List ℕ) (query : ℕ)
-      → (checks_outcome run queries ≡ Refused (CosetShared query)) ↔ SharedAt run queries query
+      → (checks_outcome run queries ≡ Err (CosetShared query)) ↔ SharedAt run queries query
   pub refused : (run : Run) (queries : List ℕ) (query : ℕ)
-      → ((verdict_of run queries).answer ≡ answers.Refused (CosetShared query)) ↔ SharedAt run queries query
+      → ((verdict_of run queries).answer ≡ Err (CosetShared query)) ↔ SharedAt run queries query
   -- no two queries of what is accepted share a coset: it visits as many as it has queries
   pub accepted : (run : Run) (queries : List ℕ) → Accepted run queries → Apart (step_in run 0) queries
   -- and there are 2^(k - η) first-layer cosets
@@ -253,39 +250,39 @@ pub record RoundChecks : Type 0 where
   -- accepted exactly where the checks before them pass and every query passes in every round
   pub accepted : (run : Run) (queries : List ℕ)
       → Accepted run queries
-      ↔ ((checks_outcome run queries ≡ Done) × ((t : ℕ) → t < length queries → PassesEveryRound run (get_or queries t 0)))
+      ↔ ((checks_outcome run queries ≡ Ok tt) × ((t : ℕ) → t < length queries → PassesEveryRound run (get_or queries t 0)))
   -- refused by 11 exactly at the first check that fails, lowest query first, then lowest round
   pub refused : (run : Run) (queries : List ℕ) (query round : ℕ)
-      → ((verdict_of run queries).answer ≡ answers.Refused (RoundCheckFails query round))
-      ↔ ((checks_outcome run queries ≡ Done) × FailsFirst run queries query round)
+      → ((verdict_of run queries).answer ≡ Err (RoundCheckFails query round))
+      ↔ ((checks_outcome run queries ≡ Ok tt) × FailsFirst run queries query round)
 
 -- the verdict after the round checks, with document 01's two formulas for the entries read
 pub record Reads : Type 0 where
   pub accepted : (run : Run) (queries : List ℕ) → Accepted run queries
-      → Tells (verdict_of run queries) 0 Absent Absent (length queries * rounds_in run * 2 ^ run.step)
+      → Tells (verdict_of run queries) 0 None None (length queries * rounds_in run * 2 ^ run.step)
   pub refused : (run : Run) (queries : List ℕ) (query round : ℕ)
-      → (verdict_of run queries).answer ≡ answers.Refused (RoundCheckFails query round)
-      → Tells (verdict_of run queries) 11 (At query) (At round)
+      → (verdict_of run queries).answer ≡ Err (RoundCheckFails query round)
+      → Tells (verdict_of run queries) 11 (Some query) (Some round)
       (query * rounds_in run * 2 ^ run.step + min (round + 2) (rounds_in run) * 2 ^ run.step)
   -- other refusals read nothing
-  pub others : (run : Run) (queries : List ℕ) (cause : Cause) → (verdict_of run queries).answer ≡ answers.Refused cause
+  pub others : (run : Run) (queries : List ℕ) (cause : Cause) → (verdict_of run queries).answer ≡ Err cause
       → number_of cause ≢ 11
       → (verdict_of run queries).reads ≡ 0
 
 -- the prover
 pub record ProverAnswers : Type 0 where
   -- done exactly where the checks before it pass and layer r has degree below d; both lists then hold the honest ones
-  pub done : (run : Run) → (prove_outcome run ≡ Done)
-      ↔ ((run_outcome run ≡ Done) × (degree_bound (last_interpolant run) ≤ last_count run.k run.rate (steps_in run)))
-  pub holds : (run : Run) → prove_outcome run ≡ Done
+  pub done : (run : Run) → (prove_outcome run ≡ Ok tt)
+      ↔ ((run_outcome run ≡ Ok tt) × (degree_bound (last_interpolant run) ≤ last_count run.k run.rate (steps_in run)))
+  pub holds : (run : Run) → prove_outcome run ≡ Ok tt
       → (store_after run ≡ honest_store run) × (last_after run ≡ honest_last run)
   -- refused by 12 exactly where they pass and layer r has that degree, d or more; the store then holds the honest
   -- folds, the last coefficients are left
   pub too_high : (run : Run) (degree : ℕ)
-      → (prove_outcome run ≡ Refused (DegreeTooLarge degree))
-      ↔ ((run_outcome run ≡ Done) × (degree_bound (last_interpolant run) ≡ suc degree)
+      → (prove_outcome run ≡ Err (DegreeTooLarge degree))
+      ↔ ((run_outcome run ≡ Ok tt) × (degree_bound (last_interpolant run) ≡ suc degree)
       × (last_count run.k run.rate (steps_in run) ≤ degree))
-  pub too_high_holds : (run : Run) (degree : ℕ) → prove_outcome run ≡ Refused (DegreeTooLarge degree)
+  pub too_high_holds : (run : Run) (degree : ℕ) → prove_outcome run ≡ Err (DegreeTooLarge degree)
       → (store_after run ≡ honest_store run) × (last_after run ≡ run.last)
 
 abbrev pub JudgeNumber : (n : ℕ) → Type 0

@@ -4,16 +4,9 @@
 
 use refusal::Cause;
 
-// What a judging answers.
-#[derive(Clone, Copy)]
-pub enum Answer {
-    Accepted,
-    Refused(Cause),
-}
-
-// The answer with the entries read.
+// What a judging answers: accepted, or the cause of the refusal; and the entries read.
 #[derive(Clone, Copy)]
 pub struct Verdict {
-    pub answer: Answer,
+    pub answer: Result<(), Cause>,
     pub reads: u64,
 }

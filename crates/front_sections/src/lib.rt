@@ -12,40 +12,40 @@ ghost use Rattle.transcript.specs.Checks.{parameters_section, coset_section, que
 ghost use Rattle.sections.specs.Views.{sections_in, ParametersOf};
 
 use layout::Parameters;
-use refusal::{Cause, Outcome};
+use refusal::Cause;
 use sections::Sections;
 
 // Sections 1 to 4.
-pub fn checked_front(bytes: &[u8], sections: Sections) -> Outcome
+pub fn checked_front(bytes: &[u8], sections: Sections) -> Result<(), Cause>
     requires { sections ≡ sections_in bytes.now }
     ensures { result ≡ front_outcome bytes.now }
 {
     let first = checked_parameters(bytes);
     match first {
-        Outcome::Done => checked_lists(bytes, sections, sections::parameters(bytes)),
-        Outcome::Refused(cause) => Outcome::Refused(cause),
+        Ok(()) => checked_lists(bytes, sections, sections::parameters(bytes)),
+        Err(cause) => Err(cause),
     }
 }
 
 // Section 1: k, R and η in range (4 to 7).
-fn checked_parameters(bytes: &[u8]) -> Outcome
+fn checked_parameters(bytes: &[u8]) -> Result<(), Cause>
     ensures { result ≡ parameters_section bytes.now }
 {
     let whole = sections::checked_due(bytes, 1, 0, 3);
     match whole {
-        Outcome::Done => sections::parameters(bytes).checked(),
-        Outcome::Refused(cause) => Outcome::Refused(cause),
+        Ok(()) => sections::parameters(bytes).checked(),
+        Err(cause) => Err(cause),
     }
 }
 
 // Sections 2, 3 and 4.
-fn checked_lists(bytes: &[u8], sections: Sections, parameters: Parameters) -> Outcome
+fn checked_lists(bytes: &[u8], sections: Sections, parameters: Parameters) -> Result<(), Cause>
     requires { (sections ≡ sections_in bytes.now) × ParametersOf bytes.now parameters }
     ensures { result ≡ lists_outcome bytes.now }
 {
     let coset = checked_coset(bytes, sections.coset, parameters);
     match coset {
-        Outcome::Done => {
+        Ok(()) => {
             let challenges = sections::checked_due(
                 bytes,
                 3,
@@ -53,31 +53,31 @@ fn checked_lists(bytes: &[u8], sections: Sections, parameters: Parameters) -> Ou
                 parameters.rounds(),
             );
             match challenges {
-                Outcome::Done => checked_queries(bytes, sections.queries, parameters),
-                Outcome::Refused(cause) => Outcome::Refused(cause),
+                Ok(()) => checked_queries(bytes, sections.queries, parameters),
+                Err(cause) => Err(cause),
             }
         }
-        Outcome::Refused(cause) => Outcome::Refused(cause),
+        Err(cause) => Err(cause),
     }
 }
 
 // Section 2: an independent basis (8).
-fn checked_coset(bytes: &[u8], at: usize, parameters: Parameters) -> Outcome
+fn checked_coset(bytes: &[u8], at: usize, parameters: Parameters) -> Result<(), Cause>
     requires { (at ≡ section_start bytes.now 2) × ParametersOf bytes.now parameters }
     ensures { result ≡ coset_section bytes.now }
 {
     let whole = sections::checked_due(bytes, 2, at, parameters.k + 1);
     match whole {
-        Outcome::Done => {
+        Ok(()) => {
             let mut room = [0u64; 20];
             checked_basis(bytes, at + 12, &mut room[..parameters.k])
         }
-        Outcome::Refused(cause) => Outcome::Refused(cause),
+        Err(cause) => Err(cause),
     }
 }
 
 // The basis whose entries begin there, in the room lent for it. All sections end before 2^40.
-fn checked_basis(bytes: &[u8], at: usize, basis: &mut [u64]) -> Outcome
+fn checked_basis(bytes: &[u8], at: usize, basis: &mut [u64]) -> Result<(), Cause>
     requires { (length basis.old ≤ 20) × (at ≤ 2 ^ 40) }
     ensures { result ≡ basis_outcome (entries_at bytes.now at (length basis.old)) }
 {
@@ -86,7 +86,7 @@ fn checked_basis(bytes: &[u8], at: usize, basis: &mut [u64]) -> Outcome
 }
 
 // Section 4: 1 to 256 queries (9), then their indices (10, then 17).
-fn checked_queries(bytes: &[u8], at: usize, parameters: Parameters) -> Outcome
+fn checked_queries(bytes: &[u8], at: usize, parameters: Parameters) -> Result<(), Cause>
     requires { (at ≡ section_start bytes.now 4) × ParametersOf bytes.now parameters }
     ensures { result ≡ queries_section bytes.now }
 {
@@ -99,16 +99,16 @@ fn checked_queries(bytes: &[u8], at: usize, parameters: Parameters) -> Outcome
         Cause::QueryCountOutOfRange,
     );
     match whole {
-        Outcome::Done => {
+        Ok(()) => {
             let mut room = [0u64; 256];
             checked_indices(bytes, at + 4, parameters, &mut room[..count])
         }
-        Outcome::Refused(cause) => Outcome::Refused(cause),
+        Err(cause) => Err(cause),
     }
 }
 
 // As many query indices as there is room for, whose entries begin there.
-fn checked_indices(bytes: &[u8], at: usize, parameters: Parameters, queries: &mut [u64]) -> Outcome
+fn checked_indices(bytes: &[u8], at: usize, parameters: Parameters, queries: &mut [u64]) -> Result<(), Cause>
     requires { Valid parameters × (length queries.old ≤ 256) × (at ≤ 2 ^ 40) }
     ensures { let indices = entries_at bytes.now at (length queries.old) in
         result ≡ indices_outcome parameters.k parameters.step indices }

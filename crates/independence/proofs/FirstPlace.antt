@@ -9,17 +9,16 @@ use lib.ListN.{length, get_or, take, drop, drop_of_length-le, length-map, length
 use lib.Seq.{drop-cons, drop_at, take_at, take-nil, length-take-le, get_or-take}
 use native.Mathlib.Nat.{zero-add, suc-add, le_trans}
 use borrow.Rule.Slice.PartMut.{mid_of, post_of, put_mid, mid_len}
-use Rattle.refusal.specs.declared.Position.{Position}
-use Rattle.refusal.specs.declared.Position.TheVariants.{At, Absent}
+use Rattle.std.specs.Prelude.{Option, Some, None}
 use Rattle.coset.specs.Span.{first_dependent_after}
 use Rattle.coset.specs.Elimination.{cleared}
 use Rattle.coset.proofs.Points.{first_taken, first_zero}
 
 -- the first dependent place from `place` on, over the rows that are left
-abbrev pub from : List ℕ → ℕ → Position
+abbrev pub from : List ℕ → ℕ → Option ℕ
 from rows place = first_dependent_after [] (drop place rows) place
 
-pub row_zero : (rows : List ℕ) (place : ℕ) → place < length rows → get_or rows place 0 ≡ 0 → from rows place ≡ At place
+pub row_zero : (rows : List ℕ) (place : ℕ) → place < length rows → get_or rows place 0 ≡ 0 → from rows place ≡ Some place
 row_zero rows place h z =
     ap (λ (l : List ℕ). first_dependent_after [] l place) (drop-cons rows place 0 h)
     ∙ first_zero (get_or rows place 0) (drop (suc place) rows) place z
@@ -73,6 +72,6 @@ row_next rows count place changed h m nz e =
     same : get_or (take count rows) place 0 ≡ get_or rows place 0
     same = get_or-take count rows place 0 h
 
-pub rows_end : (rows : List ℕ) (place : ℕ) → length rows ≤ place → from rows place ≡ Absent
+pub rows_end : (rows : List ℕ) (place : ℕ) → length rows ≤ place → from rows place ≡ None
 unfolding first_dependent_after
 rows_end rows place h = ap (λ (l : List ℕ). first_dependent_after [] l place) (drop_of_length-le rows h)

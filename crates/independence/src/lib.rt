@@ -8,39 +8,39 @@ ghost use Rattle.coset.specs.Span.{first_dependent};
 ghost use Rattle.coset.specs.Answers.{basis_outcome};
 ghost use Rattle.coset.specs.Elimination.{cleared};
 
-use refusal::{Cause, Outcome, Position};
+use refusal::Cause;
 
 // Refuses a dependent basis (8) at its first dependent place.
-pub fn checked_basis(basis: &[u64]) -> Outcome
+pub fn checked_basis(basis: &[u64]) -> Result<(), Cause>
     ensures { result ≡ basis_outcome basis.now }
 {
     let dependent = first_dependent(basis);
     match dependent {
-        Position::At(place) => Outcome::Refused(Cause::BasisDependent { place }),
-        Position::Absent => Outcome::Done,
+        Some(place) => Err(Cause::BasisDependent { place }),
+        None => Ok(()),
     }
 }
 
 // The first place whose element lies in the span of the earlier ones.
 #[tactic(auto, using(crate::proofs::Prefix::beyond_64, crate::proofs::Prefix::within_64))]
-fn first_dependent(basis: &[u64]) -> Position
+fn first_dependent(basis: &[u64]) -> Option<usize>
     ensures { result ≡ first_dependent basis.now }
 {
     let first = first_among_64(basis);
     match first {
-        Position::At(place) => Position::At(place),
-        Position::Absent => {
+        Some(place) => Some(place),
+        None => {
             // More than 64 elements of 64 bits are never independent.
             if basis.len() > 64 {
-                return Position::At(64);
+                return Some(64);
             }
-            Position::Absent
+            None
         }
     }
 }
 
 // The same among the first 64 elements, by elimination.
-fn first_among_64(basis: &[u64]) -> Position
+fn first_among_64(basis: &[u64]) -> Option<usize>
     ensures { result ≡ first_dependent (take 64 basis.now) }
 {
     let count = poly::lesser(basis.len(), 64);
@@ -49,12 +49,12 @@ fn first_among_64(basis: &[u64]) -> Position
     while place < count {
         let row = rows[place];
         if row == 0 {
-            return Position::At(place);
+            return Some(place);
         }
         place += 1;
         clear(&mut rows[place..count], row);
     }
-    Position::Absent
+    None
 }
 
 // The first 64 elements, and zeros where there are fewer.

@@ -8,8 +8,8 @@ use native.Mathlib.Omega.{arith}
 use lib.Dec.{leb, ltb, eqb}
 use lib.ListN.{length, take, drop}
 use borrow.Author.Tests.{leb-true, ltb-true, lt-leb, le-leb, le-ltb, lt-ltb, ne_eqb, eq-eqb}
-use Rattle.refusal.specs.declared.Outcome.{Outcome}
-use Rattle.refusal.specs.declared.Outcome.TheVariants.{Done, Refused}
+use Rattle.std.specs.Prelude.{Ok, Err}
+use Rattle.refusal.specs.Outcome.{Outcome}
 use Rattle.refusal.proofs.Checks.{both_true, first_false, second_false, each_true, equal_of_test}
 use Rattle.fri.specs.Layout.{dimension, layer_start, store_length, stored_layer}
 use Rattle.fri.specs.Checks.{parameters_outcome}
@@ -50,7 +50,7 @@ module _ (p : Parameters) (count i : ℕ) where
     where
       by : (outcome : Outcome) → parameters_outcome p.k p.rate p.step ≡ outcome
           → (i < 1) ⊎ ((or_zeros outcome (lengths_due p)).rounds ≤ i) → empty ≡ part_of p count i
-      by Done e h =
+      by (Ok tt) e h =
           let r = length (steps_by p) in
           let outside : (leb 1 i && ltb i r) ≡ false =
           ⊎_elim (λ t. first_false (leb 1 i) (ltb i r) (lt-leb 1 i t))
@@ -59,8 +59,8 @@ module _ (p : Parameters) (count i : ℕ) where
           (le-ltb i r (omega (arith, t, length_steps p.k p.rate p.step))))
           h
           in
-          part_where Done false e (first_false (leb 1 i && ltb i r) fits outside)
-      by (Refused cause) e h = part_where (Refused cause) has e refl
+          part_where (Ok tt) false e (first_false (leb 1 i && ltb i r) fits outside)
+      by (Err cause) e h = part_where (Err cause) has e refl
 
   -- a store of another length than the one told
   pub part_misfit : count ≢ (lengths_of p).store → empty ≡ part_of p count i
@@ -68,19 +68,19 @@ module _ (p : Parameters) (count i : ℕ) where
     where
       by : (outcome : Outcome) → parameters_outcome p.k p.rate p.step ≡ outcome
           → count ≢ (or_zeros outcome (lengths_due p)).store → empty ≡ part_of p count i
-      by Done e h =
-          part_where Done false e
+      by (Ok tt) e h =
+          part_where (Ok tt) false e
           (second_false (leb 1 i && ltb i (length (steps_by p))) fits (ne_eqb count (store_length p.k (steps_by p)) h))
-      by (Refused cause) e h = part_where (Refused cause) has e refl
+      by (Err cause) e h = part_where (Err cause) has e refl
 
   -- there is a round only where the parameters are in range
-  pub round_told : i < (lengths_of p).rounds → parameters_outcome p.k p.rate p.step ≡ Done
+  pub round_told : i < (lengths_of p).rounds → parameters_outcome p.k p.rate p.step ≡ Ok tt
   round_told = by (parameters_outcome p.k p.rate p.step) refl
     where
       by : (outcome : Outcome) → parameters_outcome p.k p.rate p.step ≡ outcome
-          → i < (or_zeros outcome (lengths_due p)).rounds → parameters_outcome p.k p.rate p.step ≡ Done
-      by Done e h = e
-      by (Refused cause) e h = absurd (omega (arith, h))
+          → i < (or_zeros outcome (lengths_due p)).rounds → parameters_outcome p.k p.rate p.step ≡ Ok tt
+      by (Ok tt) e h = e
+      by (Err cause) e h = absurd (omega (arith, h))
 
   -- the rounds told are then those of the steps
   pub below_rounds : i < (lengths_of p).rounds → i < length (steps_by p)
@@ -93,11 +93,11 @@ module _ (p : Parameters) (count i : ℕ) where
       )
 
   -- a layer in the store
-  pub part_found : parameters_outcome p.k p.rate p.step ≡ Done → 1 ≤ i → i < (lengths_of p).rounds
+  pub part_found : parameters_outcome p.k p.rate p.step ≡ Ok tt → 1 ≤ i → i < (lengths_of p).rounds
       → count ≡ (lengths_of p).store → found ≡ part_of p count i
   part_found e least most whole =
       let r = length (steps_by p) in
-      part_where Done true e
+      part_where (Ok tt) true e
       (both_true (leb 1 i && ltb i r) fits
       (both_true (leb 1 i) (ltb i r) (le-leb 1 i least) (lt-ltb i r (below_rounds most)))
       (eq-eqb count (store_length p.k (steps_by p))
@@ -109,7 +109,7 @@ module _ (p : Parameters) (count i : ℕ) where
     where
       by : (outcome : Outcome) (test : Bool) → has ≡ test
           → (or_empty outcome (cond test found empty)).start + (or_empty outcome (cond test found empty)).length ≤ count
-      by Done true e =
+      by (Ok tt) true e =
           let all = each_true (leb 1 i && ltb i (length (steps_by p))) (eqb count (store_length p.k (steps_by p))) e in
           let both = each_true (leb 1 i) (ltb i (length (steps_by p))) all.0 in
           let whole = equal_of_test count (store_length p.k (steps_by p)) all.1 in
@@ -117,8 +117,8 @@ module _ (p : Parameters) (count i : ℕ) where
           let inside = ltb-true i (length (steps_by p)) both.1 in
           let ends = layer_before p.k (steps_by p) i (length (steps_by p)) least inside in
           omega (arith, whole, store_length_is p.k (steps_by p), ends)
-      by Done false e = omega arith
-      by (Refused cause) test e = omega arith
+      by (Ok tt) false e = omega arith
+      by (Err cause) test e = omega arith
 
 -- and it is the layer
 pub part_taken : (p : Parameters) (store : List ℕ) (i : ℕ)
@@ -128,6 +128,6 @@ part_taken p store i = by (parameters_outcome p.k p.rate p.step) (in_store p.k (
     by : (outcome : Outcome) (test : Bool)
         → part_in (or_empty outcome (cond test (found p (length store) i) empty)) store
         ≡ part_after outcome (cond test (stored_layer p.k (steps_by p) store i) [])
-    by Done true = stored_layer_is p.k (steps_by p) store i
-    by Done false = refl
-    by (Refused cause) test = refl
+    by (Ok tt) true = stored_layer_is p.k (steps_by p) store i
+    by (Ok tt) false = refl
+    by (Err cause) test = refl

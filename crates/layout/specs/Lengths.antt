@@ -1,6 +1,6 @@
 -- The lengths of the lists that prover and judge are lent, told beforehand.
-use Rattle.refusal.specs.declared.Outcome.{Outcome}
-use Rattle.refusal.specs.declared.Outcome.TheVariants.{Done, Refused}
+use Rattle.std.specs.Prelude.{Ok, Err}
+use Rattle.refusal.specs.Outcome.{Outcome}
 use Rattle.fri.specs.Layout.{rounds_of, last_count, store_length}
 use Rattle.fri.specs.Checks.{parameters_outcome}
 use Rattle.layout.specs.declared.Parameters.{Parameters}
@@ -9,8 +9,8 @@ use Rattle.layout.specs.Parameters.{steps_by}
 
 -- the lengths if the checks pass, else 0 for each
 abbrev pub or_zeros : (outcome : Outcome) (lengths : Lengths) → Lengths
-or_zeros Done lengths = lengths
-or_zeros (Refused cause) lengths = record { rounds = 0; store = 0; last = 0 }
+or_zeros (Ok tt) lengths = lengths
+or_zeros (Err cause) lengths = record { rounds = 0; store = 0; last = 0 }
 
 -- r, the length of the store, and d
 abbrev pub lengths_due : (p : Parameters) → Lengths

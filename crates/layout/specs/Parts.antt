@@ -1,7 +1,7 @@
 -- The layer lookup as a part, by its start and its length.
 use Rattle.std.specs.Prelude.{cond, ◌&&◌, List, ℕ, ◌^◌, leb, ltb, eqb, length, take, drop}
-use Rattle.refusal.specs.declared.Outcome.{Outcome}
-use Rattle.refusal.specs.declared.Outcome.TheVariants.{Done, Refused}
+use Rattle.std.specs.Prelude.{Ok, Err}
+use Rattle.refusal.specs.Outcome.{Outcome}
 use Rattle.fri.specs.Layout.{dimension, layer_start, store_length}
 use Rattle.fri.specs.Checks.{parameters_outcome}
 use Rattle.layout.specs.declared.Parameters.{Parameters}
@@ -14,8 +14,8 @@ empty = record { start = 0; length = 0 }
 
 -- the part if the checks pass, else the empty part
 abbrev pub or_empty : (outcome : Outcome) (part : Part) → Part
-or_empty Done part = part
-or_empty (Refused cause) part = empty
+or_empty (Ok tt) part = part
+or_empty (Err cause) part = empty
 
 -- where layer i, 1 ≤ i < r, lies in a store of `count` entries; the empty part for bad parameters, another i or a count
 -- that is not the one due

@@ -9,7 +9,7 @@ ghost use Rattle.layout.specs.Parameters.{steps_by, Valid};
 ghost use Rattle.layout.specs.Parts.{part_of, part_in};
 ghost use Rattle.layout.specs.Lengths.{lengths_of};
 
-use refusal::{Cause, Outcome};
+use refusal::Cause;
 
 // k, R and η.
 #[derive(Clone, Copy)]
@@ -47,22 +47,22 @@ pub fn layer(parameters: Parameters, store: &[u64], i: usize) -> &[u64]
 
 impl Parameters {
     // Refuses parameters out of range, in the order 4, 5, 6, 7.
-    pub fn checked(self) -> Outcome
+    pub fn checked(self) -> Result<(), Cause>
         ensures { result ≡ parameters_outcome self.k self.rate self.step }
     {
         if self.k < 2 || self.k > 20 {
-            return Outcome::Refused(Cause::DimensionOutOfRange);
+            return Err(Cause::DimensionOutOfRange);
         }
         if self.rate < 1 || self.rate > 6 {
-            return Outcome::Refused(Cause::RateOutOfRange);
+            return Err(Cause::RateOutOfRange);
         }
         if self.step < 1 || self.step > 3 {
-            return Outcome::Refused(Cause::StepOutOfRange);
+            return Err(Cause::StepOutOfRange);
         }
         if self.k < self.rate + self.step {
-            return Outcome::Refused(Cause::DimensionTooSmall);
+            return Err(Cause::DimensionTooSmall);
         }
-        Outcome::Done
+        Ok(())
     }
 
     // r.
@@ -109,7 +109,7 @@ impl Parameters {
     {
         let outcome = self.checked();
         match outcome {
-            Outcome::Done => {
+            Ok(()) => {
                 let rounds = self.rounds();
                 Lengths {
                     rounds,
@@ -117,7 +117,7 @@ impl Parameters {
                     last: self.last_count(),
                 }
             }
-            Outcome::Refused(_) => Lengths {
+            Err(_) => Lengths {
                 rounds: 0,
                 store: 0,
                 last: 0,

@@ -3,11 +3,9 @@ use mathlib.Core.Path.{◌≡◌, refl, ap}
 use mathlib.Core.Logic.{◌≢◌}
 use mathlib.Core.List.{◌++◌}
 use Prim.Native.Nat.{◌-◌}
-use Rattle.refusal.specs.declared.Position.{Position}
-use Rattle.refusal.specs.declared.Position.TheVariants.{Absent}
+use Rattle.std.specs.Prelude.{ℕ, Option, None, Ok, Err}
+use Rattle.refusal.specs.Outcome.{Outcome}
 use Rattle.refusal.proofs.Theorems.{round_numbers}
-use Rattle.fri.specs.declared.Answer.{Answer}
-use Rattle.fri.specs.declared.Answer.TheVariants.{Accepted, Refused}
 use Rattle.fri.specs.declared.Verdict.{Verdict}
 use Rattle.fri.specs.Judge.{number_of_answer, place_of_answer, round_of_answer}
 use Rattle.line_text.specs.Digits.{bytes, digits, places_within, decimal}
@@ -27,17 +25,17 @@ examples =
       shared = refl;
     }
 
-no_round : (answer : Answer) → number_of_answer answer ≢ 11 → round_of_answer answer ≡ Absent
-no_round Accepted n = refl
-no_round (Refused cause) n = round_numbers.eleven_alone cause n
+no_round : (answer : Outcome) → number_of_answer answer ≢ 11 → round_of_answer answer ≡ None
+no_round (Ok tt) n = refl
+no_round (Err cause) n = round_numbers.eleven_alone cause n
 
 hyphen : (verdict : Verdict) → number_of_answer verdict.answer ≢ 11
     → line_of verdict
     ≡ answer_text verdict.answer
-    ++ numbers_text (number_of_answer verdict.answer) (place_of_answer verdict.answer) Absent verdict.reads
+    ++ numbers_text (number_of_answer verdict.answer) (place_of_answer verdict.answer) None verdict.reads
 unfolding line_of
 hyphen verdict n =
-    ap (λ (round : Position). answer_text verdict.answer
+    ap (λ (round : Option ℕ). answer_text verdict.answer
     ++ numbers_text (number_of_answer verdict.answer) (place_of_answer verdict.answer) round verdict.reads)
     (no_round verdict.answer n)
 

@@ -1,25 +1,23 @@
 -- The two lines that the program `judge` prints of a verdict, as document 01 gives them, by their bytes.
 use Rattle.std.specs.Prelude.{List, ◌++◌, ℕ}
-use Rattle.refusal.specs.declared.Position.{Position}
-use Rattle.refusal.specs.declared.Position.TheVariants.{At, Absent}
-use Rattle.fri.specs.declared.Answer.{Answer}
-use Rattle.fri.specs.declared.Answer.TheVariants.{Accepted, Refused}
+use Rattle.std.specs.Prelude.{Option, Some, None, Ok, Err}
+use Rattle.refusal.specs.Outcome.{Outcome}
 use Rattle.fri.specs.declared.Verdict.{Verdict}
 use Rattle.fri.specs.Judge.{number_of_answer, place_of_answer, round_of_answer}
 use Rattle.line_text.specs.Digits.{bytes, decimal}
 
 -- a place or a round, or a hyphen where there is none
-unfoldable pub or_hyphen : (position : Position) → List ℕ
-or_hyphen (At n) = decimal n
-or_hyphen Absent = bytes "-"
+unfoldable pub or_hyphen : (position : Option ℕ) → List ℕ
+or_hyphen (Some n) = decimal n
+or_hyphen None = bytes "-"
 
 -- the line's first word
-unfoldable pub answer_text : (answer : Answer) → List ℕ
-answer_text Accepted = bytes "accepted"
-answer_text (Refused cause) = bytes "refused"
+unfoldable pub answer_text : (answer : Outcome) → List ℕ
+answer_text (Ok tt) = bytes "accepted"
+answer_text (Err cause) = bytes "refused"
 
 -- what follows the answer: number, place, round and reads, each after a space, and a line feed
-unfoldable pub numbers_text : (number : ℕ) (place round : Position) (reads : ℕ) → List ℕ
+unfoldable pub numbers_text : (number : ℕ) (place round : Option ℕ) (reads : ℕ) → List ℕ
 numbers_text number place round reads =
     (bytes " " ++ decimal number)
     ++ (bytes " " ++ or_hyphen place)

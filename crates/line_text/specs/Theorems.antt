@@ -2,8 +2,7 @@
 -- values.
 use Rattle.std.specs.Prelude.{◌≡◌, ◌≢◌, List, [], ◌∷◌, ◌++◌, ℕ, ◌+◌, ◌*◌, ◌-◌, ◌^◌, ◌≤◌, ◌<◌, length, get_or}
 use Rattle.refusal.specs.declared.Cause.TheVariants.{RoundCheckFails, CosetShared}
-use Rattle.refusal.specs.declared.Position.TheVariants.{At, Absent}
-use Rattle.fri.specs.declared.Answer.TheVariants.{Accepted, Refused}
+use Rattle.std.specs.Prelude.{Some, None, Ok, Err}
 use Rattle.fri.specs.declared.Verdict.{Verdict}
 use Rattle.fri.specs.Judge.{number_of_answer, place_of_answer}
 use Rattle.line_text.specs.Digits.{bytes, decimal}
@@ -20,22 +19,22 @@ pub record Examples : Type 0 where
   pub answers : (bytes "accepted" ≡ 97 ∷ 99 ∷ 99 ∷ 101 ∷ 112 ∷ 116 ∷ 101 ∷ 100 ∷ [])
       × (bytes "refused" ≡ 114 ∷ 101 ∷ 102 ∷ 117 ∷ 115 ∷ 101 ∷ 100 ∷ [])
   pub others : bytes " -\n" ≡ 32 ∷ 45 ∷ 10 ∷ []
-  pub accepted : lines_of (record { answer = Accepted; reads = 4 })
+  pub accepted : lines_of (record { answer = Ok tt; reads = 4 })
       ≡ bytes "answer number place round reads\naccepted 0 - - 4\n"
-  pub refused : lines_of (record { answer = Refused (RoundCheckFails 1 0); reads = 4 })
+  pub refused : lines_of (record { answer = Err (RoundCheckFails 1 0); reads = 4 })
       ≡ bytes "answer number place round reads\nrefused 11 1 0 4\n"
-  pub shared : lines_of (record { answer = Refused (CosetShared 1); reads = 0 })
+  pub shared : lines_of (record { answer = Err (CosetShared 1); reads = 0 })
       ≡ bytes "answer number place round reads\nrefused 17 1 - 0\n"
 
 -- a round is printed with number 11 alone; in every other line there is a hyphen in its place
 pub record PrintedRounds : Type 0 where
   pub eleven : (query round reads : ℕ)
-      → line_of (record { answer = Refused (RoundCheckFails query round); reads = reads })
-      ≡ bytes "refused" ++ numbers_text 11 (At query) (At round) reads
+      → line_of (record { answer = Err (RoundCheckFails query round); reads = reads })
+      ≡ bytes "refused" ++ numbers_text 11 (Some query) (Some round) reads
   pub eleven_alone : (verdict : Verdict) → number_of_answer verdict.answer ≢ 11
       → line_of verdict
       ≡ answer_text verdict.answer
-      ++ numbers_text (number_of_answer verdict.answer) (place_of_answer verdict.answer) Absent verdict.reads
+      ++ numbers_text (number_of_answer verdict.answer) (place_of_answer verdict.answer) None verdict.reads
 
 -- the number that decimal digits stand for, read on after those that stand for `before`
 unfoldable pub value_after : (before : ℕ) (digits : List ℕ) → ℕ

@@ -6,12 +6,11 @@ ghost use Rattle.std.specs.Prelude.{◌≡◌};
 ghost use Rattle.fri.specs.Run.{Run};
 ghost use Rattle.fri.specs.Judge.{checks_outcome, verdict_of};
 ghost use Rattle.layout.specs.Parameters.{run_of};
-ghost use Rattle.refusal.specs.declared.Outcome.TheVariants as outcomes;
 
 use field::Element;
-use fri::{Answer, Verdict};
+use fri::Verdict;
 use layout::Parameters;
-use refusal::{Cause, Outcome};
+use refusal::Cause;
 use round_checks::QueryPoint;
 
 // The verdict on a run, with the entries read. Refused, in this order: parameters (4, 5, 6, 7), the lowest list whose
@@ -35,11 +34,11 @@ pub fn judge(
         parameters, offset, basis, challenges, queries, word, store, last,
     );
     match outcome {
-        Outcome::Done => judge_checked(
+        Ok(()) => judge_checked(
             parameters, offset, basis, challenges, queries, word, store, last,
         ),
-        Outcome::Refused(cause) => Verdict {
-            answer: Answer::Refused(cause),
+        Err(cause) => Verdict {
+            answer: Err(cause),
             reads: 0,
         },
     }
@@ -55,15 +54,15 @@ fn checked(
     word: &[u64],
     store: &[u64],
     last: &[u64],
-) -> Outcome
+) -> Result<(), Cause>
     ensures { let run = run_of parameters offset.0 basis.now challenges.now word.now
         store.now last.now in
         result ≡ checks_outcome run queries.now }
 {
     let outcome = run_checks::checked(parameters, offset, basis, challenges, word, store, last);
     match outcome {
-        Outcome::Done => query_checks::checked_queries(parameters.k, parameters.step, queries),
-        Outcome::Refused(cause) => Outcome::Refused(cause),
+        Ok(()) => query_checks::checked_queries(parameters.k, parameters.step, queries),
+        Err(cause) => Err(cause),
     }
 }
 
@@ -80,7 +79,7 @@ fn judge_checked(
 ) -> Verdict
     ghost run: { Run }
     requires last_value { run_of parameters offset.0 basis.now challenges.now word.now store.now last.now ≡ run }
-    requires queries_value { checks_outcome run queries.now ≡ outcomes.Done }
+    requires queries_value { checks_outcome run queries.now ≡ Ok tt }
     ensures { result ≡ verdict_of run queries.now }
 {
     let count = parameters.rounds();
@@ -109,12 +108,12 @@ fn judge_checked(
     let reads = (cosets << parameters.step) as u64;
     if query < queries.len() {
         return Verdict {
-            answer: Answer::Refused(Cause::RoundCheckFails { query, round: i }),
+            answer: Err(Cause::RoundCheckFails { query, round: i }),
             reads,
         };
     }
     Verdict {
-        answer: Answer::Accepted,
+        answer: Ok(()),
         reads,
     }
 }

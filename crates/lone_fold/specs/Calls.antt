@@ -1,8 +1,10 @@
 -- A call of the lone fold: its promise in named parts, and what it asks after the checks.
 use Rattle.std.specs.Prelude.{◌≡◌, List, ℕ, ◌-◌, ◌^◌, ◌≤◌, length}
-use Rattle.refusal.specs.declared.Outcome.{Outcome}
+use Rattle.std.specs.Prelude.{Result}
+use Rattle.refusal.specs.Outcome.{Outcome}
+use Rattle.refusal.specs.declared.Cause.{Cause}
+use Rattle.field.specs.declared.Element.{Element}
 use Rattle.coset.specs.Span.{Independent}
-use Rattle.fold.specs.declared.Folded.{Folded}
 use Rattle.fold.specs.Answers.{fold_outcome, fold_answer, fold_values_after, next_basis_after}
 
 -- what a call is given
@@ -23,7 +25,7 @@ outcome_of_call call =
     fold_outcome call.k call.step call.basis call.word call.values call.next
 
 -- its answer
-abbrev pub answer_of_call : (call : FoldCall) → Folded
+abbrev pub answer_of_call : (call : FoldCall) → Result Element Cause
 answer_of_call call =
     fold_answer call.k call.step call.offset call.basis call.word call.values call.next
 
@@ -39,7 +41,7 @@ next_after_call call =
     next_basis_after call.k call.step call.basis call.word call.values call.next
 
 -- what a call answers, and what it leaves in the two lent lists
-pub record FoldedBy (call : FoldCall) (folded : Folded) (filled basis : List ℕ) : Type 0 where
+pub record FoldedBy (call : FoldCall) (folded : Result Element Cause) (filled basis : List ℕ) : Type 0 where
   pub answer : folded ≡ answer_of_call call
   pub output : filled ≡ values_after_call call
   pub next : basis ≡ next_after_call call

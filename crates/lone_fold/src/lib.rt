@@ -10,8 +10,7 @@ ghost use Rattle.fold.specs.Answers.{fold_ranges_outcome, fold_lengths_outcome};
 ghost use Rattle.lone_fold.specs.Calls.{FoldCall, FoldedBy, CallFits};
 
 use field::Element;
-use fold::Folded;
-use refusal::{Cause, Outcome};
+use refusal::Cause;
 
 // The fold of a word at the challenge, with the step, into `values`; the basis of the next coset into `next_basis`;
 // its offset as the answer. Refused, in this order: k outside 2..20 (4); a step outside 1..3 (6); k below the step
@@ -26,7 +25,7 @@ pub fn fold(
     challenge: Element,
     values: &mut [u64],
     next_basis: &mut [u64],
-) -> Folded
+) -> Result<Element, Cause>
     ensures { let call : FoldCall = record {
       k = k;
       step = step;
@@ -41,10 +40,10 @@ pub fn fold(
 {
     let outcome = checked(k, step, basis, word.len(), values.len(), next_basis.len());
     match outcome {
-        Outcome::Done => Folded::NextOffset(fold_checked(
+        Ok(()) => Ok(fold_checked(
             step, offset, basis, word, challenge, values, next_basis,
         )),
-        Outcome::Refused(cause) => Folded::Refused(cause),
+        Err(cause) => Err(cause),
     }
 }
 
@@ -76,36 +75,36 @@ fn checked(
     length3: usize,
     length6: usize,
     length7: usize,
-) -> Outcome
+) -> Result<(), Cause>
     ensures { let lengths = fold_lengths_outcome k step (length basis.now) length3 length6 length7 in
         result ≡ and_then (fold_ranges_outcome k step) (and_then lengths (basis_outcome basis.now)) }
 {
     let ranges = checked_ranges(k, step);
     match ranges {
-        Outcome::Done => {
+        Ok(()) => {
             let lengths = checked_lengths(k, step, basis.len(), length3, length6, length7);
             match lengths {
-                Outcome::Done => independence::checked_basis(basis),
-                Outcome::Refused(cause) => Outcome::Refused(cause),
+                Ok(()) => independence::checked_basis(basis),
+                Err(cause) => Err(cause),
             }
         }
-        Outcome::Refused(cause) => Outcome::Refused(cause),
+        Err(cause) => Err(cause),
     }
 }
 
-fn checked_ranges(k: usize, step: usize) -> Outcome
+fn checked_ranges(k: usize, step: usize) -> Result<(), Cause>
     ensures { result ≡ fold_ranges_outcome k step }
 {
     if k < 2 || k > 20 {
-        return Outcome::Refused(Cause::DimensionOutOfRange);
+        return Err(Cause::DimensionOutOfRange);
     }
     if step < 1 || step > 3 {
-        return Outcome::Refused(Cause::StepOutOfRange);
+        return Err(Cause::StepOutOfRange);
     }
     if k < step {
-        return Outcome::Refused(Cause::DimensionTooSmall);
+        return Err(Cause::DimensionTooSmall);
     }
-    Outcome::Done
+    Ok(())
 }
 
 fn checked_lengths(
@@ -115,21 +114,21 @@ fn checked_lengths(
     length3: usize,
     length6: usize,
     length7: usize,
-) -> Outcome
+) -> Result<(), Cause>
     requires { (k ≤ 20) × (step ≤ k) }
     ensures { result ≡ fold_lengths_outcome k step length1 length3 length6 length7 }
 {
     if length1 != k {
-        return Outcome::Refused(Cause::WrongLength { list: 1 });
+        return Err(Cause::WrongLength { list: 1 });
     }
     if length3 != 1 << k {
-        return Outcome::Refused(Cause::WrongLength { list: 3 });
+        return Err(Cause::WrongLength { list: 3 });
     }
     if length6 != 1 << (k - step) {
-        return Outcome::Refused(Cause::WrongLength { list: 6 });
+        return Err(Cause::WrongLength { list: 6 });
     }
     if length7 != k - step {
-        return Outcome::Refused(Cause::WrongLength { list: 7 });
+        return Err(Cause::WrongLength { list: 7 });
     }
-    Outcome::Done
+    Ok(())
 }

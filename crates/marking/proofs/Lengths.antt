@@ -5,7 +5,7 @@ use Prim.Native.Nat.{ℕ, ◌*◌, ◌≤◌}
 use native.Mathlib.Omega.{arith}
 use native.Mathlib.Nat.{mul-le-mul, mul_comm}
 use lib.ListN.{length}
-use Rattle.refusal.specs.declared.Outcome.TheVariants.{Done}
+use Rattle.std.specs.Prelude.{Ok}
 use Rattle.transcript.specs.Sections.{queries_in, transcript_rounds}
 use Rattle.transcript.specs.Checks.{transcript_outcome}
 use Rattle.small_lists.specs.declared.Lists.{Lists}
@@ -14,7 +14,7 @@ use Rattle.byte_rounds.proofs.Carried.{queries_count}
 use Rattle.sheet_text.specs.Sheet.{line_length, transcript_sheet}
 use Rattle.sheet_text.proofs.Sheets.{passed_fits, length_sheet}
 
-module _ (bytes : List ℕ) (done : transcript_outcome bytes ≡ Done) {lists : Lists} (held : lists ≡ lists_in bytes) where
+module _ (bytes : List ℕ) (done : transcript_outcome bytes ≡ Ok tt) {lists : Lists} (held : lists ≡ lists_in bytes) where
   queries_are : lists.query_count ≡ length (queries_in bytes)
   queries_are = ap (λ (l : Lists). l.query_count) held ∙ sym (queries_count bytes done)
 

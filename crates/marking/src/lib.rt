@@ -2,12 +2,10 @@
 #![tactic(auto)]
 
 ghost use Rattle.std.specs.Prelude.{◌≡◌, length};
-ghost use Rattle.refusal.specs.declared.Outcome.TheVariants as outcomes;
 ghost use Rattle.transcript.specs.Checks.{transcript_outcome};
 ghost use Rattle.sections.specs.Views.{sections_in};
 ghost use Rattle.sheet_text.specs.Sheet.{transcript_sheet, sheet_of, in_front};
 
-use refusal::Outcome;
 use sections::Sections;
 
 // How many bytes a line has, its line feed counted.
@@ -22,8 +20,8 @@ pub fn sheet(bytes: &[u8], out: &mut [u8]) -> usize
     let sections = sections::find(bytes);
     let outcome = layer_sections::checked(bytes, sections);
     match outcome {
-        Outcome::Done => sheet_checked(bytes, sections, out),
-        Outcome::Refused(_) => 0,
+        Ok(()) => sheet_checked(bytes, sections, out),
+        Err(_) => 0,
     }
 }
 
@@ -41,7 +39,7 @@ pub fn sheet_input(bytes: &[u8], out: &mut [u8]) -> usize
 
 // The sheet where all sections pass. Its length is known before any round is computed.
 fn sheet_checked(bytes: &[u8], sections: Sections, out: &mut [u8]) -> usize
-    requires { (sections ≡ sections_in bytes.now) × (transcript_outcome bytes.now ≡ outcomes.Done) }
+    requires { (sections ≡ sections_in bytes.now) × (transcript_outcome bytes.now ≡ Ok tt) }
     ensures length { result ≡ length (transcript_sheet bytes.now) }
     ensures list { out.new ≡ in_front (transcript_sheet bytes.now) out.old }
 {

@@ -10,8 +10,8 @@ use lib.Dec.{leb}
 use lib.Pow.{pow_mono}
 use lib.ListN.{length, take}
 use borrow.Author.Tests.{leb-false}
-use Rattle.refusal.specs.declared.Outcome.{Outcome}
-use Rattle.refusal.specs.declared.Outcome.TheVariants.{Done}
+use Rattle.std.specs.Prelude.{Ok}
+use Rattle.refusal.specs.Outcome.{Outcome}
 use Rattle.refusal.specs.Checks.{afterwards}
 use Rattle.refusal.proofs.Checks.{le_of_test}
 use Rattle.reed_solomon.specs.Codes.{interpolated}
@@ -70,7 +70,7 @@ module _ (called : Run) where
   abbrev r : ℕ
   r = rounds_in called
 
-  module _ (done : run_outcome called ≡ Done) where
+  module _ (done : run_outcome called ≡ Ok tt) where
     pub input_passed : Passed given (length called.store)
     input_passed =
         let facts = run_valid called done in

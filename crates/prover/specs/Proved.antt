@@ -1,6 +1,6 @@
 -- The prover's promise in named parts.
 use Rattle.std.specs.Prelude.{◌≡◌, List, ℕ}
-use Rattle.refusal.specs.declared.Outcome.{Outcome}
+use Rattle.refusal.specs.Outcome.{Outcome}
 use Rattle.fri.specs.Run.{Run}
 use Rattle.fri.specs.Prover.{prove_outcome, store_after, last_after}
 

@@ -4,7 +4,6 @@
 
 ghost use Rattle.std.specs.Prelude.{◌≡◌, ◌^◌, ◌≤◌, length};
 ghost use Rattle.fri.specs.Layout.{dimension};
-ghost use Rattle.refusal.specs.declared.Outcome.TheVariants as outcomes;
 ghost use Rattle.refusal.specs.Checks.{afterwards};
 ghost use Rattle.fri.specs.Layers.{honest_store, honest_last};
 ghost use Rattle.fri.specs.Checks.{run_outcome};
@@ -16,7 +15,7 @@ ghost use Rattle.prover.specs.Proved.{Proved};
 
 use field::Element;
 use layout::Parameters;
-use refusal::{Cause, Outcome};
+use refusal::Cause;
 
 // The honest proof of a word at its challenges: layers 1 to r - 1, joined, into the store, and the first d
 // coefficients of layer r's interpolant into `last`. Refused, in this order: k, R or η out of range, or k too small
@@ -31,7 +30,7 @@ pub fn prove(
     word: &[u64],
     store: &mut [u64],
     last: &mut [u64],
-) -> Outcome
+) -> Result<(), Cause>
     ensures { let run = run_of parameters offset.0 basis.now challenges.now word.now
         store.old last.old in
         Proved run result store.new last.new }
@@ -46,8 +45,8 @@ pub fn prove(
         &last[..],
     );
     match outcome {
-        Outcome::Done => prove_checked(parameters, offset, basis, challenges, word, store, last),
-        Outcome::Refused(cause) => Outcome::Refused(cause),
+        Ok(()) => prove_checked(parameters, offset, basis, challenges, word, store, last),
+        Err(cause) => Err(cause),
     }
 }
 
@@ -60,10 +59,10 @@ fn prove_checked(
     word: &[u64],
     store: &mut [u64],
     last: &mut [u64],
-) -> Outcome
+) -> Result<(), Cause>
     ghost run: { Run }
     requires last_value { run_of parameters offset.0 basis.now challenges.now word.now store.old last.old ≡ run }
-    requires run_value { run_outcome run ≡ outcomes.Done }
+    requires run_value { run_outcome run ≡ Ok tt }
     ensures answer { result ≡ degree_outcome run }
     ensures store { store.new ≡ honest_store run }
     ensures last { last.new ≡ afterwards (degree_outcome run) (honest_last run) run.last }
@@ -92,10 +91,10 @@ fn prove_in(
     store: &mut [u64],
     last: &mut [u64],
     room: &mut [u64],
-) -> Outcome
+) -> Result<(), Cause>
     ghost run: { Run }
     requires last_value { run_of parameters offset.0 basis.now challenges.now word.now store.old last.old ≡ run }
-    requires run_value { run_outcome run ≡ outcomes.Done }
+    requires run_value { run_outcome run ≡ Ok tt }
     requires room_len { length room.old ≡ 2 ^ dimension run.k (steps_in run) (rounds_in run) }
     ensures answer { result ≡ degree_outcome run }
     ensures store { store.new ≡ honest_store run }
@@ -111,7 +110,7 @@ fn prove_in(
 }
 
 // The first coefficients of the interpolant, unless its degree is their number or more (12).
-fn last_coefficients(interpolant: &[u64], last: &mut [u64]) -> Outcome
+fn last_coefficients(interpolant: &[u64], last: &mut [u64]) -> Result<(), Cause>
     requires { length last.old ≤ length interpolant.now }
     ensures answer { result ≡ last_outcome interpolant.now (length last.old) }
     ensures last { last.new ≡ last_coefficients interpolant.now last.old }
@@ -120,8 +119,8 @@ fn last_coefficients(interpolant: &[u64], last: &mut [u64]) -> Outcome
     let bound = poly::degree_bound(interpolant);
     if bound > count {
         let degree = bound - 1;
-        return Outcome::Refused(Cause::DegreeTooLarge { degree });
+        return Err(Cause::DegreeTooLarge { degree });
     }
     poly::copy(&interpolant[..count], last);
-    Outcome::Done
+    Ok(())
 }

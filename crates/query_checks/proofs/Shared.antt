@@ -10,8 +10,7 @@ use lib.Dec.{eqb}
 use lib.ListN.{length, get_or, take, drop, drop_of_length-le}
 use lib.Seq.{drop-cons, take-suc}
 use borrow.Author.Tests.{eq-eqb, ne_eqb}
-use Rattle.refusal.specs.declared.Position.{Position}
-use Rattle.refusal.specs.declared.Position.TheVariants.{At, Absent}
+use Rattle.std.specs.Prelude.{Option, Some, None}
 use Rattle.fri.specs.Checks.{among, first_repeated_after, visited_cosets}
 
 module _ (step : ℕ) (queries : List ℕ) (query : ℕ) where
@@ -56,22 +55,22 @@ module _ (step : ℕ) (queries : List ℕ) (query : ℕ) where
 
   -- ---- the first that visits the coset of an earlier one
 
-  abbrev left : Position
+  abbrev left : Option ℕ
   left = first_repeated_after before from query
 
-  abbrev later : Position
+  abbrev later : Option ℕ
   later = first_repeated_after (before ++ (coset_here ∷ [])) after (suc query)
 
-  pub shared_none : length queries ≤ query → Absent ≡ left
+  pub shared_none : length queries ≤ query → None ≡ left
   unfolding first_repeated_after
   shared_none h = sym (ap (λ (l : List ℕ). first_repeated_after before l query) (from_none h))
 
-  one_by_one : query < length queries → left ≡ cond (among before coset_here) (At query) later
+  one_by_one : query < length queries → left ≡ cond (among before coset_here) (Some query) later
   unfolding first_repeated_after
   one_by_one h = ap (λ (l : List ℕ). first_repeated_after before l query) (from_one h)
 
-  pub shared_here : query < length queries → among before coset_here ≡ true → At query ≡ left
-  shared_here h e = sym (one_by_one h ∙ ap (λ (t : Bool). cond t (At query) later) e)
+  pub shared_here : query < length queries → among before coset_here ≡ true → Some query ≡ left
+  shared_here h e = sym (one_by_one h ∙ ap (λ (t : Bool). cond t (Some query) later) e)
 
   before_next : query < length queries → visited_cosets step (take (suc query) queries) ≡ before ++ (coset_here ∷ [])
   before_next h =
@@ -87,4 +86,4 @@ module _ (step : ℕ) (queries : List ℕ) (query : ℕ) where
       (λ (m : ℕ). first_repeated_after (visited_cosets step (take m queries)) (visited_cosets step (drop m queries)) m)
       (add-one query)
       ∙ ap (λ (l : List ℕ). first_repeated_after l after (suc query)) (before_next h)
-      ∙ sym (one_by_one h ∙ ap (λ (t : Bool). cond t (At query) later) e)
+      ∙ sym (one_by_one h ∙ ap (λ (t : Bool). cond t (Some query) later) e)

@@ -6,15 +6,15 @@ ghost use Rattle.std.specs.Prelude.{◌≡◌, ◌&&◌, ◌≤◌, leb};
 ghost use Rattle.fri.specs.Checks.{first_outside, among, visited_cosets, first_shared, outcome_of_shared};
 ghost use Rattle.fri.specs.Checks.{indices_outcome, queries_outcome};
 
-use refusal::{Cause, Outcome, Position};
+use refusal::Cause;
 
 // A query list: 1 to 256 queries (9), then their indices; `step` is that of round 0.
-pub fn checked_queries(k: usize, step: usize, queries: &[u64]) -> Outcome
+pub fn checked_queries(k: usize, step: usize, queries: &[u64]) -> Result<(), Cause>
     requires { (k ≤ 20) × (step ≤ 3) }
     ensures { result ≡ queries_outcome k step queries.now }
 {
     if !is_query_count(queries.len()) {
-        return Outcome::Refused(Cause::QueryCountOutOfRange);
+        return Err(Cause::QueryCountOutOfRange);
     }
     checked_indices(k, step, queries)
 }
@@ -26,46 +26,46 @@ pub fn is_query_count(count: usize) -> bool
 }
 
 // The indices of a query list: each below 2^k (10), then no two in one first-layer coset (17).
-pub fn checked_indices(k: usize, step: usize, queries: &[u64]) -> Outcome
+pub fn checked_indices(k: usize, step: usize, queries: &[u64]) -> Result<(), Cause>
     requires { (k ≤ 20) × (step ≤ 3) }
     ensures { result ≡ indices_outcome k step queries.now }
 {
     let outside = first_outside(1 << k, queries);
     match outside {
-        Position::At(query) => Outcome::Refused(Cause::QueryOutOfRange { query }),
-        Position::Absent => checked_apart(step, queries),
+        Some(query) => Err(Cause::QueryOutOfRange { query }),
+        None => checked_apart(step, queries),
     }
 }
 
 // The first query whose index is not below the size.
-fn first_outside(size: usize, queries: &[u64]) -> Position
+fn first_outside(size: usize, queries: &[u64]) -> Option<usize>
     ensures { result ≡ first_outside size queries.now 0 }
 {
     let mut query: usize = 0;
     while query < queries.len() {
         if queries[query] as usize >= size {
-            return Position::At(query);
+            return Some(query);
         }
         query += 1;
     }
-    Position::Absent
+    None
 }
 
 // No two queries share a first-layer coset (17).
-fn checked_apart(step: usize, queries: &[u64]) -> Outcome
+fn checked_apart(step: usize, queries: &[u64]) -> Result<(), Cause>
     requires { step ≤ 3 }
     ensures { result ≡ outcome_of_shared (first_shared step queries.now) }
 {
     let shared = first_shared(step, queries);
     match shared {
-        Position::At(query) => Outcome::Refused(Cause::CosetShared { query }),
-        Position::Absent => Outcome::Done,
+        Some(query) => Err(Cause::CosetShared { query }),
+        None => Ok(()),
     }
 }
 
 // The first query that lies in the first-layer coset of an earlier one. Each is compared with those before it: 256
 // queries take 32,640 comparisons, and no list of cosets is kept.
-fn first_shared(step: usize, queries: &[u64]) -> Position
+fn first_shared(step: usize, queries: &[u64]) -> Option<usize>
     requires { step ≤ 3 }
     ensures { result ≡ first_shared step queries.now }
 {
@@ -73,11 +73,11 @@ fn first_shared(step: usize, queries: &[u64]) -> Position
     while query < queries.len() {
         let coset = queries[query] >> step;
         if visits(step, &queries[..query], coset) {
-            return Position::At(query);
+            return Some(query);
         }
         query += 1;
     }
-    Position::Absent
+    None
 }
 
 // Whether one of the queries visits the first-layer coset of this number.

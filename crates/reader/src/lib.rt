@@ -7,8 +7,8 @@ ghost use Rattle.std.specs.Prelude.{◌≡◌};
 ghost use Rattle.transcript.specs.Judge.{transcript_verdict, long_verdict, input_verdict};
 ghost use Rattle.sections.specs.Views.{sections_in};
 
-use fri::{Answer, Verdict};
-use refusal::{Cause, Outcome};
+use fri::Verdict;
+use refusal::Cause;
 use sections::Sections;
 
 // A transcript's bytes, and where their sections begin.
@@ -63,11 +63,11 @@ fn judge_long(bytes: &[u8]) -> Verdict
 {
     let front = front_sections::checked_front(bytes, sections::find(bytes));
     let cause = match front {
-        Outcome::Done => Cause::InputTooLong,
-        Outcome::Refused(cause) => cause,
+        Ok(()) => Cause::InputTooLong,
+        Err(cause) => cause,
     };
     Verdict {
-        answer: Answer::Refused(cause),
+        answer: Err(cause),
         reads: 0,
     }
 }

@@ -8,7 +8,7 @@ use Rattle.poly.specs.Carrier.{gf64}
 use Rattle.poly.specs.Polynomial.{evaluate, padded}
 use Rattle.coset.specs.Coset.{point, tabulated, points}
 use Rattle.coset.specs.Span.{in_span, first_dependent_after, first_dependent, Independent}
-use Rattle.refusal.specs.declared.Outcome.TheVariants.{Done}
+use Rattle.std.specs.Prelude.{Ok}
 use Rattle.reed_solomon.specs.Answers.{encode_outcome, interpolate_outcome}
 use Rattle.reed_solomon.specs.Codes.{encoded, interpolated}
 use Rattle.reed_solomon.specs.Theorems.{CodeCases}
@@ -22,11 +22,11 @@ independent : Independent (1 ∷ 2 ∷ [])
 unfolding in_span first_dependent_after first_dependent
 independent = refl
 
-accepted : encode_outcome (1 ∷ 2 ∷ []) (7 ∷ 3 ∷ []) (0 ∷ 0 ∷ 0 ∷ 0 ∷ []) ≡ Done
+accepted : encode_outcome (1 ∷ 2 ∷ []) (7 ∷ 3 ∷ []) (0 ∷ 0 ∷ 0 ∷ 0 ∷ []) ≡ Ok tt
 unfolding in_span first_dependent_after first_dependent
 accepted = refl
 
-accepted_back : interpolate_outcome (1 ∷ 2 ∷ []) (7 ∷ 4 ∷ 1 ∷ 2 ∷ []) (0 ∷ 0 ∷ 0 ∷ 0 ∷ []) ≡ Done
+accepted_back : interpolate_outcome (1 ∷ 2 ∷ []) (7 ∷ 4 ∷ 1 ∷ 2 ∷ []) (0 ∷ 0 ∷ 0 ∷ 0 ∷ []) ≡ Ok tt
 unfolding in_span first_dependent_after first_dependent
 accepted_back = refl
 

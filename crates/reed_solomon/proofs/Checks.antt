@@ -8,8 +8,8 @@ use lib.ListN.{length}
 use borrow.Author.Tests.{le-leb, lt-leb}
 use Rattle.refusal.specs.declared.Cause.{Cause}
 use Rattle.refusal.specs.declared.Cause.TheVariants.{DimensionOutOfRange, WrongLength}
-use Rattle.refusal.specs.declared.Outcome.{Outcome}
-use Rattle.refusal.specs.declared.Outcome.TheVariants.{Done, Refused}
+use Rattle.std.specs.Prelude.{Ok, Err}
+use Rattle.refusal.specs.Outcome.{Outcome}
 use Rattle.coset.specs.Span.{Independent}
 use Rattle.refusal.specs.Checks.{refused_unless, afterwards}
 use Rattle.refusal.proofs.Checks.{le_of_test, passed_by, refused_by, unless_done, done_holds, refused_holds}
@@ -24,20 +24,20 @@ module _ (basis : List ℕ) (fits3 fits6 : Bool) where
   abbrev lists : Outcome
   lists = refused_unless fits3 (WrongLength 3) after3
 
-  pub dimension_refused : 20 < length basis → Refused DimensionOutOfRange ≡ checked basis fits3 fits6
+  pub dimension_refused : 20 < length basis → Err DimensionOutOfRange ≡ checked basis fits3 fits6
   dimension_refused h = refused_by (leb (length basis) 20) DimensionOutOfRange lists (lt-leb (length basis) 20 h)
 
   dimension_passed : length basis ≤ 20 → lists ≡ checked basis fits3 fits6
   dimension_passed h = passed_by (leb (length basis) 20) DimensionOutOfRange lists (le-leb (length basis) 20 h)
 
-  pub list3_refused : length basis ≤ 20 → fits3 ≡ false → Refused (WrongLength 3) ≡ checked basis fits3 fits6
+  pub list3_refused : length basis ≤ 20 → fits3 ≡ false → Err (WrongLength 3) ≡ checked basis fits3 fits6
   list3_refused h e = refused_by fits3 (WrongLength 3) after3 e ∙ dimension_passed h
 
   list3_passed : length basis ≤ 20 → fits3 ≡ true → after3 ≡ checked basis fits3 fits6
   list3_passed h e = passed_by fits3 (WrongLength 3) after3 e ∙ dimension_passed h
 
   pub list6_refused : length basis ≤ 20 → fits3 ≡ true → fits6 ≡ false
-      → Refused (WrongLength 6) ≡ checked basis fits3 fits6
+      → Err (WrongLength 6) ≡ checked basis fits3 fits6
   list6_refused h e f = refused_by fits6 (WrongLength 6) (basis_outcome basis) f ∙ list3_passed h e
 
   pub basis_looked_at : length basis ≤ 20 → fits3 ≡ true → fits6 ≡ true
@@ -51,7 +51,7 @@ pub record Passed (basis : List ℕ) (fits3 fits6 : Bool) : Type 0 where
   pub list6 : fits6 ≡ true
   pub independent : Independent basis
 
-pub passed : (basis : List ℕ) (fits3 fits6 : Bool) → checked basis fits3 fits6 ≡ Done → Passed basis fits3 fits6
+pub passed : (basis : List ℕ) (fits3 fits6 : Bool) → checked basis fits3 fits6 ≡ Ok tt → Passed basis fits3 fits6
 passed basis fits3 fits6 e =
     let first = unless_done (leb (length basis) 20) DimensionOutOfRange (lists basis fits3 fits6) e in
     let second = unless_done fits3 (WrongLength 3) (after3 basis fits3 fits6) first.1 in
@@ -80,14 +80,14 @@ answered_by_size basis fits3 fits6 size answer e a =
 
 -- conversely
 pub passes : (basis : List ℕ) (fits3 fits6 : Bool) → length basis ≤ 20 → fits3 ≡ true → fits6 ≡ true → Independent basis
-    → checked basis fits3 fits6 ≡ Done
+    → checked basis fits3 fits6 ≡ Ok tt
 passes basis fits3 fits6 h e f d = sym (basis_looked_at basis fits3 fits6 h e f) ∙ ap outcome_of_basis d
 
 -- both clauses where it is done, and where it is refused
-pub done_both : (outcome : Outcome) (wanted held held' : List ℕ) → outcome ≡ Done → held' ≡ wanted
-    → (Done ≡ outcome) × (held' ≡ afterwards outcome wanted held)
+pub done_both : (outcome : Outcome) (wanted held held' : List ℕ) → outcome ≡ Ok tt → held' ≡ wanted
+    → ((Ok tt) ≡ outcome) × (held' ≡ afterwards outcome wanted held)
 done_both outcome wanted held held' e w = (sym e, done_holds outcome wanted held held' e w)
 
-pub refused_both : (outcome : Outcome) (cause : Cause) (wanted held : List ℕ) → outcome ≡ Refused cause
-    → (Refused cause ≡ outcome) × (held ≡ afterwards outcome wanted held)
+pub refused_both : (outcome : Outcome) (cause : Cause) (wanted held : List ℕ) → outcome ≡ Err cause
+    → (Err cause ≡ outcome) × (held ≡ afterwards outcome wanted held)
 refused_both outcome cause wanted held e = (sym e, refused_holds outcome cause wanted held e)

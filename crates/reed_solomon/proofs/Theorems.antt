@@ -18,8 +18,8 @@ use Rattle.reed_solomon.specs.Theorems.{RoundTrips, CodesAccepted, Told, CodeRef
 use Rattle.reed_solomon.specs.Answers.{checked}
 use Rattle.coset.specs.Answers.{outcome_of_basis}
 use Rattle.refusal.specs.declared.Cause.TheVariants.{DimensionOutOfRange, BasisDependent, WrongLength}
-use Rattle.refusal.specs.declared.Outcome.{Outcome}
-use Rattle.refusal.specs.declared.Outcome.TheVariants.{Done, Refused}
+use Rattle.std.specs.Prelude.{Ok, Err}
+use Rattle.refusal.specs.Outcome.{Outcome}
 use Rattle.refusal.specs.Numbers.{number_of_outcome, place_of_outcome}
 use Rattle.reed_solomon.proofs.Checks.{dimension_refused, list3_refused}
 use Rattle.reed_solomon.proofs.Checks.{list6_refused, basis_looked_at, passed, passes}
@@ -80,7 +80,7 @@ round_trips = record { coefficients = coefficients_back; count = interpolated-co
 -- the checks pass exactly where k is at most 20, what the two tests stand for holds, and the basis is independent
 accepted_by : (basis : List ℕ) (fits3 fits6 : Bool) (P Q : Type 0) → (fits3 ≡ true → P) → (P → fits3 ≡ true)
     → (fits6 ≡ true → Q) → (Q → fits6 ≡ true)
-    → (checked basis fits3 fits6 ≡ Done) ↔ ((length basis ≤ 20) × P × Q × Independent basis)
+    → (checked basis fits3 fits6 ≡ Ok tt) ↔ ((length basis ≤ 20) × P × Q × Independent basis)
 accepted_by basis fits3 fits6 P Q p p' q q' = (
   λ e. let all = passed basis fits3 fits6 e in (all.small, p all.list3, q all.list6, all.independent),
   λ a. passes basis fits3 fits6 a.0 (p' a.1) (q' a.2) a.3,
@@ -110,10 +110,10 @@ told outcome known e = (ap number_of_outcome (sym e), ap place_of_outcome (sym e
 pub refusals : CodeRefusals
 refusals =
     record {
-      dimension = λ basis a b h. told (checked basis a b) (Refused DimensionOutOfRange) (dimension_refused basis a b h);
-      list3 = λ basis a b h e. told (checked basis a b) (Refused (WrongLength 3)) (list3_refused basis a b h e);
-      list6 = λ basis a b h e f. told (checked basis a b) (Refused (WrongLength 6)) (list6_refused basis a b h e f);
+      dimension = λ basis a b h. told (checked basis a b) (Err DimensionOutOfRange) (dimension_refused basis a b h);
+      list3 = λ basis a b h e. told (checked basis a b) (Err (WrongLength 3)) (list3_refused basis a b h e);
+      list6 = λ basis a b h e f. told (checked basis a b) (Err (WrongLength 6)) (list6_refused basis a b h e f);
       dependent =
-          λ basis a b place h e f d. told (checked basis a b) (Refused (BasisDependent place))
+          λ basis a b place h e f d. told (checked basis a b) (Err (BasisDependent place))
           (ap outcome_of_basis (sym d) ∙ basis_looked_at basis a b h e f);
     }

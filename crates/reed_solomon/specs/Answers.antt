@@ -2,7 +2,7 @@
 -- The dimension k is the length of the basis.
 use Rattle.std.specs.Prelude.{Bool, List, ℕ, ◌^◌, leb, eqb, length}
 use Rattle.refusal.specs.declared.Cause.TheVariants.{DimensionOutOfRange, WrongLength}
-use Rattle.refusal.specs.declared.Outcome.{Outcome}
+use Rattle.refusal.specs.Outcome.{Outcome}
 use Rattle.refusal.specs.Checks.{refused_unless, afterwards}
 use Rattle.coset.specs.Answers.{basis_outcome}
 use Rattle.reed_solomon.specs.Codes.{encoded, interpolated}

@@ -6,10 +6,8 @@ use Rattle.poly.specs.Carrier.{gf64}
 use Rattle.poly.specs.Polynomial.{All, evaluate, padded}
 use Rattle.coset.specs.Coset.{point}
 use Rattle.coset.specs.Span.{first_dependent, Independent}
-use Rattle.refusal.specs.declared.Outcome.{Outcome}
-use Rattle.refusal.specs.declared.Outcome.TheVariants.{Done}
-use Rattle.refusal.specs.declared.Position.{Position}
-use Rattle.refusal.specs.declared.Position.TheVariants.{At, Absent}
+use Rattle.std.specs.Prelude.{Option, Some, None, Ok}
+use Rattle.refusal.specs.Outcome.{Outcome}
 use Rattle.refusal.specs.Numbers.{number_of_outcome, place_of_outcome}
 use Rattle.reed_solomon.specs.Answers.{checked, encode_outcome, interpolate_outcome}
 use Rattle.reed_solomon.specs.Codes.{encoded, interpolated, WordDegreeBelow}
@@ -31,27 +29,27 @@ pub record RoundTrips : Type 0 where
 -- which calls are done: those with k at most 20, lists that fit and an independent basis
 pub record CodesAccepted : Type 0 where
   pub encode : (basis coefficients values : List ℕ)
-      → (encode_outcome basis coefficients values ≡ Done)
+      → (encode_outcome basis coefficients values ≡ Ok tt)
       ↔ ((length basis ≤ 20) × (length coefficients ≤ 2 ^ length basis) × (length values ≡ 2 ^ length basis)
       × Independent basis)
   pub interpolate : (basis word coefficients : List ℕ)
-      → (interpolate_outcome basis word coefficients ≡ Done)
+      → (interpolate_outcome basis word coefficients ≡ Ok tt)
       ↔ ((length basis ≤ 20) × (length word ≡ 2 ^ length basis) × (length coefficients ≡ 2 ^ length basis)
       × Independent basis)
 
 -- an outcome's number and place
-abbrev pub Told : (outcome : Outcome) (number : ℕ) (place : Position) → Type 0
+abbrev pub Told : (outcome : Outcome) (number : ℕ) (place : Option ℕ) → Type 0
 Told outcome number place = (number_of_outcome outcome ≡ number) × (place_of_outcome outcome ≡ place)
 
 -- the numbers and places of the refusals, by the first check that fails
 pub record CodeRefusals : Type 0 where
-  pub dimension : (basis : List ℕ) (fits3 fits6 : Bool) → 20 < length basis → Told (checked basis fits3 fits6) 4 Absent
+  pub dimension : (basis : List ℕ) (fits3 fits6 : Bool) → 20 < length basis → Told (checked basis fits3 fits6) 4 None
   pub list3 : (basis : List ℕ) (fits3 fits6 : Bool) → length basis ≤ 20 → fits3 ≡ false
-      → Told (checked basis fits3 fits6) 13 (At 3)
+      → Told (checked basis fits3 fits6) 13 (Some 3)
   pub list6 : (basis : List ℕ) (fits3 fits6 : Bool) → length basis ≤ 20 → fits3 ≡ true → fits6 ≡ false
-      → Told (checked basis fits3 fits6) 13 (At 6)
+      → Told (checked basis fits3 fits6) 13 (Some 6)
   pub dependent : (basis : List ℕ) (fits3 fits6 : Bool) (place : ℕ) → length basis ≤ 20 → fits3 ≡ true → fits6 ≡ true
-      → first_dependent basis ≡ At place → Told (checked basis fits3 fits6) 8 (At place)
+      → first_dependent basis ≡ Some place → Told (checked basis fits3 fits6) 8 (Some place)
 
 -- encoding entry by entry
 pub record Encoding : Type 0 where
@@ -69,7 +67,7 @@ pub record Encoding : Type 0 where
 
 -- case E of Table A
 pub record CodeCases : Type 0 where
-  pub e_done : encode_outcome (1 ∷ 2 ∷ []) (7 ∷ 3 ∷ []) (0 ∷ 0 ∷ 0 ∷ 0 ∷ []) ≡ Done
+  pub e_done : encode_outcome (1 ∷ 2 ∷ []) (7 ∷ 3 ∷ []) (0 ∷ 0 ∷ 0 ∷ 0 ∷ []) ≡ Ok tt
   pub e : encoded 0 (1 ∷ 2 ∷ []) (7 ∷ 3 ∷ []) ≡ 7 ∷ 4 ∷ 1 ∷ 2 ∷ []
-  pub e_back_done : interpolate_outcome (1 ∷ 2 ∷ []) (7 ∷ 4 ∷ 1 ∷ 2 ∷ []) (0 ∷ 0 ∷ 0 ∷ 0 ∷ []) ≡ Done
+  pub e_back_done : interpolate_outcome (1 ∷ 2 ∷ []) (7 ∷ 4 ∷ 1 ∷ 2 ∷ []) (0 ∷ 0 ∷ 0 ∷ 0 ∷ []) ≡ Ok tt
   pub e_back : interpolated 0 (1 ∷ 2 ∷ []) (7 ∷ 4 ∷ 1 ∷ 2 ∷ []) ≡ 7 ∷ 3 ∷ 0 ∷ 0 ∷ []

@@ -8,8 +8,8 @@ use native.Mathlib.Omega.{arith}
 use lib.Dec.{T, leb, eqb, leb→le, eqb→eq}
 use borrow.Author.Tests.{le-leb, lt-leb}
 use Rattle.refusal.specs.declared.Cause.{Cause}
-use Rattle.refusal.specs.declared.Outcome.{Outcome}
-use Rattle.refusal.specs.declared.Outcome.TheVariants.{Done, Refused}
+use Rattle.std.specs.Prelude.{Ok, Err}
+use Rattle.refusal.specs.Outcome.{Outcome}
 use Rattle.refusal.specs.Checks.{refused_unless, and_then, afterwards}
 use Rattle.refusal.specs.Numbers.{number_of, number_of_outcome}
 
@@ -27,15 +27,15 @@ equal_of_test m n e = eqb→eq m n (subst T (sym e) tt)
 pub le_of_test : (m n : ℕ) → leb m n ≡ true → m ≤ n
 le_of_test m n e = leb→le m n (subst T (sym e) tt)
 
-pub refused_not_done : (cause : Cause) → Refused cause ≡ Done → ⊥
+pub refused_not_done : (cause : Cause) → ◌≡◌ {A = Outcome} (Err cause) (Ok tt) → ⊥
 refused_not_done cause e = let impossible : ◌≡◌ {A = ℕ} 0 1 = cc in omega arith
 
 -- what a lent list holds where it is done, and where it is refused
-pub done_holds : (outcome : Outcome) (wanted held held' : List ℕ) → outcome ≡ Done → held' ≡ wanted
+pub done_holds : (outcome : Outcome) (wanted held held' : List ℕ) → outcome ≡ Ok tt → held' ≡ wanted
     → held' ≡ afterwards outcome wanted held
 done_holds outcome wanted held held' e w = w ∙ sym (ap (λ (o : Outcome). afterwards o wanted held) e)
 
-pub refused_holds : (outcome : Outcome) (cause : Cause) (wanted held : List ℕ) → outcome ≡ Refused cause
+pub refused_holds : (outcome : Outcome) (cause : Cause) (wanted held : List ℕ) → outcome ≡ Err cause
     → held ≡ afterwards outcome wanted held
 refused_holds outcome cause wanted held e = sym (ap (λ (o : Outcome). afterwards o wanted held) e)
 
@@ -45,49 +45,49 @@ pub passed_by : (test : Bool) (cause : Cause) (after : Outcome) → test ≡ tru
 passed_by test cause after e = sym (ap (λ (t : Bool). refused_unless t cause after) e)
 
 pub refused_by : (test : Bool) (cause : Cause) (after : Outcome) → test ≡ false
-    → Refused cause ≡ refused_unless test cause after
+    → Err cause ≡ refused_unless test cause after
 refused_by test cause after e = sym (ap (λ (t : Bool). refused_unless t cause after) e)
 
-pub unless_done : (test : Bool) (cause : Cause) (after : Outcome) → refused_unless test cause after ≡ Done
-    → (test ≡ true) × (after ≡ Done)
+pub unless_done : (test : Bool) (cause : Cause) (after : Outcome) → refused_unless test cause after ≡ Ok tt
+    → (test ≡ true) × (after ≡ Ok tt)
 unless_done true cause after e = (refl, e)
 unless_done false cause after e = absurd (refused_not_done cause e)
 
-pub then_passed : (first after : Outcome) → first ≡ Done → after ≡ and_then first after
+pub then_passed : (first after : Outcome) → first ≡ Ok tt → after ≡ and_then first after
 then_passed first after e = sym (ap (λ (o : Outcome). and_then o after) e)
 
-pub then_refused : (first after : Outcome) (cause : Cause) → first ≡ Refused cause → Refused cause ≡ and_then first after
+pub then_refused : (first after : Outcome) (cause : Cause) → first ≡ Err cause → Err cause ≡ and_then first after
 then_refused first after cause e = sym (ap (λ (o : Outcome). and_then o after) e)
 
-pub then_done : (first after : Outcome) → and_then first after ≡ Done → (first ≡ Done) × (after ≡ Done)
-then_done Done after e = (refl, e)
-then_done (Refused cause) after e = absurd (refused_not_done cause e)
+pub then_done : (first after : Outcome) → and_then first after ≡ Ok tt → (first ≡ Ok tt) × (after ≡ Ok tt)
+then_done (Ok tt) after e = (refl, e)
+then_done (Err cause) after e = absurd (refused_not_done cause e)
 
 pub then_then : (first second third : Outcome)
     → and_then first (and_then second third) ≡ and_then (and_then first second) third
-then_then Done second third = refl
-then_then (Refused cause) second third = refl
+then_then (Ok tt) second third = refl
+then_then (Err cause) second third = refl
 
 -- a refusal of two groups of checks is one of the first, or of the second after the first has passed
 abbrev pub Either : Outcome → Outcome → Cause → Type 0
-Either first after cause = (first ≡ Refused cause) ⊎ ((first ≡ Done) × (after ≡ Refused cause))
+Either first after cause = (first ≡ Err cause) ⊎ ((first ≡ Ok tt) × (after ≡ Err cause))
 
-pub which : (first after : Outcome) (cause : Cause) → and_then first after ≡ Refused cause → Either first after cause
-which Done after cause e = inr (refl, e)
-which (Refused other) after cause e = inl e
+pub which : (first after : Outcome) (cause : Cause) → and_then first after ≡ Err cause → Either first after cause
+which (Ok tt) after cause e = inr (refl, e)
+which (Err other) after cause e = inl e
 
 -- ---- what holds of every outcome that checks may have, and of every number
 
-pub holds_unless : (Q : Outcome → Type 0) (test : Bool) (cause : Cause) (after : Outcome) → Q (Refused cause) → Q after
+pub holds_unless : (Q : Outcome → Type 0) (test : Bool) (cause : Cause) (after : Outcome) → Q (Err cause) → Q after
     → Q (refused_unless test cause after)
 holds_unless Q true cause after c a = a
 holds_unless Q false cause after c a = c
 
 -- those after the first are asked for where it has passed
-pub holds_after : (Q : Outcome → Type 0) (first after : Outcome) → Q first → (first ≡ Done → Q after)
+pub holds_after : (Q : Outcome → Type 0) (first after : Outcome) → Q first → (first ≡ Ok tt → Q after)
     → Q (and_then first after)
-holds_after Q Done after f a = a refl
-holds_after Q (Refused cause) after f a = f
+holds_after Q (Ok tt) after f a = a refl
+holds_after Q (Err cause) after f a = f
 
 pub number_unless : (P : ℕ → Type 0) (test : Bool) (cause : Cause) (after : Outcome) → P (number_of cause)
     → P (number_of_outcome after)

@@ -11,7 +11,7 @@ use Rattle.refusal.specs.declared.Cause.TheVariants.{RateOutOfRange, StepOutOfRa
 use Rattle.refusal.specs.declared.Cause.TheVariants.{BasisDependent, QueryCountOutOfRange, QueryOutOfRange}
 use Rattle.refusal.specs.declared.Cause.TheVariants.{RoundCheckFails, DegreeTooLarge, WrongLength, InputTooLong}
 use Rattle.refusal.specs.declared.Cause.TheVariants.{CosetShared}
-use Rattle.refusal.specs.declared.Position.TheVariants.{Absent}
+use Rattle.std.specs.Prelude.{None}
 use Rattle.refusal.specs.Numbers.{number_of, round_of}
 use Rattle.refusal.specs.Theorems.{RetiredNumbers, RoundNumbers}
 
@@ -61,7 +61,7 @@ retired_numbers =
 
 -- a failed round check, by its number and by its position among the constructors, or a cause without a round
 pub round_or_none : (cause : Cause)
-    → ((number_of cause ≡ 11) × (tag_of the_type cause ≡ 10)) ⊎ (round_of cause ≡ Absent)
+    → ((number_of cause ≡ 11) × (tag_of the_type cause ≡ 10)) ⊎ (round_of cause ≡ None)
 round_or_none (BytesEnd section) = inr refl
 round_or_none (CountDiffers section) = inr refl
 round_or_none TrailingBytes = inr refl
@@ -78,10 +78,10 @@ round_or_none (WrongLength list) = inr refl
 round_or_none InputTooLong = inr refl
 round_or_none (CosetShared query) = inr refl
 
-no_round : (cause : Cause) → number_of cause ≢ 11 → round_of cause ≡ Absent
+no_round : (cause : Cause) → number_of cause ≢ 11 → round_of cause ≡ None
 no_round cause n =
     ⊎_elim (λ (t : (number_of cause ≡ 11) × (tag_of the_type cause ≡ 10)). absurd (n t.0))
-    (λ (none : round_of cause ≡ Absent). none) (round_or_none cause)
+    (λ (none : round_of cause ≡ None). none) (round_or_none cause)
 
 pub round_numbers : RoundNumbers
 round_numbers = record { eleven = λ query round. refl; eleven_alone = no_round }

@@ -7,10 +7,8 @@ use Rattle.refusal.specs.declared.Cause.TheVariants.{RateOutOfRange, StepOutOfRa
 use Rattle.refusal.specs.declared.Cause.TheVariants.{BasisDependent, QueryCountOutOfRange, QueryOutOfRange}
 use Rattle.refusal.specs.declared.Cause.TheVariants.{RoundCheckFails, DegreeTooLarge, WrongLength, InputTooLong}
 use Rattle.refusal.specs.declared.Cause.TheVariants.{CosetShared}
-use Rattle.refusal.specs.declared.Outcome.{Outcome}
-use Rattle.refusal.specs.declared.Outcome.TheVariants.{Done, Refused}
-use Rattle.refusal.specs.declared.Position.{Position}
-use Rattle.refusal.specs.declared.Position.TheVariants.{At, Absent}
+use Rattle.std.specs.Prelude.{Option, Some, None, Ok, Err}
+use Rattle.refusal.specs.Outcome.{Outcome}
 
 -- the table's column "Number": a number, once given, keeps its cause for good
 abbrev pub number_of : (cause : Cause) → ℕ
@@ -31,52 +29,52 @@ number_of InputTooLong = 14
 number_of (CosetShared query) = 17
 
 -- what the table's column "Returned" gives, but for rounds and reads: the section, basis place, query, degree or list
-abbrev pub place_of : (cause : Cause) → Position
-place_of (BytesEnd section) = At section
-place_of (CountDiffers section) = At section
-place_of TrailingBytes = Absent
-place_of DimensionOutOfRange = Absent
-place_of RateOutOfRange = Absent
-place_of StepOutOfRange = Absent
-place_of DimensionTooSmall = Absent
-place_of (BasisDependent place) = At place
-place_of QueryCountOutOfRange = Absent
-place_of (QueryOutOfRange query) = At query
-place_of (RoundCheckFails query round) = At query
-place_of (DegreeTooLarge degree) = At degree
-place_of (WrongLength list) = At list
-place_of InputTooLong = Absent
-place_of (CosetShared query) = At query
+abbrev pub place_of : (cause : Cause) → Option ℕ
+place_of (BytesEnd section) = Some section
+place_of (CountDiffers section) = Some section
+place_of TrailingBytes = None
+place_of DimensionOutOfRange = None
+place_of RateOutOfRange = None
+place_of StepOutOfRange = None
+place_of DimensionTooSmall = None
+place_of (BasisDependent place) = Some place
+place_of QueryCountOutOfRange = None
+place_of (QueryOutOfRange query) = Some query
+place_of (RoundCheckFails query round) = Some query
+place_of (DegreeTooLarge degree) = Some degree
+place_of (WrongLength list) = Some list
+place_of InputTooLong = None
+place_of (CosetShared query) = Some query
 
 -- the round of a failed check
-abbrev pub round_of : (cause : Cause) → Position
-round_of (BytesEnd section) = Absent
-round_of (CountDiffers section) = Absent
-round_of TrailingBytes = Absent
-round_of DimensionOutOfRange = Absent
-round_of RateOutOfRange = Absent
-round_of StepOutOfRange = Absent
-round_of DimensionTooSmall = Absent
-round_of (BasisDependent place) = Absent
-round_of QueryCountOutOfRange = Absent
-round_of (QueryOutOfRange query) = Absent
-round_of (RoundCheckFails query round) = At round
-round_of (DegreeTooLarge degree) = Absent
-round_of (WrongLength list) = Absent
-round_of InputTooLong = Absent
-round_of (CosetShared query) = Absent
+abbrev pub round_of : (cause : Cause) → Option ℕ
+round_of (BytesEnd section) = None
+round_of (CountDiffers section) = None
+round_of TrailingBytes = None
+round_of DimensionOutOfRange = None
+round_of RateOutOfRange = None
+round_of StepOutOfRange = None
+round_of DimensionTooSmall = None
+round_of (BasisDependent place) = None
+round_of QueryCountOutOfRange = None
+round_of (QueryOutOfRange query) = None
+round_of (RoundCheckFails query round) = Some round
+round_of (DegreeTooLarge degree) = None
+round_of (WrongLength list) = None
+round_of InputTooLong = None
+round_of (CosetShared query) = None
 
 -- the number of an outcome: 0 where it went well, else that of the cause
 abbrev pub number_of_outcome : (outcome : Outcome) → ℕ
-number_of_outcome Done = 0
-number_of_outcome (Refused cause) = number_of cause
+number_of_outcome (Ok tt) = 0
+number_of_outcome (Err cause) = number_of cause
 
 -- the place of an outcome: that of the cause
-abbrev pub place_of_outcome : (outcome : Outcome) → Position
-place_of_outcome Done = Absent
-place_of_outcome (Refused cause) = place_of cause
+abbrev pub place_of_outcome : (outcome : Outcome) → Option ℕ
+place_of_outcome (Ok tt) = None
+place_of_outcome (Err cause) = place_of cause
 
 -- the round of an outcome: that of the cause
-abbrev pub round_of_outcome : (outcome : Outcome) → Position
-round_of_outcome Done = Absent
-round_of_outcome (Refused cause) = round_of cause
+abbrev pub round_of_outcome : (outcome : Outcome) → Option ℕ
+round_of_outcome (Ok tt) = None
+round_of_outcome (Err cause) = round_of cause

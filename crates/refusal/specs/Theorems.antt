@@ -2,7 +2,7 @@
 use Rattle.std.specs.Prelude.{◌≡◌, ◌≢◌, ℕ}
 use Rattle.refusal.specs.declared.Cause.{Cause}
 use Rattle.refusal.specs.declared.Cause.TheVariants.{RoundCheckFails}
-use Rattle.refusal.specs.declared.Position.TheVariants.{At, Absent}
+use Rattle.std.specs.Prelude.{Some, None}
 use Rattle.refusal.specs.Numbers.{number_of, round_of}
 
 -- no cause has a number that is retired
@@ -14,5 +14,5 @@ pub record RetiredNumbers : Type 0 where
 
 -- a round goes with a failed round check (11), and with no other cause
 pub record RoundNumbers : Type 0 where
-  pub eleven : (query round : ℕ) → round_of (RoundCheckFails query round) ≡ At round
-  pub eleven_alone : (cause : Cause) → number_of cause ≢ 11 → round_of cause ≡ Absent
+  pub eleven : (query round : ℕ) → round_of (RoundCheckFails query round) ≡ Some round
+  pub eleven_alone : (cause : Cause) → number_of cause ≢ 11 → round_of cause ≡ None

@@ -7,7 +7,7 @@ ghost use Rattle.refusal.specs.Numbers.{number_of, place_of, round_of};
 
 // Why something was refused: one case for each number, in the order of the numbers. Sections and lists are counted from
 // 1, basis places, queries and rounds from 0.
-#[derive(Clone, Copy)]
+#[derive(Clone, Copy, Debug, PartialEq, Eq)]
 pub enum Cause {
     // 1: the bytes end in a count or its entries
     BytesEnd { section: usize },
@@ -42,20 +42,6 @@ pub enum Cause {
     CosetShared { query: usize },
 }
 
-// What an operation answers that gives no value.
-#[derive(Clone, Copy)]
-pub enum Outcome {
-    Done,
-    Refused(Cause),
-}
-
-// A place or a round, where there is one.
-#[derive(Clone, Copy)]
-pub enum Position {
-    At(usize),
-    Absent,
-}
-
 impl Cause {
     pub fn number(self) -> u64
         ensures { result ≡ number_of self }
@@ -79,34 +65,33 @@ impl Cause {
         }
     }
 
-    pub fn place(self) -> Position
+    pub fn place(self) -> Option<usize>
         ensures { result ≡ place_of self }
     {
         match self {
-            Cause::BytesEnd { section } => Position::At(section),
-            Cause::CountDiffers { section } => Position::At(section),
-            Cause::TrailingBytes => Position::Absent,
-            Cause::DimensionOutOfRange => Position::Absent,
-            Cause::RateOutOfRange => Position::Absent,
-            Cause::StepOutOfRange => Position::Absent,
-            Cause::DimensionTooSmall => Position::Absent,
-            Cause::BasisDependent { place } => Position::At(place),
-            Cause::QueryCountOutOfRange => Position::Absent,
-            Cause::QueryOutOfRange { query } => Position::At(query),
-            Cause::RoundCheckFails { query, round: _ } => Position::At(query),
-            Cause::DegreeTooLarge { degree } => Position::At(degree),
-            Cause::WrongLength { list } => Position::At(list),
-            Cause::InputTooLong => Position::Absent,
-            Cause::CosetShared { query } => Position::At(query),
+            Cause::BytesEnd { section } | Cause::CountDiffers { section } => Some(section),
+            Cause::BasisDependent { place } => Some(place),
+            Cause::QueryOutOfRange { query }
+            | Cause::RoundCheckFails { query, round: _ }
+            | Cause::CosetShared { query } => Some(query),
+            Cause::DegreeTooLarge { degree } => Some(degree),
+            Cause::WrongLength { list } => Some(list),
+            Cause::TrailingBytes
+            | Cause::DimensionOutOfRange
+            | Cause::RateOutOfRange
+            | Cause::StepOutOfRange
+            | Cause::DimensionTooSmall
+            | Cause::QueryCountOutOfRange
+            | Cause::InputTooLong => None,
         }
     }
 
-    pub fn round(self) -> Position
+    pub fn round(self) -> Option<usize>
         ensures { result ≡ round_of self }
     {
-        if let Cause::RoundCheckFails { query: _, round } = self {
-            return Position::At(round);
+        match self {
+            Cause::RoundCheckFails { query: _, round } => Some(round),
+            _ => None,
         }
-        Position::Absent
     }
 }

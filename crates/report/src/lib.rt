@@ -6,9 +6,8 @@ ghost use Rattle.line_text.specs.Digits.{bytes};
 ghost use Rattle.placing.specs.Put.{Put};
 ghost use Rattle.line_text.specs.Lines.{or_hyphen, numbers_text, line_of, lines_of};
 
-use fri::{Answer, Verdict};
+use fri::Verdict;
 use placing::put;
-use refusal::Position;
 use writing::put_number;
 
 // `length` bytes at the front of the array, and zeros after them: at most 32 of the header and 93 of the line.
@@ -37,18 +36,18 @@ fn put_line(verdict: Verdict, at: usize, out: &mut [u8]) -> usize
 {
     let answer = verdict.answer;
     match answer {
-        Answer::Accepted => {
+        Ok(()) => {
             let end = put(b"accepted", at, out);
             put_numbers(
                 0,
-                Position::Absent,
-                Position::Absent,
+                None,
+                None,
                 verdict.reads,
                 end,
                 out,
             )
         }
-        Answer::Refused(cause) => {
+        Err(cause) => {
             let end = put(b"refused", at, out);
             put_numbers(
                 cause.number(),
@@ -65,8 +64,8 @@ fn put_line(verdict: Verdict, at: usize, out: &mut [u8]) -> usize
 // Four numbers of up to 20 digits, each after a space, and a line feed.
 fn put_numbers(
     number: u64,
-    place: Position,
-    round: Position,
+    place: Option<usize>,
+    round: Option<usize>,
     reads: u64,
     at: usize,
     out: &mut [u8],
@@ -82,13 +81,13 @@ fn put_numbers(
 }
 
 // A space, and a place or a round or a hyphen.
-fn put_position(position: Position, at: usize, out: &mut [u8]) -> usize
+fn put_position(position: Option<usize>, at: usize, out: &mut [u8]) -> usize
     requires { at + 21 ≤ length out.old }
     ensures text { Put out.old at (bytes " " ++ or_hyphen position) result out.new }
     ensures short { result ≤ at + 21 }
 {
     match position {
-        Position::At(n) => put_number(n as u64, at, out),
-        Position::Absent => put(b" -", at, out),
+        Some(n) => put_number(n as u64, at, out),
+        None => put(b" -", at, out),
     }
 }

@@ -16,9 +16,8 @@ use Rattle.gf64.specs.Field.{IsElement}
 use Rattle.poly.specs.Polynomial.{All}
 use Rattle.poly.proofs.Entries.{all_get_d}
 use Rattle.refusal.specs.declared.Cause.TheVariants.{RoundCheckFails}
-use Rattle.refusal.specs.declared.Outcome.TheVariants.{Done}
-use Rattle.fri.specs.declared.Answer.{Answer}
-use Rattle.fri.specs.declared.Answer.TheVariants as answers
+use Rattle.std.specs.Prelude.{Ok, Err}
+use Rattle.refusal.specs.Outcome.{Outcome}
 use Rattle.fri.specs.declared.Verdict.{Verdict}
 use Rattle.fri.specs.Run.{Run, rounds_in}
 use Rattle.fri.specs.Demand.{ValidQueries}
@@ -36,7 +35,7 @@ use Rattle.round_checks.proofs.Runs.{Checked, parameters_of, round_in, query_poi
 use Rattle.round_checks.proofs.Runs.{next-query-point, part_within, found_within, computed_is, found_is}
 
 -- the checks before the round checks tell what the judge must know
-pub checked_run : (run : Run) (queries : List ℕ) → checks_outcome run queries ≡ Done
+pub checked_run : (run : Run) (queries : List ℕ) → checks_outcome run queries ≡ Ok tt
     → IsElement run.offset → All IsElement run.basis → All IsElement run.challenges
     → All IsElement run.word → All IsElement run.store → Checked run
 checked_run run queries e ho hb hc hw hs =
@@ -59,7 +58,7 @@ checked_run run queries e ho hb hc hw hs =
 module _ (run : Run) (queries : List ℕ) (count : ℕ) (table : List Round) where
   -- all that does not change
   pub record Prepared : Type 0 where
-    pub checks : checks_outcome run queries ≡ Done
+    pub checks : checks_outcome run queries ≡ Ok tt
     pub ready : Checked run
     pub count_is : count ≡ rounds_in run
     pub held : Holds table (round_in run) count
@@ -143,10 +142,10 @@ module _ {run : Run} {queries : List ℕ} {count : ℕ} {table : List Round} whe
 
     -- no query is left
     pub accepted : {total : ℕ} → length queries ≤ query → total ≡ cosets
-        → ◌≡◌ {A = Verdict} (record { answer = answers.Accepted; reads = total * 2 ^ run.step % 2 ^ 64 })
+        → ◌≡◌ {A = Verdict} (record { answer = Ok tt; reads = total * 2 ^ run.step % 2 ^ 64 })
         (verdict_of run queries)
     accepted {total} h e =
-        ap (λ (n : ℕ). record { answer = answers.Accepted; reads = n })
+        ap (λ (n : ℕ). record { answer = Ok tt; reads = n })
         (reads_exact q.prepared total (omega (arith, cosets_few))
         ∙ ap (λ (n : ℕ). n * 2 ^ run.step) (e ∙ q.cosets_are ∙ ap₂ (λ (m n : ℕ). m * n) all q.prepared.count_is))
         ∙ sym (accepted_verdict run queries q.prepared.checks (λ t l. q.passed t (omega arith)))
@@ -287,13 +286,13 @@ module _ {run : Run} {queries : List ℕ} {count : ℕ} {table : List Round} whe
     pub refused : {round more total : ℕ} → computed ≢ found → round ≡ i → total ≡ cosets + more
         → more ≡ min (i + 2) count
         → ◌≡◌ {A = Verdict}
-        (record { answer = answers.Refused (RoundCheckFails query round); reads = total * 2 ^ run.step % 2 ^ 64 })
+        (record { answer = Err (RoundCheckFails query round); reads = total * 2 ^ run.step % 2 ^ 64 })
         (verdict_of run queries)
     refused {round} {more} {total} differ same all few =
         ap₂
-        (λ (m n : ℕ). record { answer = answers.Refused (RoundCheckFails query m); reads = n * 2 ^ run.step % 2 ^ 64 })
+        (λ (m n : ℕ). record { answer = Err (RoundCheckFails query m); reads = n * 2 ^ run.step % 2 ^ 64 })
         same read
-        ∙ ap₂ (λ (a : Answer) (n : ℕ). record { answer = a; reads = n })
+        ∙ ap₂ (λ (a : Outcome) (n : ℕ). record { answer = a; reads = n })
         (sym (refused_by run queries query i before.before_query.prepared.checks first))
         (reads_exact before.before_query.prepared (cosets + min (i + 2) count)
         (omega (arith, cosets_few before.before_query, min-le_right (i + 2) count))

@@ -1,8 +1,8 @@
 -- The checks of parameters and lists as one group: what is known where it passes, and what comes after it. Assumes
 -- nothing.
 use mathlib.Core.Path.{◌≡◌, sym}
-use Rattle.refusal.specs.declared.Outcome.{Outcome}
-use Rattle.refusal.specs.declared.Outcome.TheVariants.{Done}
+use Rattle.std.specs.Prelude.{Ok}
+use Rattle.refusal.specs.Outcome.{Outcome}
 use Rattle.refusal.specs.Checks.{and_then}
 use Rattle.refusal.proofs.Checks.{then_done, then_then}
 use Rattle.fri.specs.Run.{Run}
@@ -22,7 +22,7 @@ module _ (run : Run) where
   pub lists_then : (after : Outcome) → and_then of_lists after ≡ and_then ranges (and_then (lengths_outcome run) after)
   lists_then after = sym (then_then ranges (lengths_outcome run) after)
 
-  module _ (done : of_lists ≡ Done) where
+  module _ (done : of_lists ≡ Ok tt) where
     pub lists_valid : ValidParameters run.k run.rate run.step
     lists_valid = parameters_valid run.k run.rate run.step (then_done ranges (lengths_outcome run) done).0
 

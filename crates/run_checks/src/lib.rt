@@ -8,7 +8,7 @@ ghost use Rattle.layout.specs.Parameters.{run_of};
 
 use field::Element;
 use layout::Parameters;
-use refusal::{Cause, Outcome};
+use refusal::Cause;
 
 // The checks that prover and judge have in common, in the order of the papers: 4, 5, 6, 7, 13, 8. Any offset passes;
 // the contract's run has it.
@@ -20,15 +20,15 @@ pub fn checked(
     word: &[u64],
     store: &[u64],
     last: &[u64],
-) -> Outcome
+) -> Result<(), Cause>
     ensures { let run = run_of parameters offset.0 basis.now challenges.now word.now
         store.now last.now in
         result ≡ run_outcome run }
 {
     let lists = checked_lists(parameters, offset, basis, challenges, word, store, last);
     match lists {
-        Outcome::Done => independence::checked_basis(basis),
-        Outcome::Refused(cause) => Outcome::Refused(cause),
+        Ok(()) => independence::checked_basis(basis),
+        Err(cause) => Err(cause),
     }
 }
 
@@ -42,31 +42,31 @@ pub fn checked_lists(
     word: &[u64],
     store: &[u64],
     last: &[u64],
-) -> Outcome
+) -> Result<(), Cause>
     ensures { let run = run_of parameters offset.0 basis.now challenges.now word.now
         store.now last.now in
         result ≡ and_then (parameters_outcome run.k run.rate run.step) (lengths_outcome run) }
 {
     let ranges = parameters.checked();
     match ranges {
-        Outcome::Refused(cause) => return Outcome::Refused(cause),
-        Outcome::Done => {}
+        Err(cause) => return Err(cause),
+        Ok(()) => {}
     }
     let rounds = parameters.rounds();
     if basis.len() != parameters.k {
-        return Outcome::Refused(Cause::WrongLength { list: 1 });
+        return Err(Cause::WrongLength { list: 1 });
     }
     if challenges.len() != rounds {
-        return Outcome::Refused(Cause::WrongLength { list: 2 });
+        return Err(Cause::WrongLength { list: 2 });
     }
     if word.len() != 1 << parameters.k {
-        return Outcome::Refused(Cause::WrongLength { list: 3 });
+        return Err(Cause::WrongLength { list: 3 });
     }
     if store.len() != parameters.layer_start(rounds) {
-        return Outcome::Refused(Cause::WrongLength { list: 4 });
+        return Err(Cause::WrongLength { list: 4 });
     }
     if last.len() != parameters.last_count() {
-        return Outcome::Refused(Cause::WrongLength { list: 5 });
+        return Err(Cause::WrongLength { list: 5 });
     }
-    Outcome::Done
+    Ok(())
 }

@@ -1,6 +1,6 @@
 -- The samples, as the reference prints them.
 use Rattle.std.specs.Prelude.{List, [], ◌∷◌}
-use Rattle.refusal.specs.declared.Position.TheVariants.{At, Absent}
+use Rattle.std.specs.Prelude.{Some, None}
 use Rattle.samples.specs.Samples.{LayoutSample, IndexSample, CosetSample, LookupSample}
 use Rattle.samples.specs.Samples.{JudgedSample, ProvedSample}
 
@@ -610,8 +610,8 @@ judged_of_table_a =
       };
       queries = 0 ∷ 3 ∷ [];
       number = 0;
-      place = Absent;
-      round = Absent;
+      place = None;
+      round = None;
       reads = 4;
     } ∷
     record {
@@ -628,8 +628,8 @@ judged_of_table_a =
       };
       queries = 0 ∷ 3 ∷ [];
       number = 11;
-      place = At 1;
-      round = At 0;
+      place = Some 1;
+      round = Some 0;
       reads = 4;
     } ∷
     record {
@@ -646,8 +646,8 @@ judged_of_table_a =
       };
       queries = 0 ∷ [];
       number = 0;
-      place = Absent;
-      round = Absent;
+      place = None;
+      round = None;
       reads = 2;
     } ∷
     record {
@@ -664,8 +664,8 @@ judged_of_table_a =
       };
       queries = 0 ∷ 3 ∷ [];
       number = 0;
-      place = Absent;
-      round = Absent;
+      place = None;
+      round = None;
       reads = 4;
     } ∷
     []
@@ -688,8 +688,8 @@ judged_accepted =
       };
       queries = 5 ∷ 2 ∷ [];
       number = 0;
-      place = Absent;
-      round = Absent;
+      place = None;
+      round = None;
       reads = 8;
     } ∷
     record {
@@ -713,8 +713,8 @@ judged_accepted =
       };
       queries = 13 ∷ [];
       number = 0;
-      place = Absent;
-      round = Absent;
+      place = None;
+      round = None;
       reads = 6;
     } ∷
     []
@@ -737,8 +737,8 @@ judged_failing_in_two_rounds =
       };
       queries = 6 ∷ 3 ∷ [];
       number = 11;
-      place = At 1;
-      round = At 0;
+      place = Some 1;
+      round = Some 0;
       reads = 8;
     } ∷
     record {
@@ -757,8 +757,8 @@ judged_failing_in_two_rounds =
       };
       queries = 1 ∷ 3 ∷ [];
       number = 11;
-      place = At 0;
-      round = At 1;
+      place = Some 0;
+      round = Some 1;
       reads = 4;
     } ∷
     []
@@ -786,8 +786,8 @@ judged_failing_in_three_rounds =
       };
       queries = 7 ∷ [];
       number = 11;
-      place = At 0;
-      round = At 0;
+      place = Some 0;
+      round = Some 0;
       reads = 4;
     } ∷
     record {
@@ -811,8 +811,8 @@ judged_failing_in_three_rounds =
       };
       queries = 12 ∷ [];
       number = 11;
-      place = At 0;
-      round = At 2;
+      place = Some 0;
+      round = Some 2;
       reads = 6;
     } ∷
     []
@@ -835,8 +835,8 @@ judged_at_high_degree =
       };
       queries = 7 ∷ [];
       number = 11;
-      place = At 0;
-      round = At 1;
+      place = Some 0;
+      round = Some 1;
       reads = 4;
     } ∷
     []
@@ -857,8 +857,8 @@ judged_refused =
       };
       queries = [];
       number = 4;
-      place = Absent;
-      round = Absent;
+      place = None;
+      round = None;
       reads = 0;
     } ∷
     record {
@@ -875,8 +875,8 @@ judged_refused =
       };
       queries = [];
       number = 4;
-      place = Absent;
-      round = Absent;
+      place = None;
+      round = None;
       reads = 0;
     } ∷
     record {
@@ -893,8 +893,8 @@ judged_refused =
       };
       queries = [];
       number = 5;
-      place = Absent;
-      round = Absent;
+      place = None;
+      round = None;
       reads = 0;
     } ∷
     record {
@@ -911,8 +911,8 @@ judged_refused =
       };
       queries = [];
       number = 6;
-      place = Absent;
-      round = Absent;
+      place = None;
+      round = None;
       reads = 0;
     } ∷
     record {
@@ -929,8 +929,8 @@ judged_refused =
       };
       queries = [];
       number = 7;
-      place = Absent;
-      round = Absent;
+      place = None;
+      round = None;
       reads = 0;
     } ∷
     record {
@@ -949,8 +949,8 @@ judged_refused =
       };
       queries = 0 ∷ [];
       number = 13;
-      place = At 1;
-      round = Absent;
+      place = Some 1;
+      round = None;
       reads = 0;
     } ∷
     record {
@@ -969,8 +969,8 @@ judged_refused =
       };
       queries = 0 ∷ [];
       number = 13;
-      place = At 2;
-      round = Absent;
+      place = Some 2;
+      round = None;
       reads = 0;
     } ∷
     record {
@@ -989,8 +989,8 @@ judged_refused =
       };
       queries = 0 ∷ [];
       number = 13;
-      place = At 3;
-      round = Absent;
+      place = Some 3;
+      round = None;
       reads = 0;
     } ∷
     record {
@@ -1009,8 +1009,8 @@ judged_refused =
       };
       queries = 0 ∷ [];
       number = 13;
-      place = At 4;
-      round = Absent;
+      place = Some 4;
+      round = None;
       reads = 0;
     } ∷
     record {
@@ -1029,8 +1029,8 @@ judged_refused =
       };
       queries = 0 ∷ [];
       number = 13;
-      place = At 5;
-      round = Absent;
+      place = Some 5;
+      round = None;
       reads = 0;
     } ∷
     record {
@@ -1051,8 +1051,8 @@ judged_refused =
       };
       queries = 16 ∷ [];
       number = 13;
-      place = At 4;
-      round = Absent;
+      place = Some 4;
+      round = None;
       reads = 0;
     } ∷
     record {
@@ -1071,8 +1071,8 @@ judged_refused =
       };
       queries = [];
       number = 8;
-      place = At 2;
-      round = Absent;
+      place = Some 2;
+      round = None;
       reads = 0;
     } ∷
     record {
@@ -1093,8 +1093,8 @@ judged_refused =
       };
       queries = 16 ∷ [];
       number = 8;
-      place = At 1;
-      round = Absent;
+      place = Some 1;
+      round = None;
       reads = 0;
     } ∷
     record {
@@ -1111,8 +1111,8 @@ judged_refused =
       };
       queries = [];
       number = 9;
-      place = Absent;
-      round = Absent;
+      place = None;
+      round = None;
       reads = 0;
     } ∷
     record {
@@ -1139,8 +1139,8 @@ judged_refused =
           ∷ 4 ∷ 4 ∷ 4 ∷ 4 ∷ 4 ∷ 4 ∷ 4 ∷ 4 ∷ 4 ∷ 4 ∷ 4 ∷ 4 ∷ 4 ∷ 4 ∷ 4 ∷ 4 ∷ 4 ∷ 4 ∷ 4 ∷ 4 ∷ 4 ∷ 4 ∷ 4 ∷ 4 ∷ 4 ∷ 4 ∷ 4
           ∷ 4 ∷ 4 ∷ 4 ∷ 4 ∷ 4 ∷ 4 ∷ 4 ∷ 4 ∷ 4 ∷ 4 ∷ 4 ∷ 4 ∷ 4 ∷ 4 ∷ [];
       number = 9;
-      place = Absent;
-      round = Absent;
+      place = None;
+      round = None;
       reads = 0;
     } ∷
     record {
@@ -1157,8 +1157,8 @@ judged_refused =
       };
       queries = 0 ∷ 3 ∷ 4 ∷ 5 ∷ [];
       number = 10;
-      place = At 2;
-      round = Absent;
+      place = Some 2;
+      round = None;
       reads = 0;
     } ∷
     record {
@@ -1175,8 +1175,8 @@ judged_refused =
       };
       queries = 0 ∷ 1 ∷ 4 ∷ [];
       number = 10;
-      place = At 2;
-      round = Absent;
+      place = Some 2;
+      round = None;
       reads = 0;
     } ∷
     record {
@@ -1193,8 +1193,8 @@ judged_refused =
       };
       queries = 18446744073709551615 ∷ 1 ∷ 0 ∷ [];
       number = 10;
-      place = At 0;
-      round = Absent;
+      place = Some 0;
+      round = None;
       reads = 0;
     } ∷
     record {
@@ -1211,8 +1211,8 @@ judged_refused =
       };
       queries = 3 ∷ 3 ∷ [];
       number = 17;
-      place = At 1;
-      round = Absent;
+      place = Some 1;
+      round = None;
       reads = 0;
     } ∷
     record {
@@ -1229,8 +1229,8 @@ judged_refused =
       };
       queries = 1 ∷ 2 ∷ 0 ∷ [];
       number = 17;
-      place = At 2;
-      round = Absent;
+      place = Some 2;
+      round = None;
       reads = 0;
     } ∷
     record {
@@ -1247,8 +1247,8 @@ judged_refused =
       };
       queries = 0 ∷ 3 ∷ 2 ∷ 1 ∷ [];
       number = 17;
-      place = At 2;
-      round = Absent;
+      place = Some 2;
+      round = None;
       reads = 0;
     } ∷
     record {
@@ -1267,8 +1267,8 @@ judged_refused =
       };
       queries = 3 ∷ 4 ∷ 0 ∷ [];
       number = 17;
-      place = At 2;
-      round = Absent;
+      place = Some 2;
+      round = None;
       reads = 0;
     } ∷
     record {
@@ -1289,8 +1289,8 @@ judged_refused =
       };
       queries = 8 ∷ 7 ∷ 15 ∷ [];
       number = 17;
-      place = At 2;
-      round = Absent;
+      place = Some 2;
+      round = None;
       reads = 0;
     } ∷
     []
@@ -1314,7 +1314,7 @@ proved_well =
         last = 201 ∷ [];
       };
       number = 0;
-      place = Absent;
+      place = None;
       store =
           31478196432164000 ∷ 31477460159256300 ∷ 3224070253589737132 ∷ 3224070482624360555 ∷ 9608351324427147180
           ∷ 8924285477556514158 ∷ 10458535652445244205 ∷ 8046516393476975972 ∷ 121211050846516 ∷ 121211051205819
@@ -1340,7 +1340,7 @@ proved_at_high_degree =
         last = 201 ∷ [];
       };
       number = 12;
-      place = At 1;
+      place = Some 1;
       store = 14120166 ∷ 14105411 ∷ 15619219892089641882 ∷ 15619219892089623615 ∷ [];
       last = 201 ∷ [];
     } ∷
@@ -1363,7 +1363,7 @@ proved_refused =
         last = 201 ∷ [];
       };
       number = 4;
-      place = Absent;
+      place = None;
       store = 101 ∷ 102 ∷ 103 ∷ 104 ∷ [];
       last = 201 ∷ [];
     } ∷
@@ -1382,7 +1382,7 @@ proved_refused =
         last = 201 ∷ [];
       };
       number = 4;
-      place = Absent;
+      place = None;
       store = 101 ∷ 102 ∷ 103 ∷ 104 ∷ [];
       last = 201 ∷ [];
     } ∷
@@ -1401,7 +1401,7 @@ proved_refused =
         last = 201 ∷ [];
       };
       number = 5;
-      place = Absent;
+      place = None;
       store = 101 ∷ 102 ∷ 103 ∷ 104 ∷ [];
       last = 201 ∷ [];
     } ∷
@@ -1420,7 +1420,7 @@ proved_refused =
         last = 201 ∷ [];
       };
       number = 6;
-      place = Absent;
+      place = None;
       store = 101 ∷ 102 ∷ 103 ∷ 104 ∷ [];
       last = 201 ∷ [];
     } ∷
@@ -1439,7 +1439,7 @@ proved_refused =
         last = 201 ∷ [];
       };
       number = 7;
-      place = Absent;
+      place = None;
       store = 101 ∷ 102 ∷ 103 ∷ 104 ∷ [];
       last = 201 ∷ [];
     } ∷
@@ -1458,7 +1458,7 @@ proved_refused =
         last = 201 ∷ [];
       };
       number = 13;
-      place = At 1;
+      place = Some 1;
       store = 101 ∷ 102 ∷ 103 ∷ 104 ∷ [];
       last = 201 ∷ [];
     } ∷
@@ -1477,7 +1477,7 @@ proved_refused =
         last = 201 ∷ [];
       };
       number = 13;
-      place = At 2;
+      place = Some 2;
       store = 101 ∷ 102 ∷ 103 ∷ 104 ∷ [];
       last = 201 ∷ [];
     } ∷
@@ -1496,7 +1496,7 @@ proved_refused =
         last = 201 ∷ [];
       };
       number = 13;
-      place = At 3;
+      place = Some 3;
       store = 101 ∷ 102 ∷ 103 ∷ 104 ∷ [];
       last = 201 ∷ [];
     } ∷
@@ -1515,7 +1515,7 @@ proved_refused =
         last = 201 ∷ [];
       };
       number = 13;
-      place = At 4;
+      place = Some 4;
       store = 101 ∷ 102 ∷ 103 ∷ [];
       last = 201 ∷ [];
     } ∷
@@ -1534,7 +1534,7 @@ proved_refused =
         last = [];
       };
       number = 13;
-      place = At 5;
+      place = Some 5;
       store = 101 ∷ 102 ∷ 103 ∷ 104 ∷ [];
       last = [];
     } ∷
@@ -1553,7 +1553,7 @@ proved_refused =
         last = 201 ∷ [];
       };
       number = 8;
-      place = At 1;
+      place = Some 1;
       store = 101 ∷ 102 ∷ 103 ∷ 104 ∷ [];
       last = 201 ∷ [];
     } ∷

@@ -1,8 +1,7 @@
 -- The forms of the samples, whose values the reference computes from document 01, and the tests that the
 -- definitions give the same.
 use Rattle.std.specs.Prelude.{Bool, true, false, ◌&&◌, List, [], ◌∷◌, ℕ, suc, eqb, length}
-use Rattle.refusal.specs.declared.Position.{Position}
-use Rattle.refusal.specs.declared.Position.TheVariants.{At, Absent}
+use Rattle.std.specs.Prelude.{Option, Some, None}
 use Rattle.refusal.specs.Numbers.{number_of_outcome, place_of_outcome}
 use Rattle.coset.specs.Coset.{tabulated}
 use Rattle.fri.specs.Layout.{steps_of, dimension, last_count, layer_start, store_length, index_in}
@@ -25,11 +24,11 @@ same (x ∷ xs) [] = false
 same (x ∷ xs) (y ∷ ys) = eqb x y && same xs ys
 
 -- two positions are the same
-abbrev pub same_position : (found due : Position) → Bool
-same_position Absent Absent = true
-same_position Absent (At n) = false
-same_position (At m) Absent = false
-same_position (At m) (At n) = eqb m n
+abbrev pub same_position : (found due : Option ℕ) → Bool
+same_position None None = true
+same_position None (Some n) = false
+same_position (Some m) None = false
+same_position (Some m) (Some n) = eqb m n
 
 -- parameters with r, d, the length of the store, the dimensions of layers 0 to r and where layers 1 to r - 1 begin
 pub record LayoutSample : Type 0 where
@@ -102,8 +101,8 @@ pub record JudgedSample : Type 0 where
   pub run : Run
   pub queries : List ℕ
   pub number : ℕ
-  pub place : Position
-  pub round : Position
+  pub place : Option ℕ
+  pub round : Option ℕ
   pub reads : ℕ
 
 abbrev pub judged_agrees : (row : JudgedSample) → Bool
@@ -116,7 +115,7 @@ judged_agrees row =
 pub record ProvedSample : Type 0 where
   pub run : Run
   pub number : ℕ
-  pub place : Position
+  pub place : Option ℕ
   pub store : List ℕ
   pub last : List ℕ
 

@@ -5,7 +5,7 @@ use Prim.Native.Nat.{ℕ, suc, ◌+◌, ◌*◌, ◌^◌, ◌≤◌, ◌<◌}
 use native.Mathlib.Numerals.{add-one}
 use native.Mathlib.Omega.{arith}
 use lib.ListN.{get_or, drop}
-use Rattle.refusal.specs.declared.Outcome.TheVariants.{Done}
+use Rattle.std.specs.Prelude.{Ok}
 use Rattle.refusal.specs.Checks.{and_then}
 use Rattle.fri.specs.Layout.{dimension}
 use Rattle.transcript.specs.Numerals.{AreBytes, entry_at, entries_at}
@@ -52,6 +52,6 @@ module _ (bytes : List ℕ) where
   unfolding layers_from
   layers_one i left = refl
 
-  pub layers_none : (i : ℕ) → layers_from bytes i 0 ≡ Done
+  pub layers_none : (i : ℕ) → layers_from bytes i 0 ≡ Ok tt
   unfolding layers_from
   layers_none i = refl

@@ -7,7 +7,7 @@ ghost use Rattle.transcript.specs.Checks.{section_outcome, due_outcome};
 ghost use Rattle.sections.specs.Views.{sections_in, parameters_in};
 
 use layout::Parameters;
-use refusal::{Cause, Outcome};
+use refusal::Cause;
 
 // Where sections 2, 3, 4 and 5 begin; section 1 begins at 0.
 #[derive(Clone, Copy)]
@@ -56,7 +56,7 @@ pub fn parameters(bytes: &[u8]) -> Parameters
 }
 
 // A section whose count must be the one due (2).
-pub fn checked_due(bytes: &[u8], section: usize, at: usize, due: usize) -> Outcome
+pub fn checked_due(bytes: &[u8], section: usize, at: usize, due: usize) -> Result<(), Cause>
     requires { (at ≡ section_start bytes.now section) × (1 ≤ section) × (section ≤ 24) }
     ensures { result ≡ due_outcome bytes.now section due }
 {
@@ -71,18 +71,18 @@ pub fn checked_due(bytes: &[u8], section: usize, at: usize, due: usize) -> Outco
 }
 
 // A section whose count passes a test, else the cause.
-pub fn checked_section(bytes: &[u8], section: usize, at: usize, test: bool, cause: Cause) -> Outcome
+pub fn checked_section(bytes: &[u8], section: usize, at: usize, test: bool, cause: Cause) -> Result<(), Cause>
     requires { (at ≡ section_start bytes.now section) × (1 ≤ section) × (section ≤ 24) }
     ensures { result ≡ section_outcome bytes.now section test cause }
 {
     if at + 4 > bytes.len() {
-        return Outcome::Refused(Cause::BytesEnd { section });
+        return Err(Cause::BytesEnd { section });
     }
     if !test {
-        return Outcome::Refused(cause);
+        return Err(cause);
     }
     if end_of(bytes, at) > bytes.len() {
-        return Outcome::Refused(Cause::BytesEnd { section });
+        return Err(Cause::BytesEnd { section });
     }
-    Outcome::Done
+    Ok(())
 }

@@ -2,7 +2,6 @@
 #![tactic(auto)]
 
 ghost use Rattle.std.specs.Prelude.{◌≡◌, ◌≤◌, length};
-ghost use Rattle.refusal.specs.declared.Outcome.TheVariants as outcomes;
 ghost use Rattle.fri.specs.Judge.{checks_outcome};
 ghost use Rattle.placing.specs.Put.{Put};
 ghost use Rattle.sheet_text.specs.Sheet.{sheet_lines};
@@ -26,7 +25,7 @@ pub fn put_lines(
     out: &mut [u8],
 ) -> usize
     requires checks { let run = sent_in parameters offset.0 basis.now challenges.now bytes.now last.now in
-        checks_outcome run queries.now ≡ outcomes.Done }
+        checks_outcome run queries.now ≡ Ok tt }
     requires laid { let run = sent_in parameters offset.0 basis.now challenges.now bytes.now last.now in
         LaidOut bytes.now begin run }
     requires room { let run = sent_in parameters offset.0 basis.now challenges.now bytes.now last.now in

@@ -16,11 +16,9 @@ use Rattle.refusal.specs.declared.Cause.TheVariants.{RateOutOfRange, StepOutOfRa
 use Rattle.refusal.specs.declared.Cause.TheVariants.{BasisDependent, QueryCountOutOfRange, QueryOutOfRange}
 use Rattle.refusal.specs.declared.Cause.TheVariants.{RoundCheckFails, DegreeTooLarge, WrongLength, InputTooLong}
 use Rattle.refusal.specs.declared.Cause.TheVariants.{CosetShared}
-use Rattle.refusal.specs.declared.Outcome.{Outcome}
-use Rattle.refusal.specs.declared.Outcome.TheVariants as outcomes
-use Rattle.refusal.specs.declared.Outcome.TheVariants.{Done}
+use Rattle.std.specs.Prelude.{Ok, Err}
+use Rattle.refusal.specs.Outcome.{Outcome}
 use Rattle.refusal.proofs.Checks.{refused_not_done, then_passed}
-use Rattle.fri.specs.declared.Answer.TheVariants.{Refused}
 use Rattle.fri.specs.declared.Verdict.{Verdict}
 use Rattle.fri.specs.Run.{Run, rounds_in}
 use Rattle.fri.specs.Rounds.{value_computed, value_found, rounds_outcome}
@@ -123,7 +121,7 @@ pub record Fits (run : Run) (queries : List ℕ) : Type 0 where
   pub queries_few : length queries ≤ 256
   pub indices : (t : ℕ) → get_or queries t 0 < 2 ^ 20
 
-pub checked_fits : (run : Run) (queries : List ℕ) → checks_outcome run queries ≡ Done → Fits run queries
+pub checked_fits : (run : Run) (queries : List ℕ) → checks_outcome run queries ≡ Ok tt → Fits run queries
 checked_fits run queries done =
     let passed = checks_valid run queries done in
     let valid = (run_valid run passed.0).0 in
@@ -163,7 +161,7 @@ module _ {run : Run} {queries : List ℕ} (fits : Fits run queries) where
 
 -- of all causes a failed round check alone has lines
 lines_of_cause : (cause : Cause)
-    → (has_lines (Refused cause) ≡ false) ⊎ ((query : ℕ) × (round : ℕ) × (cause ≡ RoundCheckFails query round))
+    → (has_lines (Err cause) ≡ false) ⊎ ((query : ℕ) × (round : ℕ) × (cause ≡ RoundCheckFails query round))
 lines_of_cause (BytesEnd section) = inl refl
 lines_of_cause (CountDiffers section) = inl refl
 lines_of_cause TrailingBytes = inl refl
@@ -200,10 +198,10 @@ module _ (bytes : List ℕ) where
 
   -- ---- bytes whose sections pass
 
-  pub passed_fits : transcript_outcome bytes ≡ Done → Fits run queries
+  pub passed_fits : transcript_outcome bytes ≡ Ok tt → Fits run queries
   passed_fits done = checked_fits run queries (sym (checks_are bytes (passed_carries bytes done)) ∙ done)
 
-  passed_lines : transcript_outcome bytes ≡ Done → (outcome : Outcome) → rounds_outcome run queries 0 ≡ outcome
+  passed_lines : transcript_outcome bytes ≡ Ok tt → (outcome : Outcome) → rounds_outcome run queries 0 ≡ outcome
       → has_lines (answer_of outcome) ≡ true → has_lines (transcript_verdict bytes).answer ≡ true
   unfolding transcript_verdict
   passed_lines done outcome e h =
@@ -211,43 +209,43 @@ module _ (bytes : List ℕ) where
       (sym (then_passed (transcript_outcome bytes) (rounds_outcome run queries 0) done) ∙ e)
       ∙ h
 
-  pub has-lines : transcript_outcome bytes ≡ Done → has_lines (transcript_verdict bytes).answer ≡ true
+  pub has-lines : transcript_outcome bytes ≡ Ok tt → has_lines (transcript_verdict bytes).answer ≡ true
   has-lines done = by (ended run queries 0)
     where
       by : Ended run queries 0 → has_lines (transcript_verdict bytes).answer ≡ true
-      by (inl (o, all)) = passed_lines done outcomes.Done o refl
-      by (inr (t, i, o, f)) = passed_lines done (outcomes.Refused (RoundCheckFails (0 + t) i)) o refl
+      by (inl (o, all)) = passed_lines done (Ok tt) o refl
+      by (inr (t, i, o, f)) = passed_lines done (Err (RoundCheckFails (0 + t) i)) o refl
 
-  pub sheet_passed : transcript_outcome bytes ≡ Done → transcript_sheet bytes ≡ sheet_lines run queries 0
+  pub sheet_passed : transcript_outcome bytes ≡ Ok tt → transcript_sheet bytes ≡ sheet_lines run queries 0
   sheet_passed done = sheet_shown transcript_verdict bytes (has-lines done)
 
-  pub length_sheet : transcript_outcome bytes ≡ Done
+  pub length_sheet : transcript_outcome bytes ≡ Ok tt
       → length (transcript_sheet bytes) ≡ line_length * (length queries * transcript_rounds bytes)
   length_sheet done = ap length (sheet_passed done) ∙ length_all_lines (passed_fits done)
 
   -- ---- bytes whose sections are refused
 
   -- a failed round check is told only where they pass
-  pub round_failed : (query round : ℕ) → (transcript_verdict bytes).answer ≡ Refused (RoundCheckFails query round)
-      → (transcript_outcome bytes ≡ Done) × FailsFirst run queries query round
+  pub round_failed : (query round : ℕ) → (transcript_verdict bytes).answer ≡ Err (RoundCheckFails query round)
+      → (transcript_outcome bytes ≡ Ok tt) × FailsFirst run queries query round
   round_failed query round e =
       let c : Carries bytes = judging_bytes.refused bytes query round e in
       let both = (round_checks.refused run queries query round).0
       (sym (ap (λ (v : Verdict). v.answer) (judging_bytes.carried bytes c)) ∙ e) in
       (checks_are bytes c ∙ both.0, both.1)
 
-  pub no_lines : (cause : Cause) → transcript_outcome bytes ≡ outcomes.Refused cause
+  pub no_lines : (cause : Cause) → transcript_outcome bytes ≡ Err cause
       → has_lines (transcript_verdict bytes).answer ≡ false
   no_lines cause e = ap has_lines told ∙ by (lines_of_cause cause)
     where
-      told : (transcript_verdict bytes).answer ≡ Refused cause
+      told : (transcript_verdict bytes).answer ≡ Err cause
       told = ap (λ (v : Verdict). v.answer) (judging_bytes.early bytes cause e)
 
-      by : (has_lines (Refused cause) ≡ false) ⊎ ((query : ℕ) × (round : ℕ) × (cause ≡ RoundCheckFails query round))
-          → has_lines (Refused cause) ≡ false
+      by : (has_lines (Err cause) ≡ false) ⊎ ((query : ℕ) × (round : ℕ) × (cause ≡ RoundCheckFails query round))
+          → has_lines (Err cause) ≡ false
       by (inl none) = none
       by (inr (query, round, is)) =
-          absurd (refused_not_done cause (sym e ∙ (round_failed query round (told ∙ ap Refused is)).0))
+          absurd (refused_not_done cause (sym e ∙ (round_failed query round (told ∙ ap Err is)).0))
 
-  pub sheet_refused : (cause : Cause) → transcript_outcome bytes ≡ outcomes.Refused cause → transcript_sheet bytes ≡ []
+  pub sheet_refused : (cause : Cause) → transcript_outcome bytes ≡ Err cause → transcript_sheet bytes ≡ []
   sheet_refused cause e = sheet_empty transcript_verdict bytes (no_lines cause e)

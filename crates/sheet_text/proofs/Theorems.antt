@@ -12,10 +12,8 @@ use lib.Seq.{take_at, drop-nil, length-take-le}
 use borrow.Author.Tests.{eqb-true, ne_eqb, leb-true, leb-false}
 use Rattle.poly.proofs.Entries.{of_first}
 use Rattle.refusal.specs.declared.Cause.TheVariants.{RoundCheckFails}
-use Rattle.refusal.specs.declared.Outcome.{Outcome}
-use Rattle.refusal.specs.declared.Outcome.TheVariants as outcomes
-use Rattle.fri.specs.declared.Answer.{Answer}
-use Rattle.fri.specs.declared.Answer.TheVariants.{Accepted, Refused}
+use Rattle.std.specs.Prelude.{Ok, Err}
+use Rattle.refusal.specs.Outcome.{Outcome}
 use Rattle.fri.specs.declared.Verdict.{Verdict}
 use Rattle.fri.specs.Rounds.{value_computed, value_found}
 use Rattle.fri.specs.Judge.{number_of_answer, verdict_of, checks_outcome}
@@ -61,11 +59,11 @@ hexadecimals =
 -- ---- the judge's answer and the checks
 
 -- where the sections pass, the verdict is that of the run that the bytes carry
-module _ (input : List ℕ) (passed : transcript_outcome input ≡ outcomes.Done) where
+module _ (input : List ℕ) (passed : transcript_outcome input ≡ Ok tt) where
   carried_answer : (transcript_verdict input).answer ≡ (verdict_of (run_in input) (queries_in input)).answer
   carried_answer = ap (λ (v : Verdict). v.answer) (judging_bytes.carried input (passed_carries input passed))
 
-  checks_done : checks_outcome (run_in input) (queries_in input) ≡ outcomes.Done
+  checks_done : checks_outcome (run_in input) (queries_in input) ≡ Ok tt
   checks_done = sym (checks_are input (passed_carries input passed)) ∙ passed
 
 -- ---- a judge that answers as the one over bytes wherever there are lines
@@ -90,7 +88,7 @@ no_mark n e =
 module _ (judge : List ℕ → Verdict)
     (agrees : (input : List ℕ) → has_lines (judge input).answer ≡ true → judge input ≡ transcript_verdict input)
     (input : List ℕ) where
-  abbrev answer : Answer
+  abbrev answer : Outcome
   answer = (judge input).answer
 
   abbrev all_lines : List ℕ
@@ -100,12 +98,12 @@ module _ (judge : List ℕ → Verdict)
   record Shown : Type 0 where
     sheet : sheet_by judge input ≡ all_lines
     same : answer ≡ (transcript_verdict input).answer
-    passed : transcript_outcome input ≡ outcomes.Done
+    passed : transcript_outcome input ≡ Ok tt
 
   passed_by : (transcript_verdict input).answer ≡ answer → has_lines answer ≡ true → (outcome : Outcome)
-      → transcript_outcome input ≡ outcome → transcript_outcome input ≡ outcomes.Done
-  passed_by same e outcomes.Done o = o
-  passed_by same e (outcomes.Refused cause) o =
+      → transcript_outcome input ≡ outcome → transcript_outcome input ≡ Ok tt
+  passed_by same e (Ok tt) o = o
+  passed_by same e (Err cause) o =
       absurd (not_both (sym e ∙ sym (ap has_lines same) ∙ no_lines input cause o))
 
   shown_by : has_lines answer ≡ true → Shown
@@ -194,7 +192,7 @@ module _ (judge : List ℕ → Verdict)
 
   -- ---- what the marks tell
 
-  accepted : sheet_by judge input ≢ [] → AllOk (sheet_by judge input) ↔ (answer ≡ Accepted)
+  accepted : sheet_by judge input ≢ [] → AllOk (sheet_by judge input) ↔ (answer ≡ Ok tt)
   accepted some =
       let s = shown some in
       let both = marks.all_ok (fits s) in (
@@ -210,7 +208,7 @@ module _ (judge : List ℕ → Verdict)
   abbrev First : ℕ → ℕ → List ℕ → Type 0
   First t i sheet = FirstNo sheet (length (queries_in input)) (transcript_rounds input) t i
 
-  first_no : (t i : ℕ) → (answer ≡ Refused (RoundCheckFails t i)) ↔ First t i (sheet_by judge input)
+  first_no : (t i : ℕ) → (answer ≡ Err (RoundCheckFails t i)) ↔ First t i (sheet_by judge input)
   first_no t i = (
     λ e.
         let s = shown_by (ap has_lines e) in
@@ -278,8 +276,8 @@ nothing_longer : (input : List ℕ) → longest_transcript < length input → tr
 nothing_longer input h = by (transcript_outcome input) refl
   where
     by : (outcome : Outcome) → transcript_outcome input ≡ outcome → transcript_sheet input ≡ []
-    by outcomes.Done e = absurd (omega (arith, long_transcripts.longest input e))
-    by (outcomes.Refused cause) e = sheet_refused input cause e
+    by (Ok tt) e = absurd (omega (arith, long_transcripts.longest input e))
+    by (Err cause) e = sheet_refused input cause e
 
 pub sheets : Sheets
 sheets =

@@ -16,7 +16,7 @@ use Rattle.poly.proofs.AtField.{gf64_laws}
 use Rattle.poly.proofs.Entries.{all_get_d, all_take, all_drop}
 use Rattle.poly.proofs.Evaluation.{evaluate-element}
 use Rattle.poly.proofs.Interpolation.{interpolant-elements}
-use Rattle.refusal.specs.declared.Outcome.TheVariants.{Done}
+use Rattle.std.specs.Prelude.{Ok}
 use Rattle.coset.specs.Coset.{point}
 use Rattle.coset.proofs.Points.{all_tabulated, point-element}
 use Rattle.fold.specs.Fold.{coset_points, coset_entries, fold_entry}
@@ -75,7 +75,7 @@ module _ (run : Run) (v : ValidCoset run) (e : Elements run) (j i : ℕ) where
       (layer_basis-elements run v (suc i))))
 
 -- of bytes whose sections pass
-pub passed_elements : (bytes : List ℕ) → AreBytes bytes → transcript_outcome bytes ≡ Done → (j i : ℕ)
+pub passed_elements : (bytes : List ℕ) → AreBytes bytes → transcript_outcome bytes ≡ Ok tt → (j i : ℕ)
     → IsElement (value_computed (run_in bytes) j i) × IsElement (value_found (run_in bytes) j i)
 passed_elements bytes h done j i =
     (computed_element (run_in bytes) valid elements j i, found_element (run_in bytes) valid elements j i)
@@ -86,7 +86,7 @@ passed_elements bytes h done j i =
     elements : Elements (run_in bytes)
     elements = run_fits bytes h
 
-    run_done : run_outcome (run_in bytes) ≡ Done
+    run_done : run_outcome (run_in bytes) ≡ Ok tt
     run_done = (checks_valid (run_in bytes) (queries_in bytes) (sym (checks_are bytes c) ∙ done)).0
 
     valid : ValidCoset (run_in bytes)

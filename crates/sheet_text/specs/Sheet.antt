@@ -1,6 +1,6 @@
 -- The marking sheet of a transcript (02, Q-3), by its bytes: a line for every query and every round, without a header.
 use Rattle.std.specs.Prelude.{Bool, cond, ◌||◌, List, [], ◌∷◌, ◌++◌, ℕ, zero, suc, ◌*◌, ◌-◌, leb, eqb, length, drop, replicate}
-use Rattle.fri.specs.declared.Answer.{Answer}
+use Rattle.refusal.specs.Outcome.{Outcome}
 use Rattle.fri.specs.declared.Verdict.{Verdict}
 use Rattle.fri.specs.Run.{Run, rounds_in}
 use Rattle.fri.specs.Rounds.{value_computed, value_found}
@@ -57,7 +57,7 @@ sheet_lines run (j ∷ queries) query =
 -- ---- the sheet
 
 -- there are lines where the judge accepts (0) or a round check fails (11)
-abbrev pub has_lines : (answer : Answer) → Bool
+abbrev pub has_lines : (answer : Outcome) → Bool
 has_lines answer = eqb (number_of_answer answer) 0 || eqb (number_of_answer answer) 11
 
 -- the lines of the run that an input of bytes carries, or nothing, as a judge of it answers

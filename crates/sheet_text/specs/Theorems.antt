@@ -1,7 +1,7 @@
 -- What is proved of marking sheets, stated of their bytes: proofs/Theorems.antt has the values.
 use Rattle.std.specs.Prelude.{◌≡◌, ◌⊎◌, ◌↔◌, ◌≢◌, cond, List, [], ◌∷◌, ℕ, ◌+◌, ◌*◌, ◌-◌, ◌%◌, ◌^◌, ◌≤◌, ◌<◌, ltb, length, get_or, take, drop}
 use Rattle.refusal.specs.declared.Cause.TheVariants.{RoundCheckFails}
-use Rattle.fri.specs.declared.Answer.TheVariants.{Accepted, Refused}
+use Rattle.std.specs.Prelude.{Ok, Err}
 use Rattle.fri.specs.declared.Verdict.{Verdict}
 use Rattle.fri.specs.Rounds.{value_computed, value_found}
 use Rattle.fri.specs.Judge.{number_of_answer}
@@ -69,10 +69,10 @@ pub record SheetsBeside (judge : List ℕ → Verdict) : Type 0 where
   -- where there are lines, all are `ok` if and only if the judge accepts
   pub accepted : (input : List ℕ) → sheet_by judge input ≢ []
       → ((n : ℕ) → line_length * n < length (sheet_by judge input) → mark_at (sheet_by judge input) n ≡ bytes "ok")
-      ↔ ((judge input).answer ≡ Accepted)
+      ↔ ((judge input).answer ≡ Ok tt)
   -- the judge's 11 names the query and the round of the first `no`
   pub first_no : (input : List ℕ) (t i : ℕ)
-      → ((judge input).answer ≡ Refused (RoundCheckFails t i))
+      → ((judge input).answer ≡ Err (RoundCheckFails t i))
       ↔ ((t < length (queries_in input)) × (i < transcript_rounds input)
       × (mark_at (sheet_by judge input) (t * transcript_rounds input + i) ≡ bytes "no")
       × ((n : ℕ) → n < t * transcript_rounds input + i → mark_at (sheet_by judge input) n ≡ bytes "ok"))

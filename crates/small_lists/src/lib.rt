@@ -2,7 +2,6 @@
 #![tactic(auto)]
 
 ghost use Rattle.std.specs.Prelude.{◌≡◌, ◌^◌, ◌≤◌};
-ghost use Rattle.refusal.specs.declared.Outcome.TheVariants as outcomes;
 ghost use Rattle.poly.specs.Carrier.{gf64};
 ghost use Rattle.poly.specs.Polynomial.{padded};
 ghost use Rattle.transcript.specs.Numerals.{entries_at};
@@ -31,7 +30,7 @@ pub struct Lists {
 
 // The lists of a transcript whose sections pass and begin there.
 pub fn read(bytes: &[u8], sections: Sections) -> Lists
-    requires { (sections ≡ sections_in bytes.now) × (transcript_outcome bytes.now ≡ outcomes.Done) }
+    requires { (sections ≡ sections_in bytes.now) × (transcript_outcome bytes.now ≡ Ok tt) }
     ensures { result ≡ lists_in bytes.now }
 {
     let parameters = sections::parameters(bytes);

@@ -7,7 +7,7 @@ use native.Mathlib.Omega.{arith}
 use Rattle.gf64.specs.Field.{product}
 use Rattle.gf64.specs.Polynomial.{carryless, carryless_in, remainder, remainder_in, times_t}
 use Rattle.poly.specs.Polynomial.{evaluate, plus, scale, times_linear, vanishing_polynomial}
-use Rattle.refusal.specs.declared.Outcome.TheVariants.{Done}
+use Rattle.std.specs.Prelude.{Ok}
 use Rattle.coset.specs.Coset.{point, points, tabulated}
 use Rattle.coset.specs.Span.{in_span, first_dependent_after, first_dependent}
 use Rattle.coset.specs.Subspace.{next_offset, next_basis, image, subspace_polynomial}
@@ -28,12 +28,12 @@ use Rattle.table_a.proofs.Values.{f_value, h_value, k_first, k_second}
 
 -- ---- the sections
 
-pub passed_one : (last : ℕ) → transcript_outcome (one_round last) ≡ Done
+pub passed_one : (last : ℕ) → transcript_outcome (one_round last) ≡ Ok tt
 unfolding in_span first_dependent_after first_dependent dimension last_count first_outside among first_repeated_after
     first_shared little_endian count_at entry_at entries_at section_start layers_from
 passed_one last = refl
 
-pub passed_two : transcript_outcome two_rounds_bytes ≡ Done
+pub passed_two : transcript_outcome two_rounds_bytes ≡ Ok tt
 unfolding in_span first_dependent_after first_dependent dimension last_count first_outside among first_repeated_after
     first_shared little_endian count_at entry_at entries_at section_start layers_from
 passed_two = refl

@@ -13,8 +13,8 @@ use Rattle.gf64.proofs.Cases.{field_cases}
 use Rattle.poly.specs.Polynomial.{evaluate, plus, scale, times_linear, vanishing_polynomial}
 use Rattle.poly.specs.Degree.{degree_bound}
 use Rattle.refusal.specs.declared.Cause.TheVariants.{DegreeTooLarge}
-use Rattle.refusal.specs.declared.Outcome.{Outcome}
-use Rattle.refusal.specs.declared.Outcome.TheVariants.{Done}
+use Rattle.std.specs.Prelude.{Ok}
+use Rattle.refusal.specs.Outcome.{Outcome}
 use Rattle.refusal.specs.Checks.{refused_unless, and_then, afterwards}
 use Rattle.refusal.specs.Numbers.{number_of_outcome, place_of_outcome}
 use Rattle.coset.specs.Coset.{point, points, tabulated}
@@ -36,18 +36,18 @@ use Rattle.table_a.proofs.Values.{f_value, h_value, first_value, k_first, k_seco
 
 -- ---- the prover's answer, by layer r's interpolant
 
-module _ (run : Run) (p : List ℕ) (checked : run_outcome run ≡ Done) (last : last_interpolant run ≡ p) where
+module _ (run : Run) (p : List ℕ) (checked : run_outcome run ≡ Ok tt) (last : last_interpolant run ≡ p) where
   abbrev d : ℕ
   d = last_count run.k run.rate (steps_in run)
 
   abbrev by_degree : Outcome
-  by_degree = refused_unless (leb (degree_bound p) d) (DegreeTooLarge (degree_bound p - 1)) Done
+  by_degree = refused_unless (leb (degree_bound p) d) (DegreeTooLarge (degree_bound p - 1)) (Ok tt)
 
   answer_by : prove_outcome run ≡ by_degree
   answer_by =
       ap (λ (o : Outcome). and_then o (refused_unless (leb (degree_bound (last_interpolant run)) d)
-      (DegreeTooLarge (degree_bound (last_interpolant run) - 1)) Done)) checked
-      ∙ ap (λ (q : List ℕ). refused_unless (leb (degree_bound q) d) (DegreeTooLarge (degree_bound q - 1)) Done) last
+      (DegreeTooLarge (degree_bound (last_interpolant run) - 1)) (Ok tt))) checked
+      ∙ ap (λ (q : List ℕ). refused_unless (leb (degree_bound q) d) (DegreeTooLarge (degree_bound q - 1)) (Ok tt)) last
 
   last_by : last_after run ≡ afterwards by_degree (take d p) run.last
   unfolding honest_last
@@ -55,16 +55,16 @@ module _ (run : Run) (p : List ℕ) (checked : run_outcome run ≡ Done) (last :
       ap (λ (o : Outcome). afterwards o (honest_last run) run.last) answer_by
       ∙ ap (λ (q : List ℕ). afterwards by_degree (take d q) run.last) last
 
-store_by : (run : Run) (store : List ℕ) → run_outcome run ≡ Done → honest_store run ≡ store → store_after run ≡ store
+store_by : (run : Run) (store : List ℕ) → run_outcome run ≡ Ok tt → honest_store run ≡ store → store_after run ≡ store
 store_by run store checked e = ap (λ (o : Outcome). afterwards o (honest_store run) run.store) checked ∙ e
 
 -- ---- cases F, J and K: the checks and layer r's interpolant
 
-small_checked : (challenge a b c d last : ℕ) → run_outcome (small challenge (a ∷ b ∷ c ∷ d ∷ []) (last ∷ [])) ≡ Done
+small_checked : (challenge a b c d last : ℕ) → run_outcome (small challenge (a ∷ b ∷ c ∷ d ∷ []) (last ∷ [])) ≡ Ok tt
 unfolding in_span first_dependent_after first_dependent dimension last_count layer_start store_length
 small_checked challenge a b c d last = refl
 
-k_checked : run_outcome (two_rounds (0 ∷ 0 ∷ 0 ∷ 0 ∷ []) (0 ∷ [])) ≡ Done
+k_checked : run_outcome (two_rounds (0 ∷ 0 ∷ 0 ∷ 0 ∷ []) (0 ∷ [])) ≡ Ok tt
 unfolding in_span first_dependent_after first_dependent dimension last_count layer_start store_length
 k_checked = refl
 

@@ -5,8 +5,7 @@ use mathlib.Core.List.{List, [], ◌∷◌}
 use Prim.Native.Nat.{ℕ, zero, suc, ◌^◌, ◌≤◌, ◌<◌}
 use native.Mathlib.Omega.{arith}
 use lib.ListN.{length}
-use Rattle.refusal.specs.declared.Outcome.TheVariants.{Done}
-use Rattle.refusal.specs.declared.Position.TheVariants.{At, Absent}
+use Rattle.std.specs.Prelude.{Some, None, Ok}
 use Rattle.fri.specs.declared.Verdict.{Verdict}
 use Rattle.fri.specs.Layout.{dimension, last_count, layer_start, joined_layers, stored_layer}
 use Rattle.fri.specs.Run.{Run, layer_in}
@@ -122,7 +121,7 @@ verdict_is last run e =
 
 -- ---- the sheets
 
-sheet_is : (input : List ℕ) (run : Run) (queries : List ℕ) → transcript_outcome input ≡ Done
+sheet_is : (input : List ℕ) (run : Run) (queries : List ℕ) → transcript_outcome input ≡ Ok tt
     → length input ≤ input_limit → run_in input ≡ run → queries_in input ≡ queries
     → sheet_of input ≡ sheet_lines run queries 0
 sheet_is input run queries done short e f =
@@ -137,10 +136,10 @@ transcript_cases =
       written_k = written_k;
       size = refl;
       g =
-          subst (λ (v : Verdict). Tells v 0 Absent Absent 4)
+          subst (λ (v : Verdict). Tells v 0 None None 4)
           (sym (verdict_is 2 (small 4 (7 ∷ 4 ∷ 1 ∷ 2 ∷ []) (0xb ∷ [])) run_g)) table-a.g;
       h =
-          subst (λ (v : Verdict). Tells v 11 (At 1) (At 0) 4)
+          subst (λ (v : Verdict). Tells v 11 (Some 1) (Some 0) 4)
           (sym (verdict_is 3 (small 4 (7 ∷ 4 ∷ 1 ∷ 3 ∷ []) (0xb ∷ [])) run_h)) table-a.h;
       sheet_g =
           sheet_is (one_round 2) (small 4 (7 ∷ 4 ∷ 1 ∷ 2 ∷ []) (0xb ∷ [])) (0 ∷ 3 ∷ []) (passed_one 2) short_one run_g

@@ -1,8 +1,7 @@
 -- Table A of document 01: its starred cases, A to L, as one table. proofs/TableA.antt shows every row true of the
 -- definitions, by computation and by the laws of the fold.
 use Rattle.std.specs.Prelude.{◌≡◌, ◌↔◌, List, [], ◌∷◌, ℕ}
-use Rattle.refusal.specs.declared.Outcome.TheVariants.{Done}
-use Rattle.refusal.specs.declared.Position.TheVariants.{At, Absent}
+use Rattle.std.specs.Prelude.{Some, None, Ok}
 use Rattle.refusal.specs.Numbers.{number_of_outcome, place_of_outcome}
 use Rattle.gf64.specs.Field.{product, inverse}
 use Rattle.coset.specs.Subspace.{next_offset, next_basis}
@@ -55,28 +54,28 @@ pub record TableA : Type 0 where
   pub e : encoded 0 (1 ∷ 2 ∷ []) (7 ∷ 3 ∷ []) ≡ 7 ∷ 4 ∷ 1 ∷ 2 ∷ []
   pub e_back : interpolated 0 (1 ∷ 2 ∷ []) (7 ∷ 4 ∷ 1 ∷ 2 ∷ []) ≡ 7 ∷ 3 ∷ 0 ∷ 0 ∷ []
   -- F: the prover leaves coefficient b
-  pub f : prove_outcome (small 4 (7 ∷ 4 ∷ 1 ∷ 2 ∷ []) (0 ∷ [])) ≡ Done
+  pub f : prove_outcome (small 4 (7 ∷ 4 ∷ 1 ∷ 2 ∷ []) (0 ∷ [])) ≡ Ok tt
   pub f_last : last_after (small 4 (7 ∷ 4 ∷ 1 ∷ 2 ∷ []) (0 ∷ [])) ≡ 0xb ∷ []
   -- G: accepted, 4 reads
-  pub g : Tells (verdict_of (small 4 (7 ∷ 4 ∷ 1 ∷ 2 ∷ []) (0xb ∷ [])) (0 ∷ 3 ∷ [])) 0 Absent Absent 4
+  pub g : Tells (verdict_of (small 4 (7 ∷ 4 ∷ 1 ∷ 2 ∷ []) (0xb ∷ [])) (0 ∷ 3 ∷ [])) 0 None None 4
   -- H: entry 3 made 3: refused 11, query 1, round 0, 4 reads
-  pub h : Tells (verdict_of (small 4 (7 ∷ 4 ∷ 1 ∷ 3 ∷ []) (0xb ∷ [])) (0 ∷ 3 ∷ [])) 11 (At 1) (At 0) 4
+  pub h : Tells (verdict_of (small 4 (7 ∷ 4 ∷ 1 ∷ 3 ∷ []) (0xb ∷ [])) (0 ∷ 3 ∷ [])) 11 (Some 1) (Some 0) 4
   -- I: only query 0: accepted, 2 reads
-  pub i : Tells (verdict_of (small 4 (7 ∷ 4 ∷ 1 ∷ 3 ∷ []) (0xb ∷ [])) (0 ∷ [])) 0 Absent Absent 2
+  pub i : Tells (verdict_of (small 4 (7 ∷ 4 ∷ 1 ∷ 3 ∷ []) (0xb ∷ [])) (0 ∷ [])) 0 None None 2
   -- J: challenge 4 gives 12, degree 1, and leaves the coefficient list; challenge 2 gives coefficient 0;
   -- the exceptional set is 2 alone
   pub j_number : number_of_outcome (prove_outcome (small 4 (0 ∷ 0 ∷ 0 ∷ 1 ∷ []) (7 ∷ []))) ≡ 12
-  pub j_degree : place_of_outcome (prove_outcome (small 4 (0 ∷ 0 ∷ 0 ∷ 1 ∷ []) (7 ∷ []))) ≡ At 1
+  pub j_degree : place_of_outcome (prove_outcome (small 4 (0 ∷ 0 ∷ 0 ∷ 1 ∷ []) (7 ∷ []))) ≡ Some 1
   pub j_store : store_after (small 4 (0 ∷ 0 ∷ 0 ∷ 1 ∷ []) (7 ∷ [])) ≡ []
   pub j_left : last_after (small 4 (0 ∷ 0 ∷ 0 ∷ 1 ∷ []) (7 ∷ [])) ≡ 7 ∷ []
-  pub j_at_2 : prove_outcome (small 2 (0 ∷ 0 ∷ 0 ∷ 1 ∷ []) (7 ∷ [])) ≡ Done
+  pub j_at_2 : prove_outcome (small 2 (0 ∷ 0 ∷ 0 ∷ 1 ∷ []) (7 ∷ [])) ≡ Ok tt
   pub j_last : last_after (small 2 (0 ∷ 0 ∷ 0 ∷ 1 ∷ []) (7 ∷ [])) ≡ 0 ∷ []
   pub j_set : (x : ℕ) → Exceptional 1 1 0 (1 ∷ 2 ∷ []) (0 ∷ 0 ∷ 0 ∷ 1 ∷ []) x ↔ (x ≡ 2)
   -- K: layer 1, the coefficient, and query 5 with 4 reads
-  pub k : prove_outcome (two_rounds (0 ∷ 0 ∷ 0 ∷ 0 ∷ []) (0 ∷ [])) ≡ Done
+  pub k : prove_outcome (two_rounds (0 ∷ 0 ∷ 0 ∷ 0 ∷ []) (0 ∷ [])) ≡ Ok tt
   pub k_layer : store_after (two_rounds (0 ∷ 0 ∷ 0 ∷ 0 ∷ []) (0 ∷ [])) ≡ 2 ∷ 4 ∷ 0x16 ∷ 0x10 ∷ []
   pub k_last : last_after (two_rounds (0 ∷ 0 ∷ 0 ∷ 0 ∷ []) (0 ∷ [])) ≡ 1 ∷ []
-  pub k_query : Tells (verdict_of (two_rounds (2 ∷ 4 ∷ 0x16 ∷ 0x10 ∷ []) (1 ∷ [])) (5 ∷ [])) 0 Absent Absent 4
+  pub k_query : Tells (verdict_of (two_rounds (2 ∷ 4 ∷ 0x16 ∷ 0x10 ∷ []) (1 ∷ [])) (5 ∷ [])) 0 None None 4
   -- L: layer 1's entry 0 made 3: query 0 gives 11, round 0, 4 reads; query 7 is accepted
-  pub l : Tells (verdict_of (two_rounds (3 ∷ 4 ∷ 0x16 ∷ 0x10 ∷ []) (1 ∷ [])) (0 ∷ [])) 11 (At 0) (At 0) 4
-  pub l_query : Tells (verdict_of (two_rounds (3 ∷ 4 ∷ 0x16 ∷ 0x10 ∷ []) (1 ∷ [])) (7 ∷ [])) 0 Absent Absent 4
+  pub l : Tells (verdict_of (two_rounds (3 ∷ 4 ∷ 0x16 ∷ 0x10 ∷ []) (1 ∷ [])) (0 ∷ [])) 11 (Some 0) (Some 0) 4
+  pub l_query : Tells (verdict_of (two_rounds (3 ∷ 4 ∷ 0x16 ∷ 0x10 ∷ []) (1 ∷ [])) (7 ∷ [])) 0 None None 4

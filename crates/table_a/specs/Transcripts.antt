@@ -1,6 +1,6 @@
 -- Cases G, H and K as transcripts and their marking sheets, byte by byte.
 use Rattle.std.specs.Prelude.{◌≡◌, List, [], ◌∷◌, ◌++◌, ℕ, length}
-use Rattle.refusal.specs.declared.Position.TheVariants.{At, Absent}
+use Rattle.std.specs.Prelude.{Some, None}
 use Rattle.fri.specs.Theorems.{Tells}
 use Rattle.transcript.specs.Judge.{input_verdict}
 use Rattle.line_text.specs.Digits.{bytes}
@@ -38,8 +38,8 @@ pub record TranscriptCases : Type 0 where
   pub written_h : transcript_of (small 4 (7 ∷ 4 ∷ 1 ∷ 3 ∷ []) (0xb ∷ [])) (0 ∷ 3 ∷ []) ≡ one_round 3
   pub written_k : transcript_of (two_rounds (2 ∷ 4 ∷ 0x16 ∷ 0x10 ∷ []) (1 ∷ [])) (5 ∷ []) ≡ two_rounds_bytes
   pub size : length (one_round 2) ≡ 136
-  pub g : Tells (input_verdict (one_round 2)) 0 Absent Absent 4
-  pub h : Tells (input_verdict (one_round 3)) 11 (At 1) (At 0) 4
+  pub g : Tells (input_verdict (one_round 2)) 0 None None 4
+  pub h : Tells (input_verdict (one_round 3)) 11 (Some 1) (Some 0) 4
   -- the sheets: in case H query 1 computes d where the last polynomial has b
   pub sheet_g : sheet_of (one_round 2)
       ≡ bytes "    0        0   0 000000000000000b 000000000000000b ok\n"

@@ -10,8 +10,8 @@ use lib.ListN.{length, length-drop}
 use borrow.Author.Tests.{eq-eqb}
 use Rattle.refusal.specs.declared.Cause.{Cause}
 use Rattle.refusal.specs.declared.Cause.TheVariants.{TrailingBytes, QueryCountOutOfRange}
-use Rattle.refusal.specs.declared.Outcome.{Outcome}
-use Rattle.refusal.specs.declared.Outcome.TheVariants.{Done, Refused}
+use Rattle.std.specs.Prelude.{Ok, Err}
+use Rattle.refusal.specs.Outcome.{Outcome}
 use Rattle.refusal.specs.Checks.{refused_unless, and_then}
 use Rattle.refusal.proofs.Checks.{equal_of_test, passed_by, unless_done, then_passed, then_done}
 use Rattle.coset.specs.Answers.{basis_outcome}
@@ -36,13 +36,13 @@ use Rattle.transcript.proofs.Checks.{section_tested, due_passes, due_done, param
 use Rattle.transcript.proofs.Checks.{layers_done}
 
 test_then : (test : Bool) (cause : Cause) (after : Outcome)
-    → and_then (refused_unless test cause Done) after ≡ refused_unless test cause after
+    → and_then (refused_unless test cause (Ok tt)) after ≡ refused_unless test cause after
 test_then true cause after = refl
 test_then false cause after = refl
 
-then_nothing : (o : Outcome) → and_then o Done ≡ o
-then_nothing Done = refl
-then_nothing (Refused cause) = refl
+then_nothing : (o : Outcome) → and_then o (Ok tt) ≡ o
+then_nothing (Ok tt) = refl
+then_nothing (Err cause) = refl
 
 module _ (bytes : List ℕ) where
   abbrev r : ℕ
@@ -52,7 +52,7 @@ module _ (bytes : List ℕ) where
   last_due = last_count (transcript_k bytes) (transcript_rate bytes) (transcript_steps bytes)
 
   abbrev end : Outcome
-  end = refused_unless (eqb (section_start bytes (suc (layer_section r))) (length bytes)) TrailingBytes Done
+  end = refused_unless (eqb (section_start bytes (suc (layer_section r))) (length bytes)) TrailingBytes (Ok tt)
 
   abbrev layer : ℕ → List ℕ
   layer i = section_entries bytes (layer_section i)
@@ -130,7 +130,7 @@ module _ (bytes : List ℕ) where
 
     -- ---- the checks
 
-    parameters-section : parameters_section bytes ≡ Done
+    parameters-section : parameters_section bytes ≡ Ok tt
     parameters-section =
         sym (then_passed (due_outcome bytes 1 3)
         (parameters_outcome (transcript_k bytes) (transcript_rate bytes) (transcript_step bytes))
@@ -143,7 +143,7 @@ module _ (bytes : List ℕ) where
         (due_passes bytes 2 (transcript_k bytes + 1) (omega arith) c.coset_count
         (inside 2 (omega arith) (omega arith))))
 
-    challenges-section : challenges_section bytes ≡ Done
+    challenges-section : challenges_section bytes ≡ Ok tt
     challenges-section = due_passes bytes 3 r (omega arith) c.challenges_count (inside 3 (omega arith) (omega arith))
 
     front_is : front_outcome bytes ≡ and_then (basis_outcome (run_in bytes).basis) of_queries
@@ -153,7 +153,7 @@ module _ (bytes : List ℕ) where
         (sym (then_passed (challenges_section bytes) (queries_section bytes) challenges-section)
         ∙ queries-section (inside 4 (omega arith) (omega arith)))
 
-    layers_pass_all : layers_outcome bytes ≡ Done
+    layers_pass_all : layers_outcome bytes ≡ Ok tt
     layers_pass_all =
         sym (then_passed (layers_from bytes 0 r) (end_outcome bytes)
         (layers_pass bytes 0 r r (omega arith)
@@ -162,7 +162,7 @@ module _ (bytes : List ℕ) where
         ∙ sym (then_passed (due_outcome bytes (layer_section r) last_due) end
         (due_passes bytes (layer_section r) last_due (omega arith) c.last-count
         (inside (layer_section r) (omega arith) (omega arith))))
-        ∙ sym (passed_by (eqb (section_start bytes (suc (layer_section r))) (length bytes)) TrailingBytes Done
+        ∙ sym (passed_by (eqb (section_start bytes (suc (layer_section r))) (length bytes)) TrailingBytes (Ok tt)
         (eq-eqb (section_start bytes (suc (layer_section r))) (length bytes) c.ends))
 
     -- the checks of sections 1 to 4 are those of the lists
@@ -184,7 +184,7 @@ module _ (bytes : List ℕ) where
 
   -- ---- bytes that pass carry lists
 
-  pub passed_carries : transcript_outcome bytes ≡ Done → Carries bytes
+  pub passed_carries : transcript_outcome bytes ≡ Ok tt → Carries bytes
   passed_carries done =
       let both = then_done (front_outcome bytes) (layers_outcome bytes) done in
       let first = then_done (parameters_section bytes) (lists_outcome bytes) both.0 in
@@ -208,11 +208,11 @@ module _ (bytes : List ℕ) where
         ends =
             equal_of_test (section_start bytes (suc (layer_section r))) (length bytes)
             (unless_done (eqb (section_start bytes (suc (layer_section r))) (length bytes))
-            TrailingBytes Done last.1).0;
+            TrailingBytes (Ok tt) last.1).0;
       }
 
   -- and 1 to 256 queries
-  pub queries_few : transcript_outcome bytes ≡ Done → section_count bytes 4 ≤ 256
+  pub queries_few : transcript_outcome bytes ≡ Ok tt → section_count bytes 4 ≤ 256
   queries_few done =
       let carries = passed_carries done in
       let queries = (then_done (run_outcome (run_in bytes)) of_queries (sym (checks_are carries) ∙ done)).1 in

@@ -13,8 +13,8 @@ use lib.Seq.{take-append-le, drop-append-le}
 use borrow.Author.Tests.{ne_eqb}
 use Rattle.refusal.specs.declared.Cause.{Cause}
 use Rattle.refusal.specs.declared.Cause.TheVariants.{CountDiffers, TrailingBytes, QueryCountOutOfRange}
-use Rattle.refusal.specs.declared.Outcome.{Outcome}
-use Rattle.refusal.specs.declared.Outcome.TheVariants.{Done, Refused}
+use Rattle.std.specs.Prelude.{Ok, Err}
+use Rattle.refusal.specs.Outcome.{Outcome}
 use Rattle.refusal.specs.Checks.{refused_unless, and_then}
 use Rattle.refusal.proofs.Checks.{equal_of_test, then_done, unless_done, within_of}
 use Rattle.coset.specs.Answers.{basis_outcome}
@@ -33,12 +33,12 @@ use Rattle.transcript.proofs.Positions as at
 
 -- ---- checks one after the other
 
-then_same : {o o' : Outcome} (a a' : Outcome) → o ≡ o' → (o' ≡ Done → a ≡ a') → and_then o a ≡ and_then o' a'
+then_same : {o o' : Outcome} (a a' : Outcome) → o ≡ o' → (o' ≡ Ok tt → a ≡ a') → and_then o a ≡ and_then o' a'
 then_same {o} {o'} a a' e h = ap (λ (x : Outcome). and_then x a) e ∙ by o' refl
   where
     by : (x : Outcome) → o' ≡ x → and_then o' a ≡ and_then o' a'
-    by Done d = ap (λ (x : Outcome). and_then x a) d ∙ h d ∙ sym (ap (λ (x : Outcome). and_then x a') d)
-    by (Refused cause) d = ap (λ (x : Outcome). and_then x a) d ∙ sym (ap (λ (x : Outcome). and_then x a') d)
+    by (Ok tt) d = ap (λ (x : Outcome). and_then x a) d ∙ h d ∙ sym (ap (λ (x : Outcome). and_then x a') d)
+    by (Err cause) d = ap (λ (x : Outcome). and_then x a) d ∙ sym (ap (λ (x : Outcome). and_then x a') d)
 
 module _ (front rest : List ℕ) where
   abbrev whole : List ℕ
@@ -86,7 +86,7 @@ module _ (front rest : List ℕ) where
         ≡ section_outcome front s (test (section_count front s)) cause
     section_same cause test few =
         section_counted whole s most cause test least few (omega (arith, same, longer))
-        ∙ ap (λ (n : ℕ). refused_unless (test n) cause Done) count_is
+        ∙ ap (λ (n : ℕ). refused_unless (test n) cause (Ok tt)) count_is
         ∙ sym (section_counted front s most cause test least few early)
 
     due_same : due_outcome whole s most ≡ due_outcome front s most
@@ -101,7 +101,7 @@ module _ (front rest : List ℕ) where
     early1 : section_start front 1 + 4 + 8 * 3 ≤ length front
     early1 = omega (arith, first_start front)
 
-    entries1 : due_outcome front 1 3 ≡ Done → section_entries whole 1 ≡ section_entries front 1
+    entries1 : due_outcome front 1 3 ≡ Ok tt → section_entries whole 1 ≡ section_entries front 1
     entries1 d = entries_are 1 3 (omega arith) start1 early1 (omega (arith, (due_done front 1 3 d).0))
 
     abbrev ranges : List ℕ → Outcome
@@ -110,9 +110,9 @@ module _ (front rest : List ℕ) where
     first_same : parameters_section whole ≡ parameters_section front
     first_same =
         then_same (ranges (section_entries whole 1)) (ranges (section_entries front 1))
-        (due_same 1 3 (omega arith) start1 early1) (λ (d : due_outcome front 1 3 ≡ Done). ap ranges (entries1 d))
+        (due_same 1 3 (omega arith) start1 early1) (λ (d : due_outcome front 1 3 ≡ Ok tt). ap ranges (entries1 d))
 
-    module _ (one : parameters_section front ≡ Done) where
+    module _ (one : parameters_section front ≡ Ok tt) where
       abbrev k : ℕ
       k = transcript_k front
 
@@ -122,7 +122,7 @@ module _ (front rest : List ℕ) where
       abbrev steps-of : List ℕ → List ℕ
       steps-of l = steps_of (get_or l 0 0) (get_or l 1 0) (get_or l 2 0)
 
-      three : due_outcome front 1 3 ≡ Done
+      three : due_outcome front 1 3 ≡ Ok tt
       three = (then_done (due_outcome front 1 3) (ranges (section_entries front 1)) one).0
 
       -- what is said by section 1 is said of both
@@ -143,12 +143,12 @@ module _ (front rest : List ℕ) where
       second_same =
           then_same (basis (section_entries whole 2)) (basis (section_entries front 2))
           (by_parameters (λ l. due_outcome whole 2 (get_or l 0 0 + 1)) ∙ due_same 2 (k + 1) (omega arith) start2 early2)
-          (λ (d : due_outcome front 2 (k + 1) ≡ Done).
+          (λ (d : due_outcome front 2 (k + 1) ≡ Ok tt).
           ap basis
           (entries_are 2 (k + 1) (omega arith) start2 early2 (omega (arith, (due_done front 2 (k + 1) d).0))))
 
-      module _ (two : coset_section front ≡ Done) where
-        coset_there : due_outcome front 2 (k + 1) ≡ Done
+      module _ (two : coset_section front ≡ Ok tt) where
+        coset_there : due_outcome front 2 (k + 1) ≡ Ok tt
         coset_there =
             (then_done (due_outcome front 2 (k + 1)) (basis (section_entries front 2)) two).0
 
@@ -163,7 +163,7 @@ module _ (front rest : List ℕ) where
         third_same =
             by_parameters (λ l. due_outcome whole 3 (length (steps-of l))) ∙ due_same 3 r (omega arith) start3 early3
 
-        module _ (challenges-there : challenges_section front ≡ Done) where
+        module _ (challenges-there : challenges_section front ≡ Ok tt) where
           -- section 4
           start4 : section_start whole 4 ≡ section_start front 4
           start4 = next_same 3 r (omega arith) start3 early3
@@ -185,7 +185,7 @@ module _ (front rest : List ℕ) where
               then_same (indices (section_entries whole 1) (section_entries whole 4))
               (indices (section_entries front 1) (section_entries front 4))
               (section_same 4 256 (omega arith) start4 early4 QueryCountOutOfRange counted few4)
-              (λ (d : section_outcome front 4 (counted (section_count front 4)) QueryCountOutOfRange ≡ Done).
+              (λ (d : section_outcome front 4 (counted (section_count front 4)) QueryCountOutOfRange ≡ Ok tt).
               ap₂ indices (entries1 three)
               (entries_are 4 256 (omega arith) start4 early4
               (few4 (section_count front 4)
@@ -198,12 +198,12 @@ module _ (front rest : List ℕ) where
     pub front_alone : front_outcome whole ≡ front_outcome front
     front_alone =
         then_same (lists_outcome whole) (lists_outcome front) first_same
-        (λ (one : parameters_section front ≡ Done).
+        (λ (one : parameters_section front ≡ Ok tt).
         then_same (and_then (challenges_section whole) (queries_section whole))
         (and_then (challenges_section front) (queries_section front)) (second_same one)
-        (λ (two : coset_section front ≡ Done).
+        (λ (two : coset_section front ≡ Ok tt).
         then_same (queries_section whole) (queries_section front) (third_same one two)
-        (λ (challenges : challenges_section front ≡ Done). fourth_same one two challenges)))
+        (λ (challenges : challenges_section front ≡ Ok tt). fourth_same one two challenges)))
 
   -- ---- the layers and the last coefficients of a front that is longer than every transcript
 
@@ -211,11 +211,11 @@ module _ (front rest : List ℕ) where
     front_enough : longest_front ≤ length front
     front_enough = omega arith
 
-    module _ (done : front_outcome front ≡ Done) where
-      one : parameters_section front ≡ Done
+    module _ (done : front_outcome front ≡ Ok tt) where
+      one : parameters_section front ≡ Ok tt
       one = (then_done (parameters_section front) (lists_outcome front) done).0
 
-      lists : lists_outcome front ≡ Done
+      lists : lists_outcome front ≡ Ok tt
       lists = (then_done (parameters_section front) (lists_outcome front) done).1
 
       abbrev rounds : ℕ
@@ -237,11 +237,11 @@ module _ (front rest : List ℕ) where
 
       -- the layers before layer i passed
       abbrev Before : ℕ → Type 0
-      Before i = (j : ℕ) → j < i → due_outcome front (layer_section j) (size j) ≡ Done
+      Before i = (j : ℕ) → j < i → due_outcome front (layer_section j) (size j) ≡ Ok tt
 
-      before_next : (i : ℕ) → Before i → due_outcome front (layer_section i) (size i) ≡ Done → Before (suc i)
+      before_next : (i : ℕ) → Before i → due_outcome front (layer_section i) (size i) ≡ Ok tt → Before (suc i)
       before_next i before d j h =
-          ⊎_elim (λ (e : j ≡ i). subst (λ (n : ℕ). due_outcome front (layer_section n) (size n) ≡ Done) (sym e) d)
+          ⊎_elim (λ (e : j ≡ i). subst (λ (n : ℕ). due_outcome front (layer_section n) (size n) ≡ Ok tt) (sym e) d)
           (λ (l : j < i). before j l) (eq-or-lt_of_le (le_of_suc-le-suc h))
 
       early_layer : (i : ℕ) → i < rounds → Before i
@@ -268,7 +268,7 @@ module _ (front rest : List ℕ) where
           (λ l. due_outcome whole (layer_section i) (2 ^ dimension (get_or l 0 0) (steps-of front_enough one l) i))
           ∙ due_same (layer_section i) (size i) (omega arith) (same_layer i (omega arith) before)
           (early_layer i (omega arith) before))
-          (λ (d : due_outcome front (layer_section i) (size i) ≡ Done).
+          (λ (d : due_outcome front (layer_section i) (size i) ≡ Ok tt).
           layers_same (suc i) left (omega arith) (before_next i before d))
 
       module _ (before : Before rounds) where
@@ -283,22 +283,22 @@ module _ (front rest : List ℕ) where
         end bytes = section_start bytes (suc (layer_section rounds))
 
         trailing : (bytes : List ℕ) → end bytes ≢ length bytes
-            → refused_unless (eqb (end bytes) (length bytes)) TrailingBytes Done ≡ Refused TrailingBytes
+            → refused_unless (eqb (end bytes) (length bytes)) TrailingBytes (Ok tt) ≡ Err TrailingBytes
         trailing bytes h =
-            ap (λ (t : Bool). refused_unless t TrailingBytes Done) (ne_eqb (end bytes) (length bytes) h)
+            ap (λ (t : Bool). refused_unless t TrailingBytes (Ok tt)) (ne_eqb (end bytes) (length bytes) h)
 
         end_same : end_outcome whole ≡ end_outcome front
         end_same =
             then_same
             (refused_unless (eqb (section_start whole (suc (layer_section (transcript_rounds whole)))) (length whole))
-            TrailingBytes Done)
-            (refused_unless (eqb (end front) (length front)) TrailingBytes Done)
+            TrailingBytes (Ok tt))
+            (refused_unless (eqb (end front) (length front)) TrailingBytes (Ok tt))
             (by_parameters front_enough one
             (λ l.
             due_outcome whole (layer_section (length (steps-of front_enough one l)))
             (last_count (get_or l 0 0) (get_or l 1 0) (steps-of front_enough one l)))
             ∙ due_same (layer_section rounds) last (omega arith) same-last early_last)
-            (λ (d : due_outcome front (layer_section rounds) last ≡ Done).
+            (λ (d : due_outcome front (layer_section rounds) last ≡ Ok tt).
             let ends = start_next front (layer_section rounds) (omega arith) in
             let count = (due_done front (layer_section rounds) last d).0 in
             let most = at.last_within front one five before in
@@ -307,7 +307,7 @@ module _ (front rest : List ℕ) where
             (λ l.
             refused_unless
             (eqb (section_start whole (suc (layer_section (length (steps-of front_enough one l))))) (length whole))
-            TrailingBytes Done)
+            TrailingBytes (Ok tt))
             ∙ trailing whole (omega (arith, next, ends, count, most, longer))
             ∙ sym (trailing front (omega (arith, ends, count, most))))
 
@@ -316,18 +316,18 @@ module _ (front rest : List ℕ) where
           then_same (end_outcome whole) (end_outcome front)
           (by_parameters front_enough one (λ l. layers_from whole 0 (length (steps-of front_enough one l)))
           ∙ layers_same 0 rounds (omega arith) (λ j h. absurd (omega arith)))
-          (λ (d : layers_from front 0 rounds ≡ Done).
+          (λ (d : layers_from front 0 rounds ≡ Ok tt).
           end_same (λ j h. layers_done front 0 rounds rounds (omega arith) d j (omega arith) h))
 
     -- bytes after the front decide nothing
     pub transcript_alone : transcript_outcome whole ≡ transcript_outcome front
     transcript_alone =
         then_same (layers_outcome whole) (layers_outcome front) (front_alone front_enough)
-        (λ (done : front_outcome front ≡ Done). layers_alone done)
+        (λ (done : front_outcome front ≡ Ok tt). layers_alone done)
 
 -- ---- the longest transcript
 
-pub longest : (bytes : List ℕ) → transcript_outcome bytes ≡ Done → length bytes ≤ longest_transcript
+pub longest : (bytes : List ℕ) → transcript_outcome bytes ≡ Ok tt → length bytes ≤ longest_transcript
 longest bytes done =
     let both = then_done (front_outcome bytes) (layers_outcome bytes) done in
     let front = then_done (parameters_section bytes) (lists_outcome bytes) both.0 in
@@ -335,13 +335,13 @@ longest bytes done =
     let layers = then_done (layers_from bytes 0 r) (end_outcome bytes) both.1 in
     let ends = eqb (section_start bytes (suc (layer_section r))) (length bytes) in
     let last = at.last bytes front.0 in
-    let end = then_done (due_outcome bytes (layer_section r) last) (refused_unless ends TrailingBytes Done) layers.1 in
+    let end = then_done (due_outcome bytes (layer_section r) last) (refused_unless ends TrailingBytes (Ok tt)) layers.1 in
     omega (
       arith,
       start_next bytes (layer_section r) (omega arith),
       (due_done bytes (layer_section r) last end.0).0,
       equal_of_test (section_start bytes (suc (layer_section r))) (length bytes)
-          (unless_done ends TrailingBytes Done end.1).0,
+          (unless_done ends TrailingBytes (Ok tt) end.1).0,
       at.last_within bytes front.0 (at.front_within bytes front.0 front.1)
           (λ j h. layers_done bytes 0 r r (omega arith) layers.0 j (omega arith) h),
     )

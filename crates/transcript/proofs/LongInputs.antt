@@ -13,15 +13,12 @@ use Rattle.poly.proofs.Entries.{of_first}
 use Rattle.refusal.specs.declared.Cause.{Cause}
 use Rattle.refusal.specs.declared.Cause.TheVariants.{BytesEnd, CountDiffers, TrailingBytes, DimensionOutOfRange}
 use Rattle.refusal.specs.declared.Cause.TheVariants.{InputTooLong}
-use Rattle.refusal.specs.declared.Outcome.{Outcome}
-use Rattle.refusal.specs.declared.Outcome.TheVariants.{Done, Refused}
-use Rattle.refusal.specs.declared.Position.TheVariants.{At, Absent}
+use Rattle.std.specs.Prelude.{Some, None, Ok, Err}
+use Rattle.refusal.specs.Outcome.{Outcome}
 use Rattle.refusal.specs.Checks.{and_then}
 use Rattle.refusal.specs.Numbers.{number_of, number_of_outcome}
 use Rattle.refusal.proofs.Checks.{refused_not_done, then_passed, then_refused, then_done, holds_after, number_then}
 use Rattle.refusal.proofs.Theorems.{never_zero}
-use Rattle.fri.specs.declared.Answer.{Answer}
-use Rattle.fri.specs.declared.Answer.TheVariants as answers
 use Rattle.fri.specs.declared.Verdict.{Verdict}
 use Rattle.fri.specs.Checks.{parameters_outcome}
 use Rattle.fri.specs.Rounds.{rounds_outcome}
@@ -48,30 +45,30 @@ use Rattle.transcript.proofs.Theorems.{refused_verdict, short, long}
 -- ---- sections 1 to 4
 
 abbrev InFront : Outcome → Type 0
-InFront o = (o ≡ Done) ⊎ RefusedInFront (answer_of o)
+InFront o = (o ≡ Ok tt) ⊎ RefusedInFront (answer_of o)
 
 by_value : (o : Outcome) → ValueNumber (number_of_outcome o) → InFront o
-by_value Done v = inl refl
-by_value (Refused cause) (inl none) = absurd (never_zero cause none)
-by_value (Refused cause) (inr some) = inr (inr some)
+by_value (Ok tt) v = inl refl
+by_value (Err cause) (inl none) = absurd (never_zero cause none)
+by_value (Err cause) (inr some) = inr (inr some)
 
 -- none of them is cut off
-front_refused : (bytes : List ℕ) (cause : Cause) → longest_front ≤ length bytes → front_outcome bytes ≡ Refused cause
-    → RefusedInFront (answers.Refused cause)
+front_refused : (bytes : List ℕ) (cause : Cause) → longest_front ≤ length bytes → front_outcome bytes ≡ Err cause
+    → RefusedInFront (Err cause)
 front_refused bytes cause enough e =
-    ⊎_elim (λ (passed : Refused cause ≡ Done). absurd (refused_not_done cause passed))
-    (λ (given : RefusedInFront (answers.Refused cause)). given)
+    ⊎_elim (λ (passed : Err cause ≡ Ok tt). absurd (refused_not_done cause passed))
+    (λ (given : RefusedInFront (Err cause)). given)
     (subst InFront e (whole_front_holds InFront by_value (λ s h. inr (inl (s, h, refl))) bytes enough))
 
-number-of : (answer : Answer) → RefusedInFront answer → FrontNumber (number_of_answer answer)
+number-of : (answer : Outcome) → RefusedInFront answer → FrontNumber (number_of_answer answer)
 number-of answer (inl (section, h, is)) = inl (ap number_of_answer is)
 number-of answer (inr some) = inr some
 
-front_number : (bytes : List ℕ) (cause : Cause) → longest_front ≤ length bytes → front_outcome bytes ≡ Refused cause
+front_number : (bytes : List ℕ) (cause : Cause) → longest_front ≤ length bytes → front_outcome bytes ≡ Err cause
     → FrontNumber (number_of cause)
-front_number bytes cause enough e = number-of (answers.Refused cause) (front_refused bytes cause enough e)
+front_number bytes cause enough e = number-of (Err cause) (front_refused bytes cause enough e)
 
-front_ends : (bytes : List ℕ) → front_outcome bytes ≡ Done → section_start bytes 5 ≤ longest_front
+front_ends : (bytes : List ℕ) → front_outcome bytes ≡ Ok tt → section_start bytes 5 ≤ longest_front
 front_ends bytes done =
     let both = then_done (parameters_section bytes) (lists_outcome bytes) done in front_within bytes both.0 both.1
 
@@ -95,27 +92,27 @@ never n (inl (inr (inr seventeen))) = (λ e. omega arith, λ e. omega arith, λ 
 never n (inr fourteen) = (λ e. omega arith, λ e. omega arith, λ e. omega arith, λ e. omega arith)
 
 -- the answer, by what sections 1 to 4 come to
-pub long_refused : (bytes : List ℕ) (cause : Cause) → front_outcome bytes ≡ Refused cause
-    → long_verdict bytes ≡ record { answer = answers.Refused cause; reads = 0 }
+pub long_refused : (bytes : List ℕ) (cause : Cause) → front_outcome bytes ≡ Err cause
+    → long_verdict bytes ≡ record { answer = Err cause; reads = 0 }
 long_refused bytes cause e = simp e
 
-pub long_passed : (bytes : List ℕ) → front_outcome bytes ≡ Done
-    → long_verdict bytes ≡ record { answer = answers.Refused InputTooLong; reads = 0 }
+pub long_passed : (bytes : List ℕ) → front_outcome bytes ≡ Ok tt
+    → long_verdict bytes ≡ record { answer = Err InputTooLong; reads = 0 }
 long_passed bytes e = simp e
 
-refused : (bytes : List ℕ) (cause : Cause) → input_limit < length bytes → front_outcome bytes ≡ Refused cause
-    → (input_verdict bytes ≡ record { answer = answers.Refused cause; reads = 0 })
+refused : (bytes : List ℕ) (cause : Cause) → input_limit < length bytes → front_outcome bytes ≡ Err cause
+    → (input_verdict bytes ≡ record { answer = Err cause; reads = 0 })
     × (input_verdict bytes ≡ transcript_verdict bytes)
 refused bytes cause h e =
-    let told : input_verdict bytes ≡ record { answer = answers.Refused cause; reads = 0 } =
+    let told : input_verdict bytes ≡ record { answer = Err cause; reads = 0 } =
     long bytes h ∙ long_refused bytes cause e in (
       told,
       told
           ∙ sym (refused_verdict bytes cause (sym (then_refused (front_outcome bytes) (layers_outcome bytes) cause e))),
     )
 
-passed : (bytes : List ℕ) → input_limit < length bytes → front_outcome bytes ≡ Done
-    → input_verdict bytes ≡ record { answer = answers.Refused InputTooLong; reads = 0 }
+passed : (bytes : List ℕ) → input_limit < length bytes → front_outcome bytes ≡ Ok tt
+    → input_verdict bytes ≡ record { answer = Err InputTooLong; reads = 0 }
 passed bytes h e = long bytes h ∙ long_passed bytes e
 
 -- ---- by the library's verdict
@@ -124,43 +121,43 @@ passed bytes h e = long bytes h ∙ long_passed bytes e
 abbrev Behind : Outcome → Type 0
 Behind o = RefusedInFront (answer_of o) → ⊥
 
-accepted_behind : Behind Done
-accepted_behind given = (never 0 (inl (number-of answers.Accepted given))).0 refl
+accepted_behind : Behind (Ok tt)
+accepted_behind given = (never 0 (inl (number-of (Ok tt) given))).0 refl
 
-later_count : (s : ℕ) → 5 ≤ s → Behind (Refused (CountDiffers s))
+later_count : (s : ℕ) → 5 ≤ s → Behind (Err (CountDiffers s))
 later_count s h (inl (section, l, is)) = let same : s ≡ section = cc in omega arith
 later_count s h (inr (inl range)) = omega arith
 later_count s h (inr (inr seventeen)) = omega arith
 
 rounds_behind : (bytes : List ℕ) (o : Outcome) → rounds_outcome (run_in bytes) (queries_in bytes) 0 ≡ o → Behind o
-rounds_behind bytes Done e = accepted_behind
-rounds_behind bytes (Refused cause) e =
-    λ given. (never (number_of cause) (inl (number-of (answers.Refused cause) given))).3
+rounds_behind bytes (Ok tt) e = accepted_behind
+rounds_behind bytes (Err cause) e =
+    λ given. (never (number_of cause) (inl (number-of (Err cause) given))).3
     (refused_by_round (run_in bytes) (queries_in bytes) cause e)
 
-passed_behind : (bytes : List ℕ) → front_outcome bytes ≡ Done → RefusedInFront (transcript_verdict bytes).answer → ⊥
+passed_behind : (bytes : List ℕ) → front_outcome bytes ≡ Ok tt → RefusedInFront (transcript_verdict bytes).answer → ⊥
 unfolding transcript_verdict
 passed_behind bytes e =
     let rounds = rounds_outcome (run_in bytes) (queries_in bytes) 0 in
     holds_after Behind (transcript_outcome bytes) rounds
     (holds_after Behind (front_outcome bytes) (layers_outcome bytes) (subst Behind (sym e) accepted_behind)
     (λ passed. behind_holds Behind accepted_behind bytes
-    (λ s given. (never 1 (inl (number-of (answers.Refused (BytesEnd s)) given))).1 refl) later_count
-    (λ given. (never 3 (inl (number-of (answers.Refused TrailingBytes) given))).2 refl)))
+    (λ s given. (never 1 (inl (number-of (Err (BytesEnd s)) given))).1 refl) later_count
+    (λ given. (never 3 (inl (number-of (Err TrailingBytes) given))).2 refl)))
     (λ passed. rounds_behind bytes rounds refl)
 
 by_library : (bytes : List ℕ) → input_limit < length bytes
     → (RefusedInFront (transcript_verdict bytes).answer → input_verdict bytes ≡ transcript_verdict bytes)
     × ((RefusedInFront (transcript_verdict bytes).answer → ⊥)
-    → input_verdict bytes ≡ record { answer = answers.Refused InputTooLong; reads = 0 })
+    → input_verdict bytes ≡ record { answer = Err InputTooLong; reads = 0 })
 by_library bytes h = by (front_outcome bytes) refl
   where
     by : (front : Outcome) → front_outcome bytes ≡ front
         → (RefusedInFront (transcript_verdict bytes).answer → input_verdict bytes ≡ transcript_verdict bytes)
         × ((RefusedInFront (transcript_verdict bytes).answer → ⊥)
-        → input_verdict bytes ≡ record { answer = answers.Refused InputTooLong; reads = 0 })
-    by Done e = (λ given. absurd (passed_behind bytes e given), λ none. passed bytes h e)
-    by (Refused cause) e =
+        → input_verdict bytes ≡ record { answer = Err InputTooLong; reads = 0 })
+    by (Ok tt) e = (λ given. absurd (passed_behind bytes e given), λ none. passed bytes h e)
+    by (Err cause) e =
         let both = refused bytes cause h e in (
           λ given. both.1,
           λ none.
@@ -174,17 +171,17 @@ numbers : (bytes : List ℕ) → input_limit < length bytes → LongNumber (numb
 numbers bytes h = by (front_outcome bytes) refl
   where
     by : (front : Outcome) → front_outcome bytes ≡ front → LongNumber (number_of_answer (input_verdict bytes).answer)
-    by Done e = inr (ap (λ (v : Verdict). number_of_answer v.answer) (passed bytes h e))
-    by (Refused cause) e =
+    by (Ok tt) e = inr (ap (λ (v : Verdict). number_of_answer v.answer) (passed bytes h e))
+    by (Err cause) e =
         inl (subst FrontNumber (sym (ap (λ (v : Verdict). number_of_answer v.answer) (refused bytes cause h e).0))
         (front_number bytes cause (omega arith) e))
 
-accepted : (bytes : List ℕ) → (input_verdict bytes).answer ≡ answers.Accepted
-    → (length bytes ≤ input_limit) × ((transcript_verdict bytes).answer ≡ answers.Accepted)
+accepted : (bytes : List ℕ) → (input_verdict bytes).answer ≡ Ok tt
+    → (length bytes ≤ input_limit) × ((transcript_verdict bytes).answer ≡ Ok tt)
 accepted bytes e = by (leb (length bytes) input_limit) refl
   where
     by : (test : Bool) → leb (length bytes) input_limit ≡ test
-        → (length bytes ≤ input_limit) × ((transcript_verdict bytes).answer ≡ answers.Accepted)
+        → (length bytes ≤ input_limit) × ((transcript_verdict bytes).answer ≡ Ok tt)
     by true t =
         let within = leb-true (length bytes) input_limit t in
         (within, sym (ap (λ (v : Verdict). v.answer) (short bytes within)) ∙ e)
@@ -202,7 +199,7 @@ first bytes read h =
 
 -- 02's own case
 large_dimension : (bytes : List ℕ) → input_limit < length bytes → section_count bytes 1 ≡ 3 → 20 < transcript_k bytes
-    → Tells (input_verdict bytes) 4 Absent Absent 0
+    → Tells (input_verdict bytes) 4 None None 0
 large_dimension bytes h three large =
     let told = (refused bytes DimensionOutOfRange h front).0 in (
       ap (λ (v : Verdict). number_of_answer v.answer) told,
@@ -211,7 +208,7 @@ large_dimension bytes h three large =
       ap (λ (v : Verdict). v.reads) told,
     )
   where
-    first_section : parameters_section bytes ≡ Refused DimensionOutOfRange
+    first_section : parameters_section bytes ≡ Err DimensionOutOfRange
     first_section =
         sym (then_passed (due_outcome bytes 1 3)
         (parameters_outcome (transcript_k bytes) (transcript_rate bytes) (transcript_step bytes))
@@ -219,7 +216,7 @@ large_dimension bytes h three large =
         (omega (arith, start_next bytes 1 (omega arith), first_start bytes))))
         ∙ k_refused (transcript_k bytes) (transcript_rate bytes) (transcript_step bytes) (inr large)
 
-    front : front_outcome bytes ≡ Refused DimensionOutOfRange
+    front : front_outcome bytes ≡ Err DimensionOutOfRange
     front = sym (then_refused (parameters_section bytes) (lists_outcome bytes) DimensionOutOfRange first_section)
 
 pub long_inputs : LongInputs
@@ -244,8 +241,8 @@ long_inputs =
 
 rounds_number : (bytes : List ℕ) (o : Outcome) → rounds_outcome (run_in bytes) (queries_in bytes) 0 ≡ o
     → TranscriptNumber (number_of_outcome o)
-rounds_number bytes Done e = inl (omega arith)
-rounds_number bytes (Refused cause) e = inl (omega (arith, refused_by_round (run_in bytes) (queries_in bytes) cause e))
+rounds_number bytes (Ok tt) e = inl (omega arith)
+rounds_number bytes (Err cause) e = inl (omega (arith, refused_by_round (run_in bytes) (queries_in bytes) cause e))
 
 library_number : (bytes : List ℕ) → TranscriptNumber (number_of_answer (transcript_verdict bytes).answer)
 unfolding transcript_verdict
@@ -276,7 +273,7 @@ program_number bytes = by (leb (length bytes) input_limit) refl
         (λ (l : number_of_answer (input_verdict bytes).answer ≡ 14). inr l)
         (numbers bytes (leb-false (length bytes) input_limit e))
 
-empty : Tells (input_verdict []) 1 (At 1) Absent 0
+empty : Tells (input_verdict []) 1 (Some 1) None 0
 unfolding input_verdict transcript_verdict section_start
 empty = (refl, refl, refl, refl)
 

@@ -11,8 +11,8 @@ use lib.Dec.{leb}
 use lib.ListN.{length}
 use Rattle.refusal.proofs.Checks.{then_done, within_of}
 use Rattle.refusal.specs.declared.Cause.TheVariants.{QueryCountOutOfRange}
-use Rattle.refusal.specs.declared.Outcome.{Outcome}
-use Rattle.refusal.specs.declared.Outcome.TheVariants.{Done}
+use Rattle.std.specs.Prelude.{Ok}
+use Rattle.refusal.specs.Outcome.{Outcome}
 use Rattle.refusal.specs.Checks.{and_then}
 use Rattle.coset.specs.Answers.{basis_outcome}
 use Rattle.fri.specs.Layout.{steps_of, step_at, dimension, last_count}
@@ -79,7 +79,7 @@ module _ (k rate step : ℕ) (v : ValidParameters k rate step) where
             (omega (arith, here, fits, v.rate_least, v.k_enough)),
       )
 
-module _ (bytes : List ℕ) (one : parameters_section bytes ≡ Done) where
+module _ (bytes : List ℕ) (one : parameters_section bytes ≡ Ok tt) where
   abbrev k : ℕ
   k = transcript_k bytes
 
@@ -106,11 +106,11 @@ module _ (bytes : List ℕ) (one : parameters_section bytes ≡ Done) where
   pub start_two : section_start bytes 2 ≡ 28
   start_two = start_next bytes 1 (omega arith) ∙ omega (arith, first_start bytes, (parameters_done bytes one).0)
 
-  pub start_three : due_outcome bytes 2 (k + 1) ≡ Done → section_start bytes 3 ≤ 200
+  pub start_three : due_outcome bytes 2 (k + 1) ≡ Ok tt → section_start bytes 3 ≤ 200
   start_three two =
       omega (arith, start_next bytes 2 (omega arith), start_two, (due_done bytes 2 (k + 1) two).0, valid.k_most)
 
-  pub start_four : due_outcome bytes 2 (k + 1) ≡ Done → due_outcome bytes 3 r ≡ Done → section_start bytes 4 ≤ 356
+  pub start_four : due_outcome bytes 2 (k + 1) ≡ Ok tt → due_outcome bytes 3 r ≡ Ok tt → section_start bytes 4 ≤ 356
   start_four two three =
       omega (arith, start_next bytes 3 (omega arith), start_three two, (due_done bytes 3 r three).0, few_rounds)
 
@@ -118,7 +118,7 @@ module _ (bytes : List ℕ) (one : parameters_section bytes ≡ Done) where
   queries_there =
       section_outcome bytes 4 (leb 1 (section_count bytes 4) && leb (section_count bytes 4) 256) QueryCountOutOfRange
 
-  start_five : due_outcome bytes 2 (k + 1) ≡ Done → due_outcome bytes 3 r ≡ Done → queries_there ≡ Done
+  start_five : due_outcome bytes 2 (k + 1) ≡ Ok tt → due_outcome bytes 3 r ≡ Ok tt → queries_there ≡ Ok tt
       → section_start bytes 5 ≤ longest_front
   start_five two three four =
       let tested = (section_done bytes 4 (leb 1 (section_count bytes 4) && leb (section_count bytes 4) 256)
@@ -131,7 +131,7 @@ module _ (bytes : List ℕ) (one : parameters_section bytes ≡ Done) where
       )
 
   -- where sections 2 to 4 pass, all of them end early
-  pub front_within : lists_outcome bytes ≡ Done → section_start bytes 5 ≤ longest_front
+  pub front_within : lists_outcome bytes ≡ Ok tt → section_start bytes 5 ≤ longest_front
   front_within lists =
       let two = then_done (coset_section bytes) (and_then (challenges_section bytes) (queries_section bytes)) lists in
       let three = then_done (challenges_section bytes) (queries_section bytes) two.1 in
@@ -144,7 +144,7 @@ module _ (bytes : List ℕ) (one : parameters_section bytes ≡ Done) where
 
   module _ (five : section_start bytes 5 ≤ longest_front) where
     -- where layer i begins
-    position : (i : ℕ) → i ≤ r → ((j : ℕ) → j < i → due_outcome bytes (layer_section j) (size j) ≡ Done)
+    position : (i : ℕ) → i ≤ r → ((j : ℕ) → j < i → due_outcome bytes (layer_section j) (size j) ≡ Ok tt)
         → section_start bytes (layer_section i) + 16 * size i ≤ longest_front + 4 * i + 16 * 2 ^ k
     unfolding dimension
     position zero h passed = omega (arith, five)
@@ -163,7 +163,7 @@ module _ (bytes : List ℕ) (one : parameters_section bytes ≡ Done) where
     word_small = omega (arith, pow_mono {i = k} {j = 20} valid.k_most)
 
     -- where it ends
-    pub layer_within : (i : ℕ) → i < r → ((j : ℕ) → j < i → due_outcome bytes (layer_section j) (size j) ≡ Done)
+    pub layer_within : (i : ℕ) → i < r → ((j : ℕ) → j < i → due_outcome bytes (layer_section j) (size j) ≡ Ok tt)
         → section_start bytes (layer_section i) + 4 + 8 * size i ≤ longest_transcript
     layer_within i h passed =
         layer_ends (section_start bytes (layer_section i)) (size i) i (16 * 2 ^ k)
@@ -171,7 +171,7 @@ module _ (bytes : List ℕ) (one : parameters_section bytes ≡ Done) where
         (omega (arith, few_rounds)) word_small
 
     -- where the last coefficients end
-    pub last_within : ((j : ℕ) → j < r → due_outcome bytes (layer_section j) (size j) ≡ Done)
+    pub last_within : ((j : ℕ) → j < r → due_outcome bytes (layer_section j) (size j) ≡ Ok tt)
         → section_start bytes (layer_section r) + 4 + 8 * last ≤ longest_transcript
     last_within passed =
         let halves = last_halves k (transcript_rate bytes) (transcript_step bytes) valid in

@@ -9,8 +9,8 @@ use lib.Dec.{leb, eqb}
 use lib.ListN.{length}
 use Rattle.refusal.specs.declared.Cause.{Cause}
 use Rattle.refusal.specs.declared.Cause.TheVariants.{BytesEnd, CountDiffers, TrailingBytes, QueryCountOutOfRange}
-use Rattle.refusal.specs.declared.Outcome.{Outcome}
-use Rattle.refusal.specs.declared.Outcome.TheVariants.{Done, Refused}
+use Rattle.std.specs.Prelude.{Ok, Err}
+use Rattle.refusal.specs.Outcome.{Outcome}
 use Rattle.refusal.specs.Checks.{refused_unless, and_then}
 use Rattle.refusal.specs.Numbers.{number_of, number_of_outcome}
 use Rattle.refusal.proofs.Checks.{equal_of_test, within_of, then_done, holds_unless, holds_after, number_then}
@@ -31,23 +31,23 @@ use Rattle.transcript.proofs.Positions.{valid, few_rounds, start_two, start_thre
 
 -- ---- what holds of every outcome that sections may have
 
-module _ (Q : Outcome → Type 0) (done : Q Done) (bytes : List ℕ) where
-  section_holds : (s : ℕ) (test : Bool) (cause : Cause) → Q (Refused (BytesEnd s)) → Q (Refused cause)
+module _ (Q : Outcome → Type 0) (done : Q (Ok tt)) (bytes : List ℕ) where
+  section_holds : (s : ℕ) (test : Bool) (cause : Cause) → Q (Err (BytesEnd s)) → Q (Err cause)
       → Q (section_outcome bytes s test cause)
   section_holds s test cause cut fails =
-      let entries = refused_unless (leb (section_start bytes (suc s)) (length bytes)) (BytesEnd s) Done in
+      let entries = refused_unless (leb (section_start bytes (suc s)) (length bytes)) (BytesEnd s) (Ok tt) in
       holds_unless Q (leb (section_start bytes s + 4) (length bytes)) (BytesEnd s) (refused_unless test cause entries) cut
       (holds_unless Q test cause entries fails
-      (holds_unless Q (leb (section_start bytes (suc s)) (length bytes)) (BytesEnd s) Done cut done))
+      (holds_unless Q (leb (section_start bytes (suc s)) (length bytes)) (BytesEnd s) (Ok tt) cut done))
 
-  due_holds : (s due : ℕ) → Q (Refused (BytesEnd s)) → Q (Refused (CountDiffers s)) → Q (due_outcome bytes s due)
+  due_holds : (s due : ℕ) → Q (Err (BytesEnd s)) → Q (Err (CountDiffers s)) → Q (due_outcome bytes s due)
   due_holds s due = section_holds s (eqb (section_count bytes s) due) (CountDiffers s)
 
   -- sections 1 to 4, each where those before it passed
   front_holds : Q (parameters_section bytes)
-      → (parameters_section bytes ≡ Done → Q (coset_section bytes))
-      → (parameters_section bytes ≡ Done → coset_section bytes ≡ Done → Q (challenges_section bytes))
-      → (parameters_section bytes ≡ Done → coset_section bytes ≡ Done → challenges_section bytes ≡ Done
+      → (parameters_section bytes ≡ Ok tt → Q (coset_section bytes))
+      → (parameters_section bytes ≡ Ok tt → coset_section bytes ≡ Ok tt → Q (challenges_section bytes))
+      → (parameters_section bytes ≡ Ok tt → coset_section bytes ≡ Ok tt → challenges_section bytes ≡ Ok tt
       → Q (queries_section bytes))
       → Q (front_outcome bytes)
   front_holds first second third fourth =
@@ -56,8 +56,8 @@ module _ (Q : Outcome → Type 0) (done : Q Done) (bytes : List ℕ) where
       (λ two. holds_after Q (challenges_section bytes) (queries_section bytes) (third one two) (fourth one two)))
 
   -- the sections behind them
-  module _ (cut : (s : ℕ) → Q (Refused (BytesEnd s))) (differs : (s : ℕ) → 5 ≤ s → Q (Refused (CountDiffers s)))
-      (trailing : Q (Refused TrailingBytes)) where
+  module _ (cut : (s : ℕ) → Q (Err (BytesEnd s))) (differs : (s : ℕ) → 5 ≤ s → Q (Err (CountDiffers s)))
+      (trailing : Q (Err TrailingBytes)) where
     layers_hold : (i left : ℕ) → Q (layers_from bytes i left)
     unfolding layers_from
     layers_hold i zero = done
@@ -73,9 +73,9 @@ module _ (Q : Outcome → Type 0) (done : Q Done) (bytes : List ℕ) where
         let last_due = last_count (transcript_k bytes) (transcript_rate bytes) (transcript_steps bytes) in
         let ends = eqb (section_start bytes (suc (layer_section r))) (length bytes) in
         holds_after Q (layers_from bytes 0 r) (end_outcome bytes) (layers_hold 0 r)
-        (λ layers. holds_after Q (due_outcome bytes (layer_section r) last_due) (refused_unless ends TrailingBytes Done)
+        (λ layers. holds_after Q (due_outcome bytes (layer_section r) last_due) (refused_unless ends TrailingBytes (Ok tt))
         (due_holds (layer_section r) last_due (cut (layer_section r)) (differs (layer_section r) (omega arith)))
-        (λ last. holds_unless Q ends TrailingBytes Done trailing done))
+        (λ last. holds_unless Q ends TrailingBytes (Ok tt) trailing done))
 
 -- ---- numbers
 
@@ -137,7 +137,7 @@ ValueNumber n = (n ≡ 0) ⊎ ((4 ≤ n) × (n ≤ 10)) ⊎ (n ≡ 17)
 -- where the bytes are as many as those of the longest front, what holds of other counts in sections 1 to 3, and of what
 -- values get, holds of sections 1 to 4
 module _ (Q : Outcome → Type 0) (values : (o : Outcome) → ValueNumber (number_of_outcome o) → Q o)
-    (differs : (s : ℕ) → s ≤ 3 → Q (Refused (CountDiffers s))) (bytes : List ℕ)
+    (differs : (s : ℕ) → s ≤ 3 → Q (Err (CountDiffers s))) (bytes : List ℕ)
     (enough : longest_front ≤ length bytes) where
   abbrev k : ℕ
   k = transcript_k bytes
@@ -145,15 +145,15 @@ module _ (Q : Outcome → Type 0) (values : (o : Outcome) → ValueNumber (numbe
   abbrev r : ℕ
   r = transcript_rounds bytes
 
-  done : Q Done
-  done = values Done (inl refl)
+  done : Q (Ok tt)
+  done = values (Ok tt) (inl refl)
 
   counted_holds : (s most : ℕ) (cause : Cause) (test : ℕ → Bool) → 1 ≤ s → ((n : ℕ) → test n ≡ true → n ≤ most)
-      → section_start bytes s + 4 + 8 * most ≤ length bytes → Q (Refused cause)
+      → section_start bytes s + 4 + 8 * most ≤ length bytes → Q (Err cause)
       → Q (section_outcome bytes s (test (section_count bytes s)) cause)
   counted_holds s most cause test least few room fails =
       subst Q (sym (section_counted bytes s most cause test least few room))
-      (holds_unless Q (test (section_count bytes s)) cause Done fails done)
+      (holds_unless Q (test (section_count bytes s)) cause (Ok tt) fails done)
 
   due_counted : (s due : ℕ) → 1 ≤ s → s ≤ 3 → section_start bytes s + 4 + 8 * due ≤ length bytes
       → Q (due_outcome bytes s due)
@@ -161,7 +161,7 @@ module _ (Q : Outcome → Type 0) (values : (o : Outcome) → ValueNumber (numbe
       counted_holds s due (CountDiffers s) (λ n. eqb n due) least (λ n e. omega (arith, equal_of_test n due e)) room
       (differs s most)
 
-  coset_there : coset_section bytes ≡ Done → due_outcome bytes 2 (k + 1) ≡ Done
+  coset_there : coset_section bytes ≡ Ok tt → due_outcome bytes 2 (k + 1) ≡ Ok tt
   coset_there two = (then_done (due_outcome bytes 2 (k + 1)) (basis_outcome (run_in bytes).basis) two).0
 
   abbrev counted : ℕ → Bool
@@ -198,5 +198,5 @@ module _ (Q : Outcome → Type 0) (values : (o : Outcome) → ValueNumber (numbe
       (indices_outcome k (step_at (transcript_steps bytes) 0) (queries_in bytes))
       (counted_holds 4 256 QueryCountOutOfRange counted (omega arith) (λ n e. (within_of 1 256 n e).1)
       (omega (arith, start_four bytes one (coset_there two) three))
-      (values (Refused QueryCountOutOfRange) (inr (inl (omega arith, omega arith)))))
+      (values (Err QueryCountOutOfRange) (inr (inl (omega arith, omega arith)))))
       (λ passed. indices))

@@ -8,13 +8,11 @@ use native.Mathlib.Omega.{arith}
 use lib.Dec.{leb}
 use lib.ListN.{length}
 use Rattle.refusal.specs.declared.Cause.TheVariants.{QueryCountOutOfRange, CosetShared}
-use Rattle.refusal.specs.declared.Outcome.{Outcome}
-use Rattle.refusal.specs.declared.Outcome.TheVariants.{Done, Refused}
-use Rattle.refusal.specs.declared.Position.TheVariants.{At}
+use Rattle.std.specs.Prelude.{Some, Ok, Err}
+use Rattle.refusal.specs.Outcome.{Outcome}
 use Rattle.refusal.specs.Checks.{and_then}
 use Rattle.refusal.specs.Numbers.{number_of_outcome}
 use Rattle.refusal.proofs.Checks.{then_passed, then_refused, number_then, Either, which}
-use Rattle.fri.specs.declared.Answer.TheVariants as answers
 use Rattle.fri.specs.declared.Verdict.{Verdict}
 use Rattle.coset.specs.Answers.{basis_outcome}
 use Rattle.coset.proofs.Independence.{basis_number}
@@ -48,14 +46,14 @@ low n l = small n (omega arith)
 
 module _ (bytes : List ℕ) (query : ℕ) where
   abbrev refused : Outcome
-  refused = Refused (CosetShared query)
+  refused = Err (CosetShared query)
 
   -- checks that give no 17 have passed where 17 comes
   after : (first rest : Outcome) → Other (number_of_outcome first) → and_then first rest ≡ refused
-      → (first ≡ Done) × (rest ≡ refused)
+      → (first ≡ Ok tt) × (rest ≡ refused)
   after first rest other e = by (which first rest (CosetShared query) e)
     where
-      by : Either first rest (CosetShared query) → (first ≡ Done) × (rest ≡ refused)
+      by : Either first rest (CosetShared query) → (first ≡ Ok tt) × (rest ≡ refused)
       by (inl f) = absurd (other (ap number_of_outcome f))
       by (inr f) = f
 
@@ -84,9 +82,9 @@ module _ (bytes : List ℕ) (query : ℕ) where
   -- sections 1 to 4, and whatever follows
   abbrev Passed : Type 0
   Passed =
-      (parameters_section bytes ≡ Done) × (coset_section bytes ≡ Done) × (challenges_section bytes ≡ Done)
+      (parameters_section bytes ≡ Ok tt) × (coset_section bytes ≡ Ok tt) × (challenges_section bytes ≡ Ok tt)
       × (section_start bytes 5 ≤ length bytes) × ValidQueries (transcript_k bytes) (queries_in bytes)
-      × (first_shared first_step (queries_in bytes) ≡ At query)
+      × (first_shared first_step (queries_in bytes) ≡ Some query)
 
   of_sections : transcript_outcome bytes ≡ refused → Passed
   of_sections e =
@@ -109,7 +107,7 @@ module _ (bytes : List ℕ) (query : ℕ) where
       first (inl f) = f
       first (inr f) = absurd (layers_other (ap number_of_outcome f.1))
 
-  of_verdict : (transcript_verdict bytes).answer ≡ answers.Refused (CosetShared query) → Passed
+  of_verdict : (transcript_verdict bytes).answer ≡ Err (CosetShared query) → Passed
   unfolding transcript_verdict
   of_verdict e =
       let rounds = rounds_outcome (run_in bytes) (queries_in bytes) 0 in
@@ -123,7 +121,7 @@ module _ (bytes : List ℕ) (query : ℕ) where
           absurd (let impossible : ◌≡◌ {A = ℕ} 17 11 =
           refused_by_round (run_in bytes) (queries_in bytes) (CosetShared query) f.1 in omega arith)
 
-  to_verdict : Passed → (transcript_verdict bytes).answer ≡ answers.Refused (CosetShared query)
+  to_verdict : Passed → (transcript_verdict bytes).answer ≡ Err (CosetShared query)
   to_verdict p =
       ap (λ (v : Verdict). v.answer)
       (refused_verdict bytes (CosetShared query)

@@ -13,12 +13,11 @@ use Rattle.poly.specs.Polynomial.{All}
 use Rattle.poly.proofs.Entries.{of_first}
 use Rattle.refusal.specs.declared.Cause.{Cause}
 use Rattle.refusal.specs.declared.Cause.TheVariants.{RoundCheckFails}
-use Rattle.refusal.specs.declared.Outcome.{Outcome}
-use Rattle.refusal.specs.declared.Outcome.TheVariants.{Done, Refused}
+use Rattle.std.specs.Prelude.{Ok, Err}
+use Rattle.refusal.specs.Outcome.{Outcome}
 use Rattle.refusal.specs.Checks.{and_then}
 use Rattle.refusal.specs.Numbers.{number_of_outcome}
 use Rattle.refusal.proofs.Checks.{then_done, Either, which}
-use Rattle.fri.specs.declared.Answer.TheVariants as answers
 use Rattle.fri.specs.declared.Verdict.{Verdict}
 use Rattle.fri.specs.Run.{Run}
 use Rattle.fri.specs.Run as run
@@ -53,8 +52,8 @@ carried bytes c =
     (checks_are bytes c)
 
 -- a section's refusal is the answer, and nothing is read
-pub refused_verdict : (bytes : List ℕ) (cause : Cause) → transcript_outcome bytes ≡ Refused cause
-    → transcript_verdict bytes ≡ record { answer = answers.Refused cause; reads = 0 }
+pub refused_verdict : (bytes : List ℕ) (cause : Cause) → transcript_outcome bytes ≡ Err cause
+    → transcript_verdict bytes ≡ record { answer = Err cause; reads = 0 }
 unfolding transcript_verdict
 refused_verdict bytes cause e =
     ap {B = Verdict}
@@ -67,18 +66,18 @@ refused_verdict bytes cause e =
 
 -- ---- which bytes do
 
-passed_sections : (bytes : List ℕ) → (transcript_verdict bytes).answer ≡ answers.Accepted
-    → transcript_outcome bytes ≡ Done
+passed_sections : (bytes : List ℕ) → (transcript_verdict bytes).answer ≡ Ok tt
+    → transcript_outcome bytes ≡ Ok tt
 unfolding transcript_verdict
 passed_sections bytes e =
     let rounds = rounds_outcome (run_in bytes) (queries_in bytes) 0 in
     (then_done (transcript_outcome bytes) rounds (done_of (and_then (transcript_outcome bytes) rounds) e)).0
 
-accepted_carries : (bytes : List ℕ) → (transcript_verdict bytes).answer ≡ answers.Accepted → Carries bytes
+accepted_carries : (bytes : List ℕ) → (transcript_verdict bytes).answer ≡ Ok tt → Carries bytes
 accepted_carries bytes e = passed_carries bytes (passed_sections bytes e)
 
 refused_carries : (bytes : List ℕ) (query round : ℕ)
-    → (transcript_verdict bytes).answer ≡ answers.Refused (RoundCheckFails query round) → Carries bytes
+    → (transcript_verdict bytes).answer ≡ Err (RoundCheckFails query round) → Carries bytes
 unfolding transcript_verdict
 refused_carries bytes query round e =
     let rounds = rounds_outcome (run_in bytes) (queries_in bytes) 0 in
@@ -119,7 +118,7 @@ queries_of (bytes ∷ transcripts) = queries_in bytes ∷ queries_of transcripts
 
 -- what is accepted as bytes is accepted as lists
 visited : (sent : Run) (coset : ℕ) (transcripts : List (List ℕ)) → All (OfRun sent) transcripts
-    → Any (λ bytes. ((transcript_verdict bytes).answer ≡ answers.Accepted) × Visits sent (queries_in bytes) coset)
+    → Any (λ bytes. ((transcript_verdict bytes).answer ≡ Ok tt) × Visits sent (queries_in bytes) coset)
     transcripts
     → Any (λ queries. Accepted sent queries × Visits sent queries coset) (queries_of transcripts)
 unfolding queries_of
@@ -143,7 +142,7 @@ pub transcript_soundness : TranscriptSoundness
 transcript_soundness sent transcripts of_run covers =
     soundness sent (queries_of transcripts)
     (sent_fits sent
-    (λ bytes. ((transcript_verdict bytes).answer ≡ answers.Accepted) × Visits sent (queries_in bytes) 0) transcripts of_run
+    (λ bytes. ((transcript_verdict bytes).answer ≡ Ok tt) × Visits sent (queries_in bytes) 0) transcripts of_run
     (covers 0 (pow_pos (sent.k - run.step_in sent 0))))
     (λ coset h. visited sent coset transcripts of_run (covers coset h))
 
@@ -176,8 +175,8 @@ judging_bytes =
 same_refusal : (front bytes : List ℕ) (outcome : Outcome) → transcript_outcome front ≡ outcome
     → transcript_outcome bytes ≡ outcome → longest_transcript < length front
     → transcript_verdict front ≡ transcript_verdict bytes
-same_refusal front bytes Done e f h = absurd (omega (arith, longest front e))
-same_refusal front bytes (Refused cause) e f h = refused_verdict front cause e ∙ sym (refused_verdict bytes cause f)
+same_refusal front bytes (Ok tt) e f h = absurd (omega (arith, longest front e))
+same_refusal front bytes (Err cause) e f h = refused_verdict front cause e ∙ sym (refused_verdict bytes cause f)
 
 first_decide : (bytes : List ℕ) (read : ℕ) → longest_transcript < read
     → transcript_verdict (take read bytes) ≡ transcript_verdict bytes

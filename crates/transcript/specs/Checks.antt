@@ -4,8 +4,8 @@
 use Rattle.std.specs.Prelude.{Bool, ◌&&◌, List, ℕ, zero, suc, ◌+◌, ◌^◌, leb, eqb, length}
 use Rattle.refusal.specs.declared.Cause.{Cause}
 use Rattle.refusal.specs.declared.Cause.TheVariants.{BytesEnd, CountDiffers, TrailingBytes, QueryCountOutOfRange}
-use Rattle.refusal.specs.declared.Outcome.{Outcome}
-use Rattle.refusal.specs.declared.Outcome.TheVariants.{Done}
+use Rattle.std.specs.Prelude.{Ok}
+use Rattle.refusal.specs.Outcome.{Outcome}
 use Rattle.refusal.specs.Checks.{refused_unless, and_then}
 use Rattle.coset.specs.Answers.{basis_outcome}
 use Rattle.fri.specs.Layout.{step_at, dimension, last_count}
@@ -19,7 +19,7 @@ section_outcome bytes s test cause =
     refused_unless (leb (section_start bytes s + 4) (length bytes)) (BytesEnd s)
     (refused_unless test cause
     (refused_unless (leb (section_start bytes (suc s)) (length bytes)) (BytesEnd s)
-    Done))
+    (Ok tt)))
 
 -- a section whose count must be the one due (2)
 abbrev pub due_outcome : (bytes : List ℕ) (s due : ℕ) → Outcome
@@ -56,7 +56,7 @@ front_outcome bytes = and_then (parameters_section bytes) (lists_outcome bytes)
 
 -- the sections of layer i and of those after it, `left` of them
 unfoldable pub layers_from : (bytes : List ℕ) (i left : ℕ) → Outcome
-layers_from bytes i zero = Done
+layers_from bytes i zero = Ok tt
 layers_from bytes i (suc left) =
     and_then (due_outcome bytes (layer_section i) (2 ^ dimension (transcript_k bytes) (transcript_steps bytes) i))
     (layers_from bytes (suc i) left)
@@ -68,7 +68,7 @@ end_outcome bytes =
     (due_outcome bytes (layer_section (transcript_rounds bytes))
     (last_count (transcript_k bytes) (transcript_rate bytes) (transcript_steps bytes)))
     (refused_unless (eqb (section_start bytes (suc (layer_section (transcript_rounds bytes)))) (length bytes)) TrailingBytes
-    Done)
+    (Ok tt))
 
 -- the sections of the layers and the last one
 abbrev pub layers_outcome : (bytes : List ℕ) → Outcome

@@ -1,7 +1,7 @@
 -- The judge over the bytes of a transcript, and the answer of the program `judge`.
 use Rattle.std.specs.Prelude.{cond, List, ℕ, ◌+◌, ◌*◌, ◌-◌, ◌^◌, leb, length}
 use Rattle.refusal.specs.declared.Cause.TheVariants.{InputTooLong}
-use Rattle.refusal.specs.declared.Outcome.TheVariants.{Refused}
+use Rattle.std.specs.Prelude.{Err}
 use Rattle.refusal.specs.Checks.{and_then}
 use Rattle.fri.specs.declared.Verdict.{Verdict}
 use Rattle.fri.specs.Rounds.{rounds_outcome}
@@ -34,7 +34,7 @@ input_limit = 2 ^ 16
 
 -- the program's answer to more bytes than that: the first refusal of sections 1 to 4, then 14 (02, Q-8)
 abbrev pub long_verdict : (bytes : List ℕ) → Verdict
-long_verdict bytes = record { answer = answer_of (and_then (front_outcome bytes) (Refused InputTooLong)); reads = 0 }
+long_verdict bytes = record { answer = answer_of (and_then (front_outcome bytes) (Err InputTooLong)); reads = 0 }
 
 -- the program's answer
 unfoldable pub input_verdict : (bytes : List ℕ) → Verdict

@@ -4,12 +4,10 @@ use Rattle.std.specs.Prelude.{◌≡◌, ◌⊎◌, ◌↔◌, List, [], ℕ, su
 use Rattle.poly.specs.Polynomial.{All}
 use Rattle.refusal.specs.declared.Cause.{Cause}
 use Rattle.refusal.specs.declared.Cause.TheVariants.{CountDiffers, RoundCheckFails, InputTooLong, CosetShared}
-use Rattle.refusal.specs.declared.Outcome.TheVariants.{Done, Refused}
-use Rattle.refusal.specs.declared.Position.TheVariants.{At, Absent}
+use Rattle.std.specs.Prelude.{Some, None, Ok, Err}
+use Rattle.refusal.specs.Outcome.{Outcome}
 use Rattle.refusal.specs.Numbers.{number_of}
 use Rattle.coset.specs.Span.{Independent}
-use Rattle.fri.specs.declared.Answer.{Answer}
-use Rattle.fri.specs.declared.Answer.TheVariants as answers
 use Rattle.fri.specs.Layout.{dimension, last_count}
 use Rattle.fri.specs.Run.{Run}
 use Rattle.fri.specs.Run as run
@@ -43,12 +41,12 @@ pub record JudgingBytes : Type 0 where
   -- where they carry lists, the verdict is that of the judge over those lists
   pub carried : (bytes : List ℕ) → Carries bytes → transcript_verdict bytes ≡ verdict_of (run_in bytes) (queries_in bytes)
   -- a section's refusal is the answer, and nothing is read
-  pub early : (bytes : List ℕ) (cause : Cause) → transcript_outcome bytes ≡ Refused cause
-      → transcript_verdict bytes ≡ record { answer = answers.Refused cause; reads = 0 }
+  pub early : (bytes : List ℕ) (cause : Cause) → transcript_outcome bytes ≡ Err cause
+      → transcript_verdict bytes ≡ record { answer = Err cause; reads = 0 }
   -- they carry lists where they are accepted or refused by a round check
-  pub accepted : (bytes : List ℕ) → (transcript_verdict bytes).answer ≡ answers.Accepted → Carries bytes
+  pub accepted : (bytes : List ℕ) → (transcript_verdict bytes).answer ≡ Ok tt → Carries bytes
   pub refused : (bytes : List ℕ) (query round : ℕ)
-      → (transcript_verdict bytes).answer ≡ answers.Refused (RoundCheckFails query round) → Carries bytes
+      → (transcript_verdict bytes).answer ≡ Err (RoundCheckFails query round) → Carries bytes
   -- the program's answer: the same, up to the limit
   pub short : (bytes : List ℕ) → length bytes ≤ input_limit → input_verdict bytes ≡ transcript_verdict bytes
 
@@ -57,17 +55,17 @@ pub record JudgingBytes : Type 0 where
 abbrev pub SharedInBytes : Type 0
 SharedInBytes =
     (bytes : List ℕ) (query : ℕ)
-    → ((transcript_verdict bytes).answer ≡ answers.Refused (CosetShared query))
-    ↔ ((parameters_section bytes ≡ Done) × (coset_section bytes ≡ Done) × (challenges_section bytes ≡ Done)
+    → ((transcript_verdict bytes).answer ≡ Err (CosetShared query))
+    ↔ ((parameters_section bytes ≡ Ok tt) × (coset_section bytes ≡ Ok tt) × (challenges_section bytes ≡ Ok tt)
     × (section_start bytes 5 ≤ length bytes) × ValidQueries (transcript_k bytes) (queries_in bytes)
-    × (first_shared (run.step_in (run_in bytes) 0) (queries_in bytes) ≡ At query))
+    × (first_shared (run.step_in (run_in bytes) 0) (queries_in bytes) ≡ Some query))
 
 -- transcripts have a longest length, so that a reader of larger files needs no more of them
 pub record LongTranscripts : Type 0 where
   pub size : longest_transcript ≡ 16779680
   -- bytes whose sections all pass are not longer; so none that are accepted
-  pub longest : (bytes : List ℕ) → transcript_outcome bytes ≡ Done → length bytes ≤ longest_transcript
-  pub accepted : (bytes : List ℕ) → (transcript_verdict bytes).answer ≡ answers.Accepted
+  pub longest : (bytes : List ℕ) → transcript_outcome bytes ≡ Ok tt → length bytes ≤ longest_transcript
+  pub accepted : (bytes : List ℕ) → (transcript_verdict bytes).answer ≡ Ok tt
       → length bytes ≤ longest_transcript
   -- the first bytes, more than that, get the verdict of all
   pub first : (bytes : List ℕ) (read : ℕ) → longest_transcript < read
@@ -78,43 +76,43 @@ abbrev pub FrontNumber : (n : ℕ) → Type 0
 FrontNumber n = (n ≡ 2) ⊎ ((4 ≤ n) × (n ≤ 10)) ⊎ (n ≡ 17)
 
 -- a refusal by such a number, in one of sections 1 to 4: 2 is given for other sections too, the others are not
-abbrev pub RefusedInFront : (answer : Answer) → Type 0
+abbrev pub RefusedInFront : (answer : Outcome) → Type 0
 RefusedInFront answer =
-    ((section : ℕ) × (section ≤ 3) × (answer ≡ answers.Refused (CountDiffers section)))
+    ((section : ℕ) × (section ≤ 3) × (answer ≡ Err (CountDiffers section)))
     ⊎ ((4 ≤ number_of_answer answer) × (number_of_answer answer ≤ 10)) ⊎ (number_of_answer answer ≡ 17)
 
 -- the program's answer to inputs over the limit (02, Q-8)
 pub record LongInputs : Type 0 where
   pub limit : input_limit ≡ 65536
   -- a refusal of sections 1 to 4 is the answer, with 0 reads, and the one that the library gives
-  pub refused : (bytes : List ℕ) (cause : Cause) → input_limit < length bytes → front_outcome bytes ≡ Refused cause
-      → (input_verdict bytes ≡ record { answer = answers.Refused cause; reads = 0 })
+  pub refused : (bytes : List ℕ) (cause : Cause) → input_limit < length bytes → front_outcome bytes ≡ Err cause
+      → (input_verdict bytes ≡ record { answer = Err cause; reads = 0 })
       × (input_verdict bytes ≡ transcript_verdict bytes)
   -- else 14, with 0 reads
-  pub passed : (bytes : List ℕ) → input_limit < length bytes → front_outcome bytes ≡ Done
-      → input_verdict bytes ≡ record { answer = answers.Refused InputTooLong; reads = 0 }
+  pub passed : (bytes : List ℕ) → input_limit < length bytes → front_outcome bytes ≡ Ok tt
+      → input_verdict bytes ≡ record { answer = Err InputTooLong; reads = 0 }
   -- said by the library's verdict alone: a refusal of sections 1 to 4 stands, every other verdict becomes 14
   pub by_library : (bytes : List ℕ) → input_limit < length bytes
       → (RefusedInFront (transcript_verdict bytes).answer → input_verdict bytes ≡ transcript_verdict bytes)
       × ((RefusedInFront (transcript_verdict bytes).answer → ⊥)
-      → input_verdict bytes ≡ record { answer = answers.Refused InputTooLong; reads = 0 })
+      → input_verdict bytes ≡ record { answer = Err InputTooLong; reads = 0 })
   -- 02's own case: k is over 20
   pub large_dimension : (bytes : List ℕ) → input_limit < length bytes → section_count bytes 1 ≡ 3
-      → 20 < transcript_k bytes → Tells (input_verdict bytes) 4 Absent Absent 0
+      → 20 < transcript_k bytes → Tells (input_verdict bytes) 4 None None 0
   -- of bytes that carry lists sections 1 to 4 give what the judge over those lists does before its round checks
   pub carried : (bytes : List ℕ) → Carries bytes → front_outcome bytes ≡ checks_outcome (run_in bytes) (queries_in bytes)
   -- from 2,408 bytes on none of sections 1 to 4 is cut off (1)
   pub front_numbers : (bytes : List ℕ) (cause : Cause) → longest_front ≤ length bytes
-      → front_outcome bytes ≡ Refused cause → FrontNumber (number_of cause)
+      → front_outcome bytes ≡ Err cause → FrontNumber (number_of cause)
   -- so no other numbers are given than 2, 4 to 10, 14 and 17: never 0, 1, 3 or 11
   pub numbers : (bytes : List ℕ) → input_limit < length bytes
       → FrontNumber (number_of_answer (input_verdict bytes).answer) ⊎ (number_of_answer (input_verdict bytes).answer ≡ 14)
   -- so what the program accepts is not over the limit, and the library accepts it
-  pub accepted : (bytes : List ℕ) → (input_verdict bytes).answer ≡ answers.Accepted
-      → (length bytes ≤ input_limit) × ((transcript_verdict bytes).answer ≡ answers.Accepted)
+  pub accepted : (bytes : List ℕ) → (input_verdict bytes).answer ≡ Ok tt
+      → (length bytes ≤ input_limit) × ((transcript_verdict bytes).answer ≡ Ok tt)
   -- sections 1 to 4, where they pass, end within 2,408 bytes, and these alone decide on them
   pub front_size : longest_front ≡ 2408
-  pub front_ends : (bytes : List ℕ) → front_outcome bytes ≡ Done → section_start bytes 5 ≤ longest_front
+  pub front_ends : (bytes : List ℕ) → front_outcome bytes ≡ Ok tt → section_start bytes 5 ≤ longest_front
   pub front_alone : (bytes : List ℕ) (read : ℕ) → longest_front ≤ read
       → front_outcome (take read bytes) ≡ front_outcome bytes
   -- so the first bytes, if more than the limit, as the 65,537 that the program reads, get the answer of the whole
@@ -131,7 +129,7 @@ TranscriptCompleteness =
     → ValidQueries (transcript_k bytes) (queries_in bytes) → Apart (run.step_in (run_in bytes) 0) (queries_in bytes)
     → transcript_verdict bytes
     ≡ record {
-      answer = answers.Accepted;
+      answer = Ok tt;
       reads = length (queries_in bytes) * transcript_rounds bytes * 2 ^ transcript_step bytes;
     }
 
@@ -143,7 +141,7 @@ OfRun sent bytes = AreBytes bytes × (run_in bytes ≡ sent)
 abbrev pub VisitedByTranscripts : (sent : Run) (transcripts : List (List ℕ)) → Type 0
 VisitedByTranscripts sent transcripts =
     (coset : ℕ) → coset < 2 ^ (sent.k - run.step_in sent 0)
-    → Any (λ bytes. ((transcript_verdict bytes).answer ≡ answers.Accepted) × Visits sent (queries_in bytes) coset)
+    → Any (λ bytes. ((transcript_verdict bytes).answer ≡ Ok tt) × Visits sent (queries_in bytes) coset)
     transcripts
 
 -- demand 3, second half: one claim over any list of transcripts of the same layers from anybody
@@ -162,4 +160,4 @@ pub record TranscriptNumbers : Type 0 where
       → TranscriptNumber (number_of_answer (input_verdict bytes).answer)
       ⊎ (number_of_answer (input_verdict bytes).answer ≡ 14)
   -- case N: no bytes at all
-  pub empty : Tells (input_verdict []) 1 (At 1) Absent 0
+  pub empty : Tells (input_verdict []) 1 (Some 1) None 0

@@ -7,8 +7,8 @@ use lib.Dec.{eqb}
 use lib.ListN.{length}
 use borrow.Author.Tests.{eq-eqb, ne_eqb}
 use Rattle.refusal.specs.declared.Cause.TheVariants.{WrongLength}
-use Rattle.refusal.specs.declared.Outcome.{Outcome}
-use Rattle.refusal.specs.declared.Outcome.TheVariants.{Done, Refused}
+use Rattle.std.specs.Prelude.{Ok, Err}
+use Rattle.refusal.specs.Outcome.{Outcome}
 use Rattle.refusal.specs.Checks.{refused_unless, and_then}
 use Rattle.refusal.proofs.Checks.{then_passed, then_refused, then_done, passed_by, refused_by, unless_done}
 use Rattle.refusal.proofs.Checks.{equal_of_test}
@@ -29,19 +29,19 @@ module _ (p : Parameters) (basis queries : List ℕ) (size : ℕ) where
   needed = transcript_length p.k p.rate (steps_by p) (length queries)
 
   abbrev of_size : Outcome
-  of_size = refused_unless (eqb size needed) (WrongLength 8) Done
+  of_size = refused_unless (eqb size needed) (WrongLength 8) (Ok tt)
 
   abbrev after_size : Outcome
   after_size = and_then (basis_outcome basis) (queries_outcome p.k (step_at (steps_by p) 0) queries)
 
-  pub size_refused : size ≢ needed → Refused (WrongLength 8) ≡ after_lists_outcome p basis queries size
+  pub size_refused : size ≢ needed → Err (WrongLength 8) ≡ after_lists_outcome p basis queries size
   size_refused n =
       then_refused of_size after_size (WrongLength 8)
-      (sym (refused_by (eqb size needed) (WrongLength 8) Done (ne_eqb size needed n)))
+      (sym (refused_by (eqb size needed) (WrongLength 8) (Ok tt) (ne_eqb size needed n)))
 
   pub size_passed : size ≡ needed → after_size ≡ after_lists_outcome p basis queries size
   size_passed e =
-      then_passed of_size after_size (sym (passed_by (eqb size needed) (WrongLength 8) Done (eq-eqb size needed e)))
+      then_passed of_size after_size (sym (passed_by (eqb size needed) (WrongLength 8) (Ok tt) (eq-eqb size needed e)))
 
 module _ (run : Run) (queries : List ℕ) (size : ℕ) where
   abbrev of_basis : Outcome
@@ -55,21 +55,21 @@ module _ (run : Run) (queries : List ℕ) (size : ℕ) where
   after_lists = and_then (size_outcome run queries size) (and_then of_basis of_queries)
 
   -- the formula says how long the transcript is
-  pub sized_is : of_lists run ≡ Done
+  pub sized_is : of_lists run ≡ Ok tt
       → after_lists_outcome (record { k = run.k; rate = run.rate; step = run.step }) run.basis queries size
       ≡ after_lists
   sized_is done =
-      ap (λ (n : ℕ). and_then (refused_unless (eqb size n) (WrongLength 8) Done) (and_then of_basis of_queries))
+      ap (λ (n : ℕ). and_then (refused_unless (eqb size n) (WrongLength 8) (Ok tt)) (and_then of_basis of_queries))
       (sym (transcript_size run (lists_valid run done) (lists_fit run done) queries))
 
   -- where all checks pass
-  module _ (done : write_outcome run queries size ≡ Done) where
-    pub passed_lists : (of_lists run ≡ Done) × (after_lists ≡ Done)
+  module _ (done : write_outcome run queries size ≡ Ok tt) where
+    pub passed_lists : (of_lists run ≡ Ok tt) × (after_lists ≡ Ok tt)
     passed_lists = then_done (of_lists run) after_lists (lists_then run after_lists ∙ done)
 
     pub passed_size : size ≡ length (transcript_of run queries)
     passed_size =
         let needed = length (transcript_of run queries) in
         equal_of_test size needed
-        (unless_done (eqb size needed) (WrongLength 8) Done
+        (unless_done (eqb size needed) (WrongLength 8) (Ok tt)
         (then_done (size_outcome run queries size) (and_then of_basis of_queries) passed_lists.1).0).0

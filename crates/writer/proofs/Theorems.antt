@@ -4,8 +4,8 @@ use mathlib.Core.Bool.{Bool, cond}
 use Prim.Native.Nat.{ℕ, ◌^◌}
 use lib.ListN.{length}
 use borrow.Author.Tests.{lt-ltb}
-use Rattle.refusal.specs.declared.Outcome.{Outcome}
-use Rattle.refusal.specs.declared.Outcome.TheVariants.{Done, Refused}
+use Rattle.std.specs.Prelude.{Ok, Err}
+use Rattle.refusal.specs.Outcome.{Outcome}
 use Rattle.refusal.specs.Checks.{and_then}
 use Rattle.fri.specs.Run.{Run, steps_in}
 use Rattle.fri.specs.Checks.{parameters_outcome, lengths_outcome}
@@ -34,10 +34,10 @@ length_told p offset basis challenges queries word store last few = by parameter
 
     by : (o : Outcome) → parameters ≡ o
         → write_outcome run queries (transcript_length_of p (length queries)) ≡ checks_outcome run queries
-    by Done e =
+    by (Ok tt) e =
         ap (write_outcome run queries) (ap₂ told e (lt-ltb (length queries) (2 ^ 60) few))
         ∙ writer_refusals.as_lists run queries
-    by (Refused cause) e =
+    by (Err cause) e =
         let before = ap (λ (o : Outcome). and_then o (lengths_outcome run)) e in
         writer_refusals.earlier run queries (transcript_length_of p (length queries)) cause before
         ∙ sym (writer_refusals.earlier run queries due cause before) ∙ writer_refusals.as_lists run queries

@@ -1,8 +1,8 @@
 -- The writer's promise in named parts, and the checks after those of lists 1 to 5.
 use Rattle.std.specs.Prelude.{◌≡◌, List, ℕ, eqb, length}
 use Rattle.refusal.specs.declared.Cause.TheVariants.{WrongLength}
-use Rattle.refusal.specs.declared.Outcome.{Outcome}
-use Rattle.refusal.specs.declared.Outcome.TheVariants.{Done}
+use Rattle.std.specs.Prelude.{Ok}
+use Rattle.refusal.specs.Outcome.{Outcome}
 use Rattle.refusal.specs.Checks.{refused_unless, and_then}
 use Rattle.coset.specs.Answers.{basis_outcome}
 use Rattle.fri.specs.Run.{Run}
@@ -22,5 +22,5 @@ pub record Written (run : Run) (queries held : List ℕ) (outcome : Outcome) (af
 abbrev pub after_lists_outcome : (p : Parameters) (basis queries : List ℕ) (size : ℕ) → Outcome
 after_lists_outcome p basis queries size =
     let needed = transcript_length p.k p.rate (steps_by p) (length queries) in
-    and_then (refused_unless (eqb size needed) (WrongLength 8) Done)
+    and_then (refused_unless (eqb size needed) (WrongLength 8) (Ok tt))
     (and_then (basis_outcome basis) (queries_outcome p.k (step_at (steps_by p) 0) queries))

@@ -11,7 +11,7 @@ ghost use Rattle.writer.specs.Written.{after_lists_outcome, Written};
 
 use field::Element;
 use layout::Parameters;
-use refusal::{Cause, Outcome};
+use refusal::Cause;
 
 // No list of 64-bit numbers has as many entries.
 const LIST_LIMIT: usize = 1 << 60;
@@ -23,13 +23,13 @@ pub fn transcript_length(parameters: Parameters, queries: usize) -> u64
 {
     let outcome = parameters.checked();
     match outcome {
-        Outcome::Done => {
+        Ok(()) => {
             if queries >= LIST_LIMIT {
                 return 0;
             }
             length_due(parameters, queries) as u64
         }
-        Outcome::Refused(_) => 0,
+        Err(_) => 0,
     }
 }
 
@@ -47,7 +47,7 @@ pub fn write(
     store: &[u64],
     last: &[u64],
     bytes: &mut [u8],
-) -> Outcome
+) -> Result<(), Cause>
     ensures { let run = run_of parameters offset.0 basis.now challenges.now word.now
         store.now last.now in
         Written run queries.now bytes.old result bytes.new }
@@ -64,13 +64,13 @@ pub fn write(
         bytes.len(),
     );
     match outcome {
-        Outcome::Done => {
+        Ok(()) => {
             run_writer::put_transcript(
                 parameters, offset, basis, challenges, queries, word, store, last, bytes,
             );
-            Outcome::Done
+            Ok(())
         }
-        Outcome::Refused(cause) => Outcome::Refused(cause),
+        Err(cause) => Err(cause),
     }
 }
 
@@ -85,15 +85,15 @@ fn checked(
     store: &[u64],
     last: &[u64],
     size: usize,
-) -> Outcome
+) -> Result<(), Cause>
     ensures { let run = run_of parameters offset.0 basis.now challenges.now word.now
         store.now last.now in
         result ≡ write_outcome run queries.now size }
 {
     let lists = run_checks::checked_lists(parameters, offset, basis, challenges, word, store, last);
     match lists {
-        Outcome::Done => checked_after_lists(parameters, basis, queries, size),
-        Outcome::Refused(cause) => Outcome::Refused(cause),
+        Ok(()) => checked_after_lists(parameters, basis, queries, size),
+        Err(cause) => Err(cause),
     }
 }
 
@@ -103,17 +103,17 @@ fn checked_after_lists(
     basis: &[u64],
     queries: &[u64],
     size: usize,
-) -> Outcome
+) -> Result<(), Cause>
     requires { Valid parameters }
     ensures { result ≡ after_lists_outcome parameters basis.now queries.now size }
 {
     if size != length_due(parameters, queries.len()) {
-        return Outcome::Refused(Cause::WrongLength { list: 8 });
+        return Err(Cause::WrongLength { list: 8 });
     }
     let outcome = independence::checked_basis(basis);
     match outcome {
-        Outcome::Done => query_checks::checked_queries(parameters.k, parameters.step, queries),
-        Outcome::Refused(cause) => Outcome::Refused(cause),
+        Ok(()) => query_checks::checked_queries(parameters.k, parameters.step, queries),
+        Err(cause) => Err(cause),
     }
 }
 

@@ -10,12 +10,11 @@ use lib.Dec.{leb}
 use lib.ListN.{length}
 use Rattle.refusal.specs.declared.Cause.{Cause}
 use Rattle.refusal.specs.declared.Cause.TheVariants.{CountDiffers, QueryCountOutOfRange}
-use Rattle.refusal.specs.declared.Outcome.{Outcome}
-use Rattle.refusal.specs.declared.Outcome.TheVariants.{Done, Refused}
+use Rattle.std.specs.Prelude.{Ok, Err}
+use Rattle.refusal.specs.Outcome.{Outcome}
 use Rattle.refusal.specs.Checks.{and_then}
 use Rattle.refusal.specs.Numbers.{number_of, number_of_outcome}
 use Rattle.refusal.proofs.Checks.{then_done, unless_done, number_then}
-use Rattle.fri.specs.declared.Answer.TheVariants as answers
 use Rattle.coset.specs.Answers.{basis_outcome}
 use Rattle.fri.specs.Layout.{step_at}
 use Rattle.fri.specs.Run.{Run}
@@ -37,11 +36,11 @@ use Rattle.written.proofs.Only.{only}
 abbrev Low : ℕ → Type 0
 Low n = n ≤ 3
 
-done_low : (o : Outcome) → o ≡ Done → Low (number_of_outcome o)
+done_low : (o : Outcome) → o ≡ Ok tt → Low (number_of_outcome o)
 done_low o e = subst (λ (p : Outcome). Low (number_of_outcome p)) (sym e) (omega arith)
 
 -- the values that are read pass: what is left is the bytes' number and the counts
-module _ (bytes : List ℕ) (passes : checks_outcome (run_in bytes) (queries_in bytes) ≡ Done) where
+module _ (bytes : List ℕ) (passes : checks_outcome (run_in bytes) (queries_in bytes) ≡ Ok tt) where
   abbrev parameters : Outcome
   parameters = parameters_outcome (transcript_k bytes) (transcript_rate bytes) (transcript_step bytes)
 
@@ -57,7 +56,7 @@ module _ (bytes : List ℕ) (passes : checks_outcome (run_in bytes) (queries_in 
   abbrev counted : ℕ → Bool
   counted count = leb 1 count && leb count 256
 
-  each_done : (parameters ≡ Done) × (of_basis ≡ Done) × (counted (length (queries_in bytes)) ≡ true) × (indices ≡ Done)
+  each_done : (parameters ≡ Ok tt) × (of_basis ≡ Ok tt) × (counted (length (queries_in bytes)) ≡ true) × (indices ≡ Ok tt)
   each_done =
       let both = then_done (run_outcome (run_in bytes))
       (queries_outcome (transcript_k bytes) first (queries_in bytes)) passes in
@@ -81,19 +80,19 @@ module _ (bytes : List ℕ) (passes : checks_outcome (run_in bytes) (queries_in 
       (number_then Low (section_outcome bytes 4 (counted (section_count bytes 4)) QueryCountOutOfRange) indices fourth
       (done_low indices each_done.3))
 
-pub others_refused : (run : Run) (queries bytes : List ℕ) → checks_outcome run queries ≡ Done → AreBytes bytes
+pub others_refused : (run : Run) (queries bytes : List ℕ) → checks_outcome run queries ≡ Ok tt → AreBytes bytes
     → run_in bytes ≡ run → queries_in bytes ≡ queries
     → (bytes ≡ transcript_of run queries)
-    ⊎ ((cause : Cause) × (transcript_verdict bytes ≡ record { answer = answers.Refused cause; reads = 0 })
+    ⊎ ((cause : Cause) × (transcript_verdict bytes ≡ record { answer = Err cause; reads = 0 })
     × (number_of cause ≤ 3))
 others_refused run queries bytes passes b e q = by (transcript_outcome bytes) refl
   where
     by : (o : Outcome) → transcript_outcome bytes ≡ o
         → (bytes ≡ transcript_of run queries)
-        ⊎ ((cause : Cause) × (transcript_verdict bytes ≡ record { answer = answers.Refused cause; reads = 0 })
+        ⊎ ((cause : Cause) × (transcript_verdict bytes ≡ record { answer = Err cause; reads = 0 })
         × (number_of cause ≤ 3))
-    by Done done = inl (sym (only bytes b (passed_carries bytes done)) ∙ ap₂ transcript_of e q)
-    by (Refused cause) refused =
+    by (Ok tt) done = inl (sym (only bytes b (passed_carries bytes done)) ∙ ap₂ transcript_of e q)
+    by (Err cause) refused =
         let low = subst (λ (o : Outcome). Low (number_of_outcome o)) refused
         (low_number bytes (ap₂ checks_outcome e q ∙ passes)) in
         inr (cause, judging_bytes.early bytes cause refused, low)

@@ -13,8 +13,7 @@ use Rattle.poly.proofs.Entries.{all_take, all_drop}
 use Rattle.fri.specs.Layout.{steps_of, dimension, last_count, layer_start, store_length, joined_layers, stored_layer}
 use Rattle.fri.specs.Run.{Run, steps_in, rounds_in, layer_in}
 use Rattle.refusal.specs.declared.Cause.TheVariants.{InputTooLong}
-use Rattle.refusal.specs.declared.Outcome.TheVariants.{Done}
-use Rattle.fri.specs.declared.Answer.TheVariants as answers
+use Rattle.std.specs.Prelude.{Ok, Err}
 use Rattle.fri.specs.Judge.{checks_outcome, verdict_of}
 use Rattle.fri.specs.Demand.{ValidParameters}
 use Rattle.fri.proofs.Layouts.{some_round, rounds_few}
@@ -277,8 +276,8 @@ module _ (run : Run) (queries : List ℕ) (w : FitsSections run queries) where
   judged_by_program : length bytes ≤ input_limit → input_verdict bytes ≡ verdict_of run queries
   judged_by_program h = judging_bytes.short bytes h ∙ judged
 
-  over_limit : input_limit < length bytes → checks_outcome run queries ≡ Done
-      → input_verdict bytes ≡ record { answer = answers.Refused InputTooLong; reads = 0 }
+  over_limit : input_limit < length bytes → checks_outcome run queries ≡ Ok tt
+      → input_verdict bytes ≡ record { answer = Err InputTooLong; reads = 0 }
   over_limit h passed =
       long_inputs.passed bytes h
       (long_inputs.carried bytes carries ∙ ap₂ checks_outcome run_again queries_again ∙ passed)

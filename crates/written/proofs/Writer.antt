@@ -9,8 +9,8 @@ use lib.ListN.{length}
 use borrow.Author.Tests.{eq-eqb, ne_eqb}
 use Rattle.refusal.specs.declared.Cause.{Cause}
 use Rattle.refusal.specs.declared.Cause.TheVariants.{WrongLength}
-use Rattle.refusal.specs.declared.Outcome.{Outcome}
-use Rattle.refusal.specs.declared.Outcome.TheVariants.{Done, Refused}
+use Rattle.std.specs.Prelude.{Ok, Err}
+use Rattle.refusal.specs.Outcome.{Outcome}
 use Rattle.refusal.specs.Checks.{and_then, afterwards}
 use Rattle.refusal.specs.Numbers.{number_of_outcome}
 use Rattle.refusal.proofs.Checks.{equal_of_test, passed_by, refused_by, unless_done, then_passed, then_done}
@@ -32,16 +32,16 @@ use Rattle.written.proofs.Lengths.{transcript_size}
 -- ---- three groups of checks
 
 -- what is refused by the first two is refused whatever follows
-cut : (first second after : Outcome) (cause : Cause) → and_then first second ≡ Refused cause
-    → and_then first (and_then second after) ≡ Refused cause
+cut : (first second after : Outcome) (cause : Cause) → and_then first second ≡ Err cause
+    → and_then first (and_then second after) ≡ Err cause
 cut first second after cause e = then_then first second after ∙ ap (λ (o : Outcome). and_then o after) e
 
 number_before : (P : ℕ → Type 0) (first second third after : Outcome)
     → P (number_of_outcome (and_then first (and_then second third))) → P (number_of_outcome after)
     → P (number_of_outcome (and_then first (and_then second after)))
-number_before P Done Done third after h a = a
-number_before P Done (Refused cause) third after h a = h
-number_before P (Refused cause) second third after h a = h
+number_before P (Ok tt) (Ok tt) third after h a = a
+number_before P (Ok tt) (Err cause) third after h a = h
+number_before P (Err cause) second third after h a = h
 
 -- ---- the writer's
 
@@ -64,12 +64,12 @@ module _ (run : Run) (queries : List ℕ) where
   as_lists_needed : write_outcome run queries needed ≡ checks_outcome run queries
   as_lists_needed =
       ap (λ (o : Outcome). and_then parameters (and_then (lengths_outcome run) (and_then o (and_then of_basis of_queries))))
-      (sym (passed_by (eqb needed needed) (WrongLength 8) Done (eq-eqb needed needed refl)))
+      (sym (passed_by (eqb needed needed) (WrongLength 8) (Ok tt) (eq-eqb needed needed refl)))
       ∙ ap (and_then parameters) (then_then (lengths_outcome run) of_basis of_queries)
       ∙ then_then parameters (and_then (lengths_outcome run) of_basis) of_queries
 
-  earlier : (size : ℕ) (cause : Cause) → and_then parameters (lengths_outcome run) ≡ Refused cause
-      → write_outcome run queries size ≡ Refused cause
+  earlier : (size : ℕ) (cause : Cause) → and_then parameters (lengths_outcome run) ≡ Err cause
+      → write_outcome run queries size ≡ Err cause
   earlier size cause e = cut parameters (lengths_outcome run) (sized size) cause e
 
   abbrev due : ℕ
@@ -80,23 +80,23 @@ module _ (run : Run) (queries : List ℕ) where
     where
       by : (o : Outcome) → and_then parameters (lengths_outcome run) ≡ o
           → write_outcome run queries due ≡ checks_outcome run queries
-      by (Refused cause) e = earlier due cause e ∙ sym (earlier needed cause e) ∙ as_lists_needed
-      by Done e =
+      by (Err cause) e = earlier due cause e ∙ sym (earlier needed cause e) ∙ as_lists_needed
+      by (Ok tt) e =
           let both = then_done parameters (lengths_outcome run) e in
           let valid = parameters_valid run.k run.rate run.step both.0 in
           ap (write_outcome run queries) (sym (transcript_size run valid (lengths_fit run both.1) queries))
           ∙ as_lists_needed
 
-  sized_done : (size : ℕ) → write_outcome run queries size ≡ Done → size ≡ due
+  sized_done : (size : ℕ) → write_outcome run queries size ≡ Ok tt → size ≡ due
   sized_done size e =
       let ranges = then_done parameters (and_then (lengths_outcome run) (sized size)) e in
       let lists = then_done (lengths_outcome run) (sized size) ranges.1 in
       let fits = then_done (size_outcome run queries size) (and_then of_basis of_queries) lists.1 in
       let valid = parameters_valid run.k run.rate run.step ranges.0 in
-      equal_of_test size needed (unless_done (eqb size needed) (WrongLength 8) Done fits.0).0
+      equal_of_test size needed (unless_done (eqb size needed) (WrongLength 8) (Ok tt) fits.0).0
       ∙ transcript_size run valid (lengths_fit run lists.0) queries
 
-  done : (size : ℕ) → (write_outcome run queries size ≡ Done) ↔ ((checks_outcome run queries ≡ Done) × (size ≡ due))
+  done : (size : ℕ) → (write_outcome run queries size ≡ Ok tt) ↔ ((checks_outcome run queries ≡ Ok tt) × (size ≡ due))
   done size = (
     λ e. let same = sized_done size e in (sym as_lists ∙ ap (write_outcome run queries) (sym same) ∙ e, same),
     λ both. ap (write_outcome run queries) both.1 ∙ as_lists ∙ both.0,
@@ -104,16 +104,16 @@ module _ (run : Run) (queries : List ℕ) where
 
   list8 : (size : ℕ) → ValidParameters run.k run.rate run.step → Fit run
       → size ≢ transcript_length run.k run.rate (steps_in run) (length queries)
-      → write_outcome run queries size ≡ Refused (WrongLength 8)
+      → write_outcome run queries size ≡ Err (WrongLength 8)
   list8 size v f n =
       sym (then_passed parameters (and_then (lengths_outcome run) (sized size))
       (parameters_pass run.k run.rate run.step v))
       ∙ sym (then_passed (lengths_outcome run) (sized size) (lengths_pass run f))
       ∙ ap (λ (o : Outcome). and_then o (and_then of_basis of_queries))
-      (sym (refused_by (eqb size needed) (WrongLength 8) Done
+      (sym (refused_by (eqb size needed) (WrongLength 8) (Ok tt)
       (ne_eqb size needed (λ e. n (e ∙ transcript_size run v f queries)))))
 
-  left : (held : List ℕ) (cause : Cause) → write_outcome run queries (length held) ≡ Refused cause
+  left : (held : List ℕ) (cause : Cause) → write_outcome run queries (length held) ≡ Err cause
       → bytes_after run queries held ≡ held
   left held cause e = ap (λ (o : Outcome). afterwards o (transcript_of run queries) held) e
 
@@ -122,7 +122,7 @@ module _ (run : Run) (queries : List ℕ) where
       number_before WriterNumber parameters (lengths_outcome run) of_basis (sized size)
       (run_number WriterNumber none (λ n l u. inr (inl (l, omega arith))) thirteen run)
       (number_then WriterNumber (size_outcome run queries size) (and_then of_basis of_queries)
-      (number_unless WriterNumber (eqb size needed) (WrongLength 8) Done thirteen none)
+      (number_unless WriterNumber (eqb size needed) (WrongLength 8) (Ok tt) thirteen none)
       (number_then WriterNumber of_basis of_queries
       (basis_number WriterNumber none (early 8 (omega arith) (omega arith)) run.basis)
       (queries_number WriterNumber none (early 9 (omega arith) (omega arith)) (early 10 (omega arith) (omega arith))

@@ -7,10 +7,9 @@ use lib.ListN.{length}
 use lib.Pow.{pow_mono}
 use Rattle.gf64.specs.Field.{IsElement}
 use Rattle.poly.specs.Polynomial.{All}
-use Rattle.refusal.specs.declared.Outcome.{Outcome}
-use Rattle.refusal.specs.declared.Outcome.TheVariants.{Done}
+use Rattle.std.specs.Prelude.{Ok}
+use Rattle.refusal.specs.Outcome.{Outcome}
 use Rattle.refusal.specs.Checks.{afterwards}
-use Rattle.fri.specs.declared.Answer.TheVariants as answers
 use Rattle.fri.specs.Run.{Run, steps_in, rounds_in, step_in}
 use Rattle.fri.specs.Layers.{honest}
 use Rattle.fri.specs.Checks.{run_outcome}
@@ -32,12 +31,12 @@ use Rattle.written.proofs.RoundTrip.{written_transcripts}
 use Rattle.written.proofs.Writer.{writer_refusals}
 
 -- where it is done, list 8 holds the transcript
-holds : (run : Run) (queries held : List ℕ) → write_outcome run queries (length held) ≡ Done
+holds : (run : Run) (queries held : List ℕ) → write_outcome run queries (length held) ≡ Ok tt
     → bytes_after run queries held ≡ transcript_of run queries
 holds run queries held e = ap (λ (o : Outcome). afterwards o (transcript_of run queries) held) e
 
 -- lists that pass fit sections
-fits : (run : Run) (queries : List ℕ) → Elements run → All IsElement queries → checks_outcome run queries ≡ Done
+fits : (run : Run) (queries : List ℕ) → Elements run → All IsElement queries → checks_outcome run queries ≡ Ok tt
     → FitsSections run queries
 fits run queries elements asked e =
     let passed = (passing.all run queries).0 e in
@@ -52,7 +51,7 @@ fits run queries elements asked e =
     }
 
 module _ (run : Run) (queries held : List ℕ) (elements : Elements run) (asked : All IsElement queries)
-    (e : write_outcome run queries (length held) ≡ Done) where
+    (e : write_outcome run queries (length held) ≡ Ok tt) where
   fit : FitsSections run queries
   fit = fits run queries elements asked ((writer_refusals.done run queries (length held)).0 e).0
 
@@ -67,15 +66,15 @@ module _ (run : Run) (queries held : List ℕ) (elements : Elements run) (asked 
 
 -- ---- bytes that pass
 
-module _ (bytes held : List ℕ) (b : AreBytes bytes) (done : transcript_outcome bytes ≡ Done)
+module _ (bytes held : List ℕ) (b : AreBytes bytes) (done : transcript_outcome bytes ≡ Ok tt)
     (size : length held ≡ length bytes) where
   written_is : transcript_of (run_in bytes) (queries_in bytes) ≡ bytes
   written_is = written_transcripts.only bytes b (passed_carries bytes done)
 
-  passes : checks_outcome (run_in bytes) (queries_in bytes) ≡ Done
+  passes : checks_outcome (run_in bytes) (queries_in bytes) ≡ Ok tt
   passes = sym (checks_are bytes (passed_carries bytes done)) ∙ done
 
-  written_done : write_outcome (run_in bytes) (queries_in bytes) (length held) ≡ Done
+  written_done : write_outcome (run_in bytes) (queries_in bytes) (length held) ≡ Ok tt
   written_done =
       let valid = run_valid (run_in bytes) ((passing.all (run_in bytes) (queries_in bytes)).0 passes).0 in
       (writer_refusals.done (run_in bytes) (queries_in bytes) (length held)).1 (
@@ -84,7 +83,7 @@ module _ (bytes held : List ℕ) (b : AreBytes bytes) (done : transcript_outcome
             ∙ written_transcripts.size (run_in bytes) (queries_in bytes) valid.0 valid.1,
       )
 
-  rewritten : (write_outcome (run_in bytes) (queries_in bytes) (length held) ≡ Done)
+  rewritten : (write_outcome (run_in bytes) (queries_in bytes) (length held) ≡ Ok tt)
       × (bytes_after (run_in bytes) (queries_in bytes) held ≡ bytes)
   rewritten = (written_done, holds (run_in bytes) (queries_in bytes) held written_done ∙ written_is)
 
@@ -103,7 +102,7 @@ module _ (run : Run) (queries : List ℕ) (coset : ValidCoset run) (input : Prov
   abbrev due : ℕ
   due = transcript_length run.k run.rate (steps_in run) (length queries)
 
-  passed : run_outcome (honest run) ≡ Done
+  passed : run_outcome (honest run) ≡ Ok tt
   passed =
       let counts = honest_run.counts run coset input in
       run_passes (honest run) coset.parameters
@@ -116,13 +115,13 @@ module _ (run : Run) (queries : List ℕ) (coset : ValidCoset run) (input : Prov
       })
       coset.independent
 
-  honest_done : write_outcome (honest run) queries due ≡ Done
+  honest_done : write_outcome (honest run) queries due ≡ Ok tt
   honest_done =
       writer_refusals.as_lists (honest run) queries ∙ (passing.all (honest run) queries).1 (passed, valid, apart)
 
   honest_accepted : (held : List ℕ) → LowDegree run → length held ≡ due
       → transcript_verdict (bytes_after (honest run) queries held)
-      ≡ record { answer = answers.Accepted; reads = length queries * rounds_in run * 2 ^ run.step }
+      ≡ record { answer = Ok tt; reads = length queries * rounds_in run * 2 ^ run.step }
   honest_accepted held low size =
       (read_again (honest run) queries held (honest_proofs.covered run coset input low).0
       (indices_fit run.k coset.parameters.k_most queries valid.within)

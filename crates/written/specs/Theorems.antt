@@ -5,10 +5,9 @@ use Rattle.gf64.specs.Field.{IsElement}
 use Rattle.poly.specs.Polynomial.{All}
 use Rattle.refusal.specs.declared.Cause.{Cause}
 use Rattle.refusal.specs.declared.Cause.TheVariants.{WrongLength, InputTooLong}
-use Rattle.refusal.specs.declared.Outcome.TheVariants.{Done, Refused}
+use Rattle.std.specs.Prelude.{Ok, Err}
 use Rattle.refusal.specs.Checks.{and_then}
 use Rattle.refusal.specs.Numbers.{number_of, number_of_outcome}
-use Rattle.fri.specs.declared.Answer.TheVariants as answers
 use Rattle.fri.specs.Run.{Run, steps_in, rounds_in, step_in}
 use Rattle.fri.specs.Layers.{honest}
 use Rattle.fri.specs.Checks.{parameters_outcome, lengths_outcome}
@@ -66,10 +65,10 @@ pub record WrittenTranscripts : Type 0 where
       → run_in one ≡ run_in other → queries_in one ≡ queries_in other → one ≡ other
   -- bytes from which the lists of a transcript that passes can be read are that transcript, or the reader refuses
   -- them: they end early (1), a count differs (2), or bytes follow the last section (3)
-  pub others_refused : (run : Run) (queries bytes : List ℕ) → checks_outcome run queries ≡ Done → AreBytes bytes
+  pub others_refused : (run : Run) (queries bytes : List ℕ) → checks_outcome run queries ≡ Ok tt → AreBytes bytes
       → run_in bytes ≡ run → queries_in bytes ≡ queries
       → (bytes ≡ transcript_of run queries)
-      ⊎ ((cause : Cause) × (transcript_verdict bytes ≡ record { answer = answers.Refused cause; reads = 0 })
+      ⊎ ((cause : Cause) × (transcript_verdict bytes ≡ record { answer = Err cause; reads = 0 })
       × (number_of cause ≤ 3))
   -- judging the bytes by the library is judging the lists, at every length, verdict and reads
   pub judged : (run : Run) (queries : List ℕ) → FitsSections run queries
@@ -79,8 +78,8 @@ pub record WrittenTranscripts : Type 0 where
       → length (transcript_of run queries) ≤ input_limit
       → input_verdict (transcript_of run queries) ≡ verdict_of run queries
   pub over_limit : (run : Run) (queries : List ℕ) → FitsSections run queries
-      → input_limit < length (transcript_of run queries) → checks_outcome run queries ≡ Done
-      → input_verdict (transcript_of run queries) ≡ record { answer = answers.Refused InputTooLong; reads = 0 }
+      → input_limit < length (transcript_of run queries) → checks_outcome run queries ≡ Ok tt
+      → input_verdict (transcript_of run queries) ≡ record { answer = Err InputTooLong; reads = 0 }
 
 -- the numbers that the writer may give
 abbrev pub WriterNumber : (n : ℕ) → Type 0
@@ -94,20 +93,20 @@ pub record WriterRefusals : Type 0 where
       ≡ checks_outcome run queries
   -- any lists that pass are written, honest or not
   pub done : (run : Run) (queries : List ℕ) (size : ℕ)
-      → (write_outcome run queries size ≡ Done)
-      ↔ ((checks_outcome run queries ≡ Done)
+      → (write_outcome run queries size ≡ Ok tt)
+      ↔ ((checks_outcome run queries ≡ Ok tt)
       × (size ≡ transcript_length run.k run.rate (steps_in run) (length queries)))
   -- parameters and lists 1 to 5 come before list 8
   pub earlier : (run : Run) (queries : List ℕ) (size : ℕ) (cause : Cause)
-      → and_then (parameters_outcome run.k run.rate run.step) (lengths_outcome run) ≡ Refused cause
-      → write_outcome run queries size ≡ Refused cause
+      → and_then (parameters_outcome run.k run.rate run.step) (lengths_outcome run) ≡ Err cause
+      → write_outcome run queries size ≡ Err cause
   -- and list 8 before the basis and the queries
   pub list8 : (run : Run) (queries : List ℕ) (size : ℕ) → ValidParameters run.k run.rate run.step → Fit run
       → size ≢ transcript_length run.k run.rate (steps_in run) (length queries)
-      → write_outcome run queries size ≡ Refused (WrongLength 8)
+      → write_outcome run queries size ≡ Err (WrongLength 8)
   -- a refusal leaves every byte
   pub left : (run : Run) (queries held : List ℕ) (cause : Cause)
-      → write_outcome run queries (length held) ≡ Refused cause → bytes_after run queries held ≡ held
+      → write_outcome run queries (length held) ≡ Err cause → bytes_after run queries held ≡ held
   -- no number is given otherwise
   pub numbers : (run : Run) (queries : List ℕ) (size : ℕ)
       → WriterNumber (number_of_outcome (write_outcome run queries size))
@@ -116,22 +115,22 @@ pub record WriterRefusals : Type 0 where
 pub record WrittenBytes : Type 0 where
   -- the reader finds the lists again, and judging the bytes is judging the lists
   pub read : (run : Run) (queries held : List ℕ) → Elements run → All IsElement queries
-      → write_outcome run queries (length held) ≡ Done
+      → write_outcome run queries (length held) ≡ Ok tt
       → (run_in (bytes_after run queries held) ≡ run) × (queries_in (bytes_after run queries held) ≡ queries)
       × (transcript_verdict (bytes_after run queries held) ≡ verdict_of run queries)
   -- of the lists of bytes whose sections pass it writes these bytes
-  pub rewritten : (bytes held : List ℕ) → AreBytes bytes → transcript_outcome bytes ≡ Done → length held ≡ length bytes
-      → (write_outcome (run_in bytes) (queries_in bytes) (length held) ≡ Done)
+  pub rewritten : (bytes held : List ℕ) → AreBytes bytes → transcript_outcome bytes ≡ Ok tt → length held ≡ length bytes
+      → (write_outcome (run_in bytes) (queries_in bytes) (length held) ≡ Ok tt)
       × (bytes_after (run_in bytes) (queries_in bytes) held ≡ bytes)
   -- an honest run and a valid query list in which no two queries share a first-layer coset are written, whatever the
   -- word's degree
   pub honest_done : (run : Run) (queries : List ℕ) → ValidCoset run → ProverInput run
       → ValidQueries run.k queries → Apart (step_in run 0) queries
-      → write_outcome (honest run) queries (transcript_length run.k run.rate (steps_in run) (length queries)) ≡ Done
+      → write_outcome (honest run) queries (transcript_length run.k run.rate (steps_in run) (length queries)) ≡ Ok tt
   -- demand 3, first half, of what is written: where the degree is low, the bytes are accepted, with queries · r · 2^η
   -- entries read
   pub honest_accepted : (run : Run) (queries held : List ℕ) → ValidCoset run → ProverInput run → LowDegree run
       → ValidQueries run.k queries → Apart (step_in run 0) queries
       → length held ≡ transcript_length run.k run.rate (steps_in run) (length queries)
       → transcript_verdict (bytes_after (honest run) queries held)
-      ≡ record { answer = answers.Accepted; reads = length queries * rounds_in run * 2 ^ run.step }
+      ≡ record { answer = Ok tt; reads = length queries * rounds_in run * 2 ^ run.step }

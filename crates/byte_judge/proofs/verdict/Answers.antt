@@ -5,12 +5,12 @@ use Rattle.transcript.proofs.Carried.{passed_carries}
 use Rattle.byte_judge.proofs.verdict.Goals as goal
 
 -- all sections have passed
-pub returns-in-Done : goal.returns-in-Done
-returns-in-Done c =
+pub returns-in-Ok : goal.returns-in-Ok
+returns-in-Ok c =
     let bytes = c.args.bytes.now in
-    let passed = sym c.checked-outcome.ensures ∙ c.in-Done.is in
+    let passed = sym c.checked-outcome.ensures ∙ c.in-Ok.is in
     c.judge_checked.ensures ∙ sym (judging_bytes.carried bytes (passed_carries bytes passed))
 
-pub returns-in-Refused : goal.returns-in-Refused
-returns-in-Refused c =
-    sym (refused_verdict c.args.bytes.now c.in-Refused.cause (sym c.checked-outcome.ensures ∙ c.in-Refused.is))
+pub returns-in-Err : goal.returns-in-Err
+returns-in-Err c =
+    sym (refused_verdict c.args.bytes.now c.in-Err.cause (sym c.checked-outcome.ensures ∙ c.in-Err.is))

@@ -3,7 +3,7 @@
 -- nothing.
 use mathlib.Core.Path.{◌≡◌, sym, ap, ◌∙◌, subst}
 use Prim.Native.Nat.{ℕ, ◌^◌, ◌<◌}
-use Rattle.refusal.specs.declared.Outcome.TheVariants.{Done}
+use Rattle.std.specs.Prelude.{Ok}
 use Rattle.fri.specs.Run.{Run}
 use Rattle.fri.specs.Judge.{checks_outcome, verdict_of}
 use Rattle.byte_rounds.specs.Layers.{LaidOut}
@@ -21,7 +21,7 @@ pub rounds-count-requires : goal.rounds-count-requires
 rounds-count-requires g c =
     let a = c.args in
     let checks =
-    subst (λ (r : Run). checks_outcome r a.queries.now ≡ Done) (sym c.requires.0) c.requires.1.0 in
+    subst (λ (r : Run). checks_outcome r a.queries.now ≡ Ok tt) (sym c.requires.0) c.requires.1.0 in
     let offset_element : a.offset.0 < 2 ^ 64 = search rules in
     let checked =
     checked_sent a.parameters a.offset.0 a.basis.now a.challenges.now a.bytes.now a.last.now a.queries.now checks
@@ -33,7 +33,7 @@ pub set_up-table-requires : goal.set_up-table-requires
 set_up-table-requires g c =
     let a = c.args in
     let checks =
-    subst (λ (r : Run). checks_outcome r a.queries.now ≡ Done) (sym c.requires.0) c.requires.1.0 in
+    subst (λ (r : Run). checks_outcome r a.queries.now ≡ Ok tt) (sym c.requires.0) c.requires.1.0 in
     let offset_element : a.offset.0 < 2 ^ 64 = search rules in
     let checked =
     checked_sent a.parameters a.offset.0 a.basis.now a.challenges.now a.bytes.now a.last.now a.queries.now checks
@@ -45,7 +45,7 @@ pub queries-init : goal.queries-init
 queries-init g c =
     let a = c.args in
     let checks =
-    subst (λ (r : Run). checks_outcome r a.queries.now ≡ Done) (sym c.requires.0) c.requires.1.0 in
+    subst (λ (r : Run). checks_outcome r a.queries.now ≡ Ok tt) (sym c.requires.0) c.requires.1.0 in
     let offset_element : a.offset.0 < 2 ^ 64 = search rules in
     let checked =
     checked_sent a.parameters a.offset.0 a.basis.now a.challenges.now a.bytes.now a.last.now a.queries.now checks

@@ -8,7 +8,7 @@ use native.Mathlib.Nat.{le_trans}
 use lib.Pow.{pow_mono}
 use lib.ListN.{length}
 use lib.Dec.{leb, eqb}
-use Rattle.refusal.specs.declared.Outcome.TheVariants.{Done}
+use Rattle.std.specs.Prelude.{Ok}
 use Rattle.refusal.proofs.Checks.{equal_of_test, le_of_test}
 use Rattle.reed_solomon.specs.Codes.{encoded}
 use Rattle.reed_solomon.specs.Answers.{checked, encode_outcome}
@@ -22,9 +22,9 @@ use Rattle.coding.proofs.encode.Goals as goal
 
 -- where all checks pass
 module _ (basis coefficients values : List ℕ) (size : ℕ) (sized : size ≡ cond (leb (length basis) 20) (2 ^ length basis) 0)
-    (done : Done ≡ checked basis (leb (length coefficients) size) (eqb (length values) size)) where
-  answered : encode_outcome basis coefficients values ≡ Done
-  answered = answered_by_size basis (leb (length coefficients)) (eqb (length values)) size Done sized done
+    (done : (Ok tt) ≡ checked basis (leb (length coefficients) size) (eqb (length values) size)) where
+  answered : encode_outcome basis coefficients values ≡ Ok tt
+  answered = answered_by_size basis (leb (length coefficients)) (eqb (length values)) size (Ok tt) sized done
 
   all : Passed basis (leb (length coefficients) (2 ^ length basis)) (eqb (length values) (2 ^ length basis))
   all = passed basis (leb (length coefficients) (2 ^ length basis)) (eqb (length values) (2 ^ length basis)) answered
@@ -44,7 +44,7 @@ pub dimension_of-used-requires : goal.dimension_of-used-requires
 dimension_of-used-requires c =
     let a = c.args in
     let size = c.size_of-size in
-    let done = c.in-Done.ensures in
+    let done = c.in-Ok.ensures in
     le_trans (enough a.basis.now a.coefficients.now a.values.now size.result size.ensures done)
     (pow_mono (all a.basis.now a.coefficients.now a.values.now size.result size.ensures done).small)
 
@@ -52,7 +52,7 @@ pub evaluate_in_place-requires : goal.evaluate_in_place-requires
 evaluate_in_place-requires c =
     let a = c.args in
     let size = c.size_of-size in
-    let done = c.in-Done.ensures in
+    let done = c.in-Ok.ensures in
     let passed = all a.basis.now a.coefficients.now a.values.now size.result size.ensures done in
     let fits = enough a.basis.now a.coefficients.now a.values.now size.result size.ensures done in
     let held = filled a.basis.now a.coefficients.now a.values.now size.result size.ensures done c.fill.ensures in
@@ -65,11 +65,11 @@ evaluate_in_place-requires c =
           (zeros_behind (2 ^ used.result) (2 ^ length a.basis.now) a.coefficients.now used.ensures.0),
     )
 
-pub returns-in-Done-clause-output : goal.returns-in-Done-clause-output
-returns-in-Done-clause-output c =
+pub returns-in-Ok-clause-output : goal.returns-in-Ok-clause-output
+returns-in-Ok-clause-output c =
     let a = c.args in
     let size = c.size_of-size in
-    let done = c.in-Done.ensures in
+    let done = c.in-Ok.ensures in
     let held = filled a.basis.now a.coefficients.now a.values.now size.result size.ensures done c.fill.ensures in
     (done_both (encode_outcome a.basis.now a.coefficients.now a.values.now)
     (encoded a.offset.0 a.basis.now a.coefficients.now) a.values.now c.evaluate_in_place.new.slice

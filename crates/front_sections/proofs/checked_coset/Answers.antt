@@ -29,13 +29,13 @@ checked_basis-requires c =
       omega (arith, start_near a.bytes.now known 2 a.at (omega arith) c.requires.0),
     )
 
-pub returns-in-Done : goal.returns-in-Done
-returns-in-Done c =
+pub returns-in-Ok : goal.returns-in-Ok
+returns-in-Ok c =
     let bytes = c.args.bytes.now in
     let at = ap (λ (n : ℕ). n + 12) c.requires.0 in
     let size = sized c.args.parameters.k c.requires.1.valid.k_most ∙ ap (λ (p : Parameters). p.k) c.requires.1.read in
     let due = c.checked_due-whole.ensures ∙ ap (λ (p : Parameters). due_outcome bytes 2 (p.k + 1)) c.requires.1.read in
-    let passed = sym due ∙ c.in-Done.is in
+    let passed = sym due ∙ c.in-Ok.is in
     let count = (due_done bytes 2 (transcript_k bytes + 1) passed).0 in
     c.checked_basis.ensures
     ∙ ap basis_outcome (ap₂ (entries_at bytes) at size ∙ basis_is bytes (transcript_k bytes) count)

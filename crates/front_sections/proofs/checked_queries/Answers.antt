@@ -11,8 +11,8 @@ use Rattle.transcript.specs.Numerals.{count_at, entries_at}
 use Rattle.transcript.specs.Checks.{section_outcome}
 use Rattle.transcript.proofs.Checks.{section_done}
 use Rattle.transcript.proofs.Numerals.{are_bytes}
-use Rattle.refusal.specs.declared.Outcome.{Outcome}
-use Rattle.refusal.specs.declared.Outcome.TheVariants.{Done}
+use Rattle.std.specs.Prelude.{Ok}
+use Rattle.refusal.specs.Outcome.{Outcome}
 use Rattle.refusal.specs.declared.Cause.TheVariants.{QueryCountOutOfRange}
 use Rattle.refusal.proofs.Checks.{then_passed, within_of}
 use Rattle.fri.specs.Layout.{step_at}
@@ -38,9 +38,9 @@ module _ (bytes : List ℕ) (at count : ℕ) (begin : at ≡ section_start bytes
   counts = read ∙ ap (count_at bytes) begin
 
   module _ (test : Bool) (tests : test ≡ leb 1 count && leb count 256) (whole : Outcome) where
-    module _ (says : whole ≡ section_outcome bytes 4 test QueryCountOutOfRange) (done : whole ≡ Done) where
+    module _ (says : whole ≡ section_outcome bytes 4 test QueryCountOutOfRange) (done : whole ≡ Ok tt) where
       -- the count and the bytes have passed
-      passed : counted bytes ≡ Done
+      passed : counted bytes ≡ Ok tt
       passed =
           let same = tests ∙ ap (λ (n : ℕ). leb 1 n && leb n 256) counts in
           sym (says ∙ ap (λ (t : Bool). section_outcome bytes 4 t QueryCountOutOfRange) same) ∙ done
@@ -69,7 +69,7 @@ pub slice_bounds-room-end : goal.slice_bounds-room-end
 slice_bounds-room-end c =
     few c.args.bytes.now c.args.at c.count_at-count.result c.requires.0 c.count_at-count.ensures.value
     c.is_query_count.result c.is_query_count.ensures c.checked_section-whole.result c.checked_section-whole.ensures
-    c.in-Done.is
+    c.in-Ok.is
 
 pub checked_indices-requires : goal.checked_indices-requires
 checked_indices-requires c =
@@ -78,15 +78,15 @@ checked_indices-requires c =
     let room =
     few a.bytes.now a.at c.count_at-count.result c.requires.0 c.count_at-count.ensures.value
     c.is_query_count.result c.is_query_count.ensures c.checked_section-whole.result c.checked_section-whole.ensures
-    c.in-Done.is in
+    c.in-Ok.is in
     let size = length-take-le {A = ℕ} c.count_at-count.result (replicate 256 0) room in (
       c.requires.1.valid,
       omega (arith, room, size),
       omega (arith, start_near a.bytes.now known 4 a.at (omega arith) c.requires.0),
     )
 
-pub returns-in-Done : goal.returns-in-Done
-returns-in-Done c =
+pub returns-in-Ok : goal.returns-in-Ok
+returns-in-Ok c =
     let bytes = c.args.bytes.now in
     let p = c.args.parameters in
     let valid = c.requires.1.valid in
@@ -96,11 +96,11 @@ returns-in-Done c =
     let room =
     few bytes c.args.at c.count_at-count.result c.requires.0 c.count_at-count.ensures.value
     c.is_query_count.result c.is_query_count.ensures c.checked_section-whole.result c.checked_section-whole.ensures
-    c.in-Done.is in
+    c.in-Ok.is in
     let done =
     passed bytes c.args.at c.count_at-count.result c.requires.0 c.count_at-count.ensures.value
     c.is_query_count.result c.is_query_count.ensures c.checked_section-whole.result c.checked_section-whole.ensures
-    c.in-Done.is in
+    c.in-Ok.is in
     let size = length-take-le {A = ℕ} c.count_at-count.result (replicate 256 0) room ∙ count in
     c.checked_indices.ensures
     ∙ ap₂ (indices_outcome p.k) (sym step) (ap₂ (entries_at bytes) at size)

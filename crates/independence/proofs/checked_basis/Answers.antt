@@ -3,9 +3,9 @@ use mathlib.Core.Path.{ap}
 use Rattle.coset.specs.Answers.{outcome_of_basis}
 use Rattle.independence.proofs.checked_basis.Goals as goal
 
-pub returns-in-At : goal.returns-in-At
-returns-in-At c = ap outcome_of_basis
-    c.in-At.ensures
+pub returns-in-Some : goal.returns-in-Some
+returns-in-Some c = ap outcome_of_basis
+    c.in-Some.ensures
 
-pub returns-in-Absent : goal.returns-in-Absent
-returns-in-Absent c = ap outcome_of_basis c.in-Absent.ensures
+pub returns-in-None : goal.returns-in-None
+returns-in-None c = ap outcome_of_basis c.in-None.ensures

@@ -4,7 +4,7 @@ use mathlib.Core.Path.{sym}
 use Rattle.coset.proofs.Dimension.{found_in_prefix}
 use Rattle.independence.proofs.first_dependent.Goals as goal
 
-pub returns-in-At : goal.returns-in-At
-returns-in-At c =
+pub returns-in-Some : goal.returns-in-Some
+returns-in-Some c =
     let basis = c.args.basis.now in
-    sym (found_in_prefix 64 basis c.in-At.place (sym c.in-At.ensures))
+    sym (found_in_prefix 64 basis c.in-Some.place (sym c.in-Some.ensures))

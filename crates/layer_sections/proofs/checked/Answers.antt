@@ -8,7 +8,7 @@ use Rattle.layer_sections.proofs.checked.Goals as goal
 -- sections 1 to 4 have passed
 pub checked_layers-requires : goal.checked_layers-requires
 checked_layers-requires c =
-    let passed = sym c.checked_front-front.ensures ∙ c.in-Done.is in
+    let passed = sym c.checked_front-front.ensures ∙ c.in-Ok.is in
     let read = c.parameters.ensures in
     let valid = (front_done c.args.bytes.now passed).1 in
     (ap (λ (s : Sections). s.layers) c.requires, record { read = read; valid = subst Valid (sym read) valid })

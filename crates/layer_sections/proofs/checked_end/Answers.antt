@@ -10,8 +10,8 @@ use Rattle.transcript.specs.Sections.{transcript_k, transcript_rate, transcript_
 use Rattle.transcript.specs.Checks.{due_outcome}
 use Rattle.transcript.proofs.Sections.{end_is}
 use Rattle.transcript.proofs.Numerals.{are_bytes}
-use Rattle.refusal.specs.declared.Outcome.{Outcome}
-use Rattle.refusal.specs.declared.Outcome.TheVariants.{Done}
+use Rattle.std.specs.Prelude.{Ok}
+use Rattle.refusal.specs.Outcome.{Outcome}
 use Rattle.refusal.specs.declared.Cause.TheVariants.{TrailingBytes}
 use Rattle.refusal.specs.Checks.{refused_unless}
 use Rattle.refusal.proofs.Checks.{then_passed, passed_by, refused_by}
@@ -37,7 +37,7 @@ last_due bytes =
     due_outcome bytes (last-section bytes) (last_count (transcript_k bytes) (transcript_rate bytes) (transcript_steps bytes))
 
 abbrev nothing-after : (bytes : List ℕ) → Outcome
-nothing-after bytes = refused_unless (eqb (end_of bytes) (length bytes)) TrailingBytes Done
+nothing-after bytes = refused_unless (eqb (end_of bytes) (length bytes)) TrailingBytes (Ok tt)
 
 -- there are at most 19 rounds, as many as the bytes have
 few : (bytes : List ℕ) (p : Parameters) → ParametersOf bytes p → transcript_rounds bytes ≤ 19
@@ -47,7 +47,7 @@ few bytes p of =
 -- the section has passed
 passed : (bytes : List ℕ) (p : Parameters) → ParametersOf bytes p
     → (rounds : ℕ) → rounds ≡ length (steps_by p) → (last : ℕ) → last ≡ last_count p.k p.rate (steps_by p)
-    → (whole : Outcome) → whole ≡ due_outcome bytes (5 + rounds) last → whole ≡ Done → last_due bytes ≡ Done
+    → (whole : Outcome) → whole ≡ due_outcome bytes (5 + rounds) last → whole ≡ Ok tt → last_due bytes ≡ Ok tt
 passed bytes p of rounds r last l whole says done =
     let many = r ∙ ap (λ (q : Parameters). length (steps_by q)) of.read in
     let due = l ∙ ap (λ (q : Parameters). last_count q.k q.rate (steps_by q)) of.read in
@@ -71,9 +71,9 @@ returns-then-end_of-bytes c =
     let end = ends bytes c.args.at c.end_of.result c.requires.0 c.end_of.ensures in
     let done =
     passed bytes c.args.parameters c.requires.1 c.rounds.result c.rounds.ensures c.last_count.result c.last_count.ensures
-    c.checked_due-whole.result c.checked_due-whole.ensures c.in-Done.is in
+    c.checked_due-whole.result c.checked_due-whole.ensures c.in-Ok.is in
     let more = ne_eqb (end_of bytes) (length bytes) (λ e. c.if-end_of-bytes.true (end ∙ e)) in
-    refused_by (eqb (end_of bytes) (length bytes)) TrailingBytes Done more
+    refused_by (eqb (end_of bytes) (length bytes)) TrailingBytes (Ok tt) more
     ∙ then_passed (last_due bytes) (nothing-after bytes) done
 
 pub returns-else-end_of-bytes : goal.returns-else-end_of-bytes
@@ -82,7 +82,7 @@ returns-else-end_of-bytes c =
     let end = ends bytes c.args.at c.end_of.result c.requires.0 c.end_of.ensures in
     let done =
     passed bytes c.args.parameters c.requires.1 c.rounds.result c.rounds.ensures c.last_count.result c.last_count.ensures
-    c.checked_due-whole.result c.checked_due-whole.ensures c.in-Done.is in
+    c.checked_due-whole.result c.checked_due-whole.ensures c.in-Ok.is in
     let all = eq-eqb (end_of bytes) (length bytes) (sym end ∙ c.if-end_of-bytes.false) in
-    passed_by (eqb (end_of bytes) (length bytes)) TrailingBytes Done all
+    passed_by (eqb (end_of bytes) (length bytes)) TrailingBytes (Ok tt) all
     ∙ then_passed (last_due bytes) (nothing-after bytes) done

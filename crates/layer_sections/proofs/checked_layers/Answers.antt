@@ -9,7 +9,7 @@ use Rattle.transcript.specs.Sections.{section_start, layer_section, transcript_r
 use Rattle.transcript.specs.Checks.{due_outcome, layers_from, end_outcome}
 use Rattle.transcript.proofs.Sections.{end_is}
 use Rattle.transcript.proofs.Numerals.{are_bytes}
-use Rattle.refusal.specs.declared.Outcome.{Outcome}
+use Rattle.refusal.specs.Outcome.{Outcome}
 use Rattle.refusal.specs.Checks.{and_then}
 use Rattle.refusal.proofs.Checks.{then_passed, then_refused}
 use Rattle.fri.specs.Layout.{dimension}
@@ -101,20 +101,20 @@ loop-i-preserved c =
       omega arith,
       begins ∙ ap (section_start bytes) (sym one),
       ap₂ (layers_from bytes) (add-one l.i) (ap (λ (n : ℕ). rounds - n) (add-one l.i))
-          ∙ then_passed (layer-due bytes l.i) (rest bytes rounds l.i) (sym said ∙ c.in-Done.is)
+          ∙ then_passed (layer-due bytes l.i) (rest bytes rounds l.i) (sym said ∙ c.in-Ok.is)
           ∙ decides bytes rounds l.i (omega arith) l.invariant.3,
     )
 
-pub returns-in-Refused : goal.returns-in-Refused
-returns-in-Refused c =
+pub returns-in-Err : goal.returns-in-Err
+returns-in-Err c =
     let l = c.loop-i in
     let bytes = c.args.bytes.now in
     let rounds = c.rounds-rounds.result in
-    let cause = c.in-Refused.cause in
+    let cause = c.in-Err.cause in
     let due-said =
     due bytes c.args.parameters c.requires.1 l.i c.dimension.result c.dimension.ensures c.checked_due-outcome.result
     c.checked_due-outcome.ensures in
-    let due-refused = sym due-said ∙ c.in-Refused.is in
+    let due-refused = sym due-said ∙ c.in-Err.is in
     let said = then_refused (layer-due bytes l.i) (rest bytes rounds l.i) cause due-refused in
     then_refused (layers_from bytes 0 (transcript_rounds bytes)) (end_outcome bytes) cause
     (sym (said ∙ decides bytes rounds l.i (omega arith) l.invariant.3))

@@ -3,7 +3,7 @@
 use Rattle.round_checks.proofs.Judged.{checked_run, cosets_few, first_query, first_round, accepted}
 use Rattle.round_checks.proofs.Judged.{part_fits, found_fits, read_in_lists, next_round, refused}
 use Rattle.layout.specs.Parameters.{run_of}
-use Rattle.refusal.specs.declared.Outcome.TheVariants.{Done}
+use Rattle.std.specs.Prelude.{Ok}
 use Rattle.fri.specs.Run.{Run}
 use Rattle.fri.specs.Judge.{checks_outcome, verdict_of}
 use Rattle.coset.proofs.Points.{all_elements}
@@ -20,7 +20,7 @@ queries-init g c =
     -- the run of the call, and what the checks tell of it
     let run = run_of a.parameters a.offset.0 a.basis.now a.challenges.now a.word.now a.store.now a.last.now in
     let checks =
-    subst (λ (r : Run). checks_outcome r a.queries.now ≡ Done) (sym c.requires.0) c.requires.1
+    subst (λ (r : Run). checks_outcome r a.queries.now ≡ Ok tt) (sym c.requires.0) c.requires.1
     in
     let offset_element : a.offset.0 < 2 ^ 64 = search rules in
     first_query

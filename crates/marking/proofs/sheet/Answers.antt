@@ -9,8 +9,8 @@ use Rattle.marking.proofs.sheet.Goals as goal
 pub sheet_checked-requires : goal.sheet_checked-requires
 sheet_checked-requires c = (c.find-sections.ensures, sym c.in-Done.ensures)
 
-pub returns-in-Refused : goal.returns-in-Refused
-returns-in-Refused c =
+pub returns-in-Err : goal.returns-in-Err
+returns-in-Err c =
     let a = c.args in
-    let none = sheet_refused a.bytes.now c.in-Refused.field-0 (sym c.in-Refused.ensures) in
+    let none = sheet_refused a.bytes.now c.in-Err.field-0 (sym c.in-Err.ensures) in
     record { length = sym (ap length none); list = nothing_in_front (transcript_sheet a.bytes.now) a.out.now none }

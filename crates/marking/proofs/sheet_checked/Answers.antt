@@ -19,13 +19,13 @@ use Rattle.sheet_text.proofs.Fronts.{no_room}
 use Rattle.marking.proofs.Fronts.{put_in_front}
 use Rattle.marking.proofs.Lengths.{lines_few, length_is}
 use Rattle.marking.proofs.sheet_checked.Goals as goal
-use Rattle.refusal.specs.declared.Outcome.TheVariants.{Done}
+use Rattle.std.specs.Prelude.{Ok}
 use Rattle.transcript.specs.Checks.{transcript_outcome}
 use Rattle.small_lists.specs.declared.Lists.{Lists}
 use Rattle.small_lists.specs.Lists.{lists_in}
 
 -- the lines of what was read are the sheet
-lines_are : (bytes : List ℕ) (l : Lists) → transcript_outcome bytes ≡ Done → l ≡ lists_in bytes
+lines_are : (bytes : List ℕ) (l : Lists) → transcript_outcome bytes ≡ Ok tt → l ≡ lists_in bytes
     → sheet_lines
     (sent_in l.parameters l.offset.0 (take l.parameters.k l.basis) (take l.rounds l.challenges) bytes
     (take l.last_count l.last))

@@ -5,7 +5,7 @@ use native.Mathlib.Nat.{le_of_eq, le_trans}
 use lib.ListN.{length, replicate}
 use lib.Seq.{length-take-le}
 use Rattle.coset.proofs.Sizes.{size_shifted}
-use Rattle.refusal.specs.declared.Outcome.TheVariants.{Done}
+use Rattle.std.specs.Prelude.{Ok}
 use Rattle.fri.specs.Layout.{dimension}
 use Rattle.fri.specs.Run.{Run, steps_in, rounds_in}
 use Rattle.fri.specs.Checks.{run_outcome}
@@ -22,7 +22,7 @@ of_run run = record { k = run.k; rate = run.rate; step = run.step }
 
 -- they are those given
 module _ (p : Parameters) (run : Run) (same : p ≡ of_run run)
-    (done : run_outcome run ≡ Done) where
+    (done : run_outcome run ≡ Ok tt) where
   given_valid : Valid p
   given_valid = subst Valid (sym same) (input_passed run done).parameters
 

@@ -7,7 +7,7 @@ use lib.ListN.{length, get_or}
 use lib.Seq.{length-take-le}
 use Rattle.coset.proofs.Points.{all_elements}
 use Rattle.coset.specs.Span.{Independent}
-use Rattle.refusal.specs.declared.Outcome.TheVariants.{Done}
+use Rattle.std.specs.Prelude.{Ok}
 use Rattle.reed_solomon.specs.Codes.{interpolated}
 use Rattle.fri.specs.Demand.{ValidCoset}
 use Rattle.fri.specs.Layout.{dimension}
@@ -29,11 +29,11 @@ use Rattle.prover.proofs.prove_in.Goals as goal
 
 -- the prover's input is on a coset, by what the run is
 valid : (p : Parameters) (offset : ℕ) (basis challenges word store last : List ℕ) (run : Run)
-    → run_of p offset basis challenges word store last ≡ run → run_outcome run ≡ Done → offset < 2 ^ 64
+    → run_of p offset basis challenges word store last ≡ run → run_outcome run ≡ Ok tt → offset < 2 ^ 64
     → ((j : ℕ) → get_or basis j 0 < 2 ^ 64) → ValidCoset (input_in run)
 valid p offset basis challenges word store last run is done o b =
     let called = run_of p offset basis challenges word store last in
-    let passed = input_passed called (subst (λ (r : Run). run_outcome r ≡ Done) (sym is) done) in
+    let passed = input_passed called (subst (λ (r : Run). run_outcome r ≡ Ok tt) (sym is) done) in
     subst (λ (r : Run). ValidCoset (input_in r)) is
     (valid_input p offset offset basis challenges word (length store) passed o (all_elements basis b))
 

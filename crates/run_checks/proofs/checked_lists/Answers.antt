@@ -9,7 +9,7 @@ use Rattle.fri.specs.Checks.{parameters_outcome, lengths_outcome}
 use Rattle.fri.specs.Layout.{layer_start, store_length}
 use Rattle.coset.proofs.Sizes.{size_shifted}
 use Rattle.refusal.proofs.Checks.{then_passed}
-use Rattle.refusal.specs.declared.Outcome.TheVariants.{Done}
+use Rattle.std.specs.Prelude.{Ok}
 use lib.ListN.{length}
 use Prim.Native.Nat.{ℕ, ◌*◌, ◌%◌, ◌^◌}
 use mathlib.Core.Path.{◌≡◌, sym, ap, ◌∙◌}
@@ -17,7 +17,7 @@ use native.Mathlib.Omega.{arith}
 use Rattle.run_checks.proofs.checked_lists.Goals as goal
 
 -- the parameters are in range
-module _ (run : Run) (told : Done ≡ parameters_outcome run.k run.rate run.step) where
+module _ (run : Run) (told : (Ok tt) ≡ parameters_outcome run.k run.rate run.step) where
   -- so the lengths decide
   decided : lengths_outcome run ≡ of_lists run
   decided = then_passed (parameters_outcome run.k run.rate run.step) (lengths_outcome run) (sym told)
@@ -38,10 +38,10 @@ returns-then-store-layer_start c =
     let run = run_of a.parameters a.offset.0 a.basis.now a.challenges.now a.word.now a.store.now a.last.now in
     sym
     (list4_refused run c.if-basis-parameters.false (c.if-challenges-rounds.false ∙ c.rounds-rounds.ensures)
-    (word_fits run c.in-Done.ensures c.if-word-parameters.false)
+    (word_fits run c.in-Ok.ensures c.if-word-parameters.false)
     (λ e. c.if-store-layer_start.true
     (e ∙ sym (due run c.rounds-rounds.result c.layer_start.result c.rounds-rounds.ensures c.layer_start.ensures))))
-    ∙ decided run c.in-Done.ensures
+    ∙ decided run c.in-Ok.ensures
 
 pub returns-then-last-last_count : goal.returns-then-last-last_count
 returns-then-last-last_count c =
@@ -49,11 +49,11 @@ returns-then-last-last_count c =
     let run = run_of a.parameters a.offset.0 a.basis.now a.challenges.now a.word.now a.store.now a.last.now in
     sym
     (list5_refused run c.if-basis-parameters.false (c.if-challenges-rounds.false ∙ c.rounds-rounds.ensures)
-    (word_fits run c.in-Done.ensures c.if-word-parameters.false)
+    (word_fits run c.in-Ok.ensures c.if-word-parameters.false)
     (c.if-store-layer_start.false
     ∙ due run c.rounds-rounds.result c.layer_start.result c.rounds-rounds.ensures c.layer_start.ensures)
     (λ e. c.if-last-last_count.true (e ∙ sym c.last_count.ensures)))
-    ∙ decided run c.in-Done.ensures
+    ∙ decided run c.in-Ok.ensures
 
 pub returns : goal.returns
 returns c =
@@ -64,9 +64,9 @@ returns c =
     (record {
       basis = c.if-basis-parameters.false;
       challenges = c.if-challenges-rounds.false ∙ c.rounds-rounds.ensures;
-      word = word_fits run c.in-Done.ensures c.if-word-parameters.false;
+      word = word_fits run c.in-Ok.ensures c.if-word-parameters.false;
       store = c.if-store-layer_start.false
           ∙ due run c.rounds-rounds.result c.layer_start.result c.rounds-rounds.ensures c.layer_start.ensures;
       last = c.if-last-last_count.false ∙ c.last_count.ensures;
     }))
-    ∙ decided run c.in-Done.ensures
+    ∙ decided run c.in-Ok.ensures

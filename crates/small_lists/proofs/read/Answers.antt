@@ -14,7 +14,7 @@ use Rattle.transcript.specs.Sections.{section_count, transcript_k, transcript_ro
 use Rattle.transcript.proofs.Numerals.{are_bytes}
 use Rattle.transcript.proofs.Carried.{passed_carries, queries_few}
 use Rattle.transcript.specs.Checks.{transcript_outcome}
-use Rattle.refusal.specs.declared.Outcome.TheVariants.{Done}
+use Rattle.std.specs.Prelude.{Ok}
 use Rattle.sections.specs.declared.Sections.{Sections}
 use Rattle.sections.specs.Views.{sections_in, parameters_in}
 use Rattle.sections.proofs.Places.{start_near, basis_is}
@@ -41,7 +41,7 @@ module _ (bytes : List ℕ) (fit : (i : ℕ) → get_or bytes i 0 < 256) (s : Se
 
 -- ---- the lengths
 
-module _ (bytes : List ℕ) (passed : transcript_outcome bytes ≡ Done) (p : Parameters)
+module _ (bytes : List ℕ) (passed : transcript_outcome bytes ≡ Ok tt) (p : Parameters)
     (read : p ≡ parameters_in bytes) where
   in_range : Valid p
   in_range = subst Valid (sym read) (passed_carries bytes passed).parameters

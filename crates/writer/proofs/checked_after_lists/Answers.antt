@@ -16,8 +16,8 @@ returns-then-size-length_due c =
     let a = c.args in
     size_refused a.parameters a.basis.now a.queries.now a.size (λ e. omega (arith, c.length_due.ensures))
 
-pub returns-in-Done : goal.returns-in-Done
-returns-in-Done c =
+pub returns-in-Ok : goal.returns-in-Ok
+returns-in-Ok c =
     let a = c.args in
     let p = a.parameters in
     let of_basis = basis_outcome a.basis.now in
@@ -26,14 +26,14 @@ returns-in-Done c =
     c.checked_queries.ensures
     ∙ ap (λ (n : ℕ). queries_outcome p.k n a.queries.now)
     (sym (first_step p.k p.rate p.step v.step_least v.k_enough))
-    ∙ then_passed of_basis of_queries (sym c.in-Done.ensures)
+    ∙ then_passed of_basis of_queries (sym c.in-Ok.ensures)
     ∙ size_passed p a.basis.now a.queries.now a.size (omega (arith, c.length_due.ensures))
 
-pub returns-in-Refused : goal.returns-in-Refused
-returns-in-Refused c =
+pub returns-in-Err : goal.returns-in-Err
+returns-in-Err c =
     let a = c.args in
     let p = a.parameters in
     let of_basis = basis_outcome a.basis.now in
     let of_queries = queries_outcome p.k (step_at (steps_by p) 0) a.queries.now in
-    then_refused of_basis of_queries c.in-Refused.cause (sym c.in-Refused.ensures)
+    then_refused of_basis of_queries c.in-Err.cause (sym c.in-Err.ensures)
     ∙ size_passed p a.basis.now a.queries.now a.size (omega (arith, c.length_due.ensures))

@@ -4,8 +4,8 @@ use mathlib.Core.Bool.{Bool, true, false, cond}
 use Prim.Native.Nat.{ℕ, ◌^◌}
 use lib.Dec.{ltb}
 use borrow.Author.Tests.{lt-ltb, le-ltb}
-use Rattle.refusal.specs.declared.Outcome.{Outcome}
-use Rattle.refusal.specs.declared.Outcome.TheVariants.{Done, Refused}
+use Rattle.std.specs.Prelude.{Ok, Err}
+use Rattle.refusal.specs.Outcome.{Outcome}
 use Rattle.fri.specs.Checks.{parameters_outcome}
 use Rattle.fri.proofs.Checks.{parameters_valid}
 use Rattle.layout.specs.declared.Parameters.{Parameters}
@@ -26,23 +26,23 @@ length-where p queries outcome few e f =
 pub returns-then-queries-ge-LIST_LIMIT : goal.returns-then-queries-ge-LIST_LIMIT
 returns-then-queries-ge-LIST_LIMIT c =
     let a = c.args in
-    length-where a.parameters a.queries Done false (sym c.in-Done.ensures)
+    length-where a.parameters a.queries (Ok tt) false (sym c.in-Ok.ensures)
     (le-ltb a.queries (2 ^ 60) c.if-queries-ge-LIST_LIMIT.true)
 
 pub length_due-requires : goal.length_due-requires
 length_due-requires c =
     let p = c.args.parameters in
-    (parameters_valid p.k p.rate p.step (sym c.in-Done.ensures), c.if-queries-ge-LIST_LIMIT.false)
+    (parameters_valid p.k p.rate p.step (sym c.in-Ok.ensures), c.if-queries-ge-LIST_LIMIT.false)
 
 pub returns-else-queries-ge-LIST_LIMIT : goal.returns-else-queries-ge-LIST_LIMIT
 returns-else-queries-ge-LIST_LIMIT c =
     let a = c.args in
     c.length_due.ensures
-    ∙ length-where a.parameters a.queries Done true (sym c.in-Done.ensures)
+    ∙ length-where a.parameters a.queries (Ok tt) true (sym c.in-Ok.ensures)
     (lt-ltb a.queries (2 ^ 60) c.if-queries-ge-LIST_LIMIT.false)
 
-pub returns-in-Refused : goal.returns-in-Refused
-returns-in-Refused c =
+pub returns-in-Err : goal.returns-in-Err
+returns-in-Err c =
     let a = c.args in
-    length-where a.parameters a.queries (Refused c.in-Refused.field-0) (ltb a.queries (2 ^ 60))
-    (sym c.in-Refused.ensures) refl
+    length-where a.parameters a.queries (Err c.in-Err.field-0) (ltb a.queries (2 ^ 60))
+    (sym c.in-Err.ensures) refl

@@ -1,7 +1,7 @@
 -- `writer::write` meets its contract. Assumes nothing.
 use mathlib.Core.Path.{◌≡◌, sym}
 use lib.ListN.{length}
-use Rattle.refusal.specs.declared.Outcome.TheVariants.{Done}
+use Rattle.std.specs.Prelude.{Ok}
 use Rattle.refusal.proofs.Checks.{done_holds, refused_holds}
 use Rattle.layout.specs.Parameters.{run_of}
 use Rattle.written.specs.Transcript.{transcript_of}
@@ -16,31 +16,31 @@ put_transcript-requires c =
     let run = run_of a.parameters a.offset.0 a.basis.now a.challenges.now a.word.now a.store.now a.last.now in
     let asked = a.queries.now in
     let size = length a.bytes.now in
-    let passed : write_outcome run asked size ≡ Done = sym c.in-Done.ensures in
+    let passed : write_outcome run asked size ≡ (Ok tt) = sym c.in-Ok.ensures in
     let lists = (passed_lists run asked size passed).0 in
     (lists_valid run lists, lists_fit run lists, passed_size run asked size passed)
 
-pub returns-in-Done : goal.returns-in-Done
-returns-in-Done c =
+pub returns-in-Ok : goal.returns-in-Ok
+returns-in-Ok c =
     let a = c.args in
     let run = run_of a.parameters a.offset.0 a.basis.now a.challenges.now a.word.now a.store.now a.last.now in
     let f = c.put_transcript in
     let answer = write_outcome run a.queries.now (length a.bytes.now) in
-    let passed : answer ≡ Done = sym c.in-Done.ensures in
+    let passed : answer ≡ (Ok tt) = sym c.in-Ok.ensures in
     record {
-      answer = c.in-Done.ensures;
+      answer = c.in-Ok.ensures;
       bytes =
           done_holds answer (transcript_of run a.queries.now) a.bytes.now f.new.bytes passed f.ensures;
     }
 
-pub returns-in-Refused : goal.returns-in-Refused
-returns-in-Refused c =
+pub returns-in-Err : goal.returns-in-Err
+returns-in-Err c =
     let a = c.args in
     let run = run_of a.parameters a.offset.0 a.basis.now a.challenges.now a.word.now a.store.now a.last.now in
     let answer = write_outcome run a.queries.now (length a.bytes.now) in
     record {
-      answer = c.in-Refused.ensures;
+      answer = c.in-Err.ensures;
       bytes =
-          refused_holds answer c.in-Refused.cause (transcript_of run a.queries.now) a.bytes.now
-          (sym c.in-Refused.ensures);
+          refused_holds answer c.in-Err.cause (transcript_of run a.queries.now) a.bytes.now
+          (sym c.in-Err.ensures);
     }
