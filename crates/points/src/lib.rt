@@ -1,29 +1,46 @@
-// The points of a coset, by index and in sequence.
+// A coset, and its points by index and in sequence.
 #![tactic(auto)]
 
-ghost use Rattle.std.specs.Prelude.{◌≡◌, get_or, take};
+ghost use Rattle.std.specs.Prelude.{◌≡◌, ◌≤◌, length, get_or, take};
 ghost use Rattle.std.specs.Int.Count.{count_trailing_zeros};
 ghost use Rattle.gf64.specs.Field.{sum};
 ghost use Rattle.poly.specs.Carrier.{gf64};
 ghost use Rattle.poly.specs.Polynomial.{padded};
 ghost use Rattle.coset.specs.Coset.{point};
 ghost use Rattle.coset.specs.Sequence.{prefix_sums};
+ghost use Rattle.coset.specs.Span.{Independent};
 
 use field::Element;
 
-// Point j of the coset.
+// A coset of at most 2^20 points, by its offset and its independent basis.
+#[derive(Clone, Copy)]
+pub struct Coset<'a> {
+    pub offset: Element,
+    pub basis: &'a [u64],
+    pub ghost few: { length basis.now ≤ 20 },
+    pub ghost independent: { Independent basis.now },
+}
+
+impl<'a> Coset<'a> {
+    // Point j, j below the number of points.
+    pub fn point(self, j: usize) -> Element
+        ensures { result.0 ≡ point self.entry.offset.0 self.entry.basis.now j }
+    {
+        point(self.offset, self.basis, j)
+    }
+}
+
+// Point j of the coset with this offset and this basis, whatever the basis.
 pub fn point(offset: Element, basis: &[u64], j: usize) -> Element
     ensures { result.0 ≡ point offset.0 basis.now j }
 {
     let mut point = offset;
     let mut bits = j;
-    let mut t: usize = 0;
-    while t < basis.len() {
+    for b in basis {
         if bits % 2 == 1 {
-            point = point.sum(Element(basis[t]));
+            point = point.sum(Element(*b));
         }
-        bits = bits / 2;
-        t += 1;
+        bits /= 2;
     }
     point
 }
@@ -33,14 +50,12 @@ pub fn point(offset: Element, basis: &[u64], j: usize) -> Element
 pub fn prefix_sums(basis: &[u64]) -> [u64; 20]
     ensures { result ≡ padded gf64 20 (prefix_sums 0 (take 20 basis.now)) }
 {
-    let count = poly::lesser(basis.len(), 20);
+    let count = basis.len().min(20);
     let mut sums = [0u64; 20];
-    let mut sum: u64 = 0;
-    let mut t: usize = 0;
-    while t < count {
-        sum = sum ^ basis[t];
-        sums[t] = sum;
-        t += 1;
+    let mut total = 0;
+    for (t, b) in basis[..count].iter().enumerate() {
+        total ^= *b;
+        sums[t] = total;
     }
     sums
 }
@@ -50,10 +65,8 @@ pub fn prefix_sums(basis: &[u64]) -> [u64; 20]
 pub fn stepped(sums: &[u64], point: Element, next: usize) -> Element
     ensures { result.0 ≡ sum point.0 (get_or sums.now (count_trailing_zeros 64 next) 0) }
 {
-    let t = usize::trailing_zeros(next) as usize;
-    if t < sums.len() {
-        point.sum(Element(sums[t]))
-    } else {
-        point
+    match sums.get(usize::trailing_zeros(next) as usize) {
+        Some(sum) => point.sum(Element(*sum)),
+        None => point,
     }
 }
