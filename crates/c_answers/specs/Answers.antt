@@ -5,9 +5,8 @@ use Rattle.std.specs.Prelude.{Option, Some, None, Result}
 use Rattle.refusal.specs.Outcome.{Outcome}
 use Rattle.field.specs.declared.Element.{Element}
 use Rattle.refusal.specs.Numbers.{number_of, place_of, round_of, number_of_outcome, place_of_outcome, round_of_outcome}
-use Rattle.fold.specs.Answers.{number_of_folded, place_of_folded, round_of_folded, value_of_folded}
+use Rattle.fold.specs.Answers.{value_of_folded}
 use Rattle.fri.specs.declared.Verdict.{Verdict}
-use Rattle.fri.specs.Judge.{number_of_answer, place_of_answer, round_of_answer}
 use Rattle.layout.specs.declared.Part.{Part}
 use Rattle.c_answers.specs.declared.Answer.{Answer}
 
@@ -39,9 +38,9 @@ answer_of_cause cause reads =
 abbrev pub answer_of_folded : (folded : Result Element Cause) → Answer
 answer_of_folded folded =
     record {
-      number = number_of_folded folded;
-      place = or_none (place_of_folded folded);
-      round = or_none (round_of_folded folded);
+      number = number_of_outcome folded;
+      place = or_none (place_of_outcome folded);
+      round = or_none (round_of_outcome folded);
       reads = 0;
       value = value_of_folded folded none;
     }
@@ -76,9 +75,9 @@ answer_of_part part = record { number = 0; place = part.start; round = none; rea
 abbrev pub answer_of_verdict : (verdict : Verdict) → Answer
 answer_of_verdict verdict =
     record {
-      number = number_of_answer verdict.answer;
-      place = or_none (place_of_answer verdict.answer);
-      round = or_none (round_of_answer verdict.answer);
+      number = number_of_outcome verdict.answer;
+      place = or_none (place_of_outcome verdict.answer);
+      round = or_none (round_of_outcome verdict.answer);
       reads = verdict.reads;
       value = none;
     }

@@ -15,7 +15,7 @@ use Rattle.std.specs.Prelude.{None, Result, Ok, Err}
 use Rattle.refusal.specs.Outcome.{Outcome}
 use Rattle.field.specs.declared.Element.{Element}
 use Rattle.refusal.specs.Checks.{and_then, afterwards}
-use Rattle.refusal.specs.Numbers.{number_of, place_of, round_of, number_of_outcome}
+use Rattle.refusal.specs.Numbers.{number_of, place_of, round_of, number_of_outcome, place_of_outcome, round_of_outcome}
 use Rattle.refusal.proofs.Checks.{within, outside, number_unless, number_then, then_passed, then_refused}
 use Rattle.coset.specs.Span.{Independent}
 use Rattle.coset.specs.Answers.{outcome_of_basis, basis_outcome}
@@ -23,7 +23,7 @@ use Rattle.coset.specs.Subspace.{next_offset, next_basis}
 use Rattle.coset.proofs.Independence.{basis_number}
 use Rattle.fold.specs.Answers.{fold_ranges_outcome, fold_lengths_outcome}
 use Rattle.fold.specs.Answers.{fold_outcome, folded_of, fold_answer, fold_values_after, next_basis_after}
-use Rattle.fold.specs.Answers.{number_of_folded, place_of_folded, round_of_folded, value_of_folded}
+use Rattle.fold.specs.Answers.{value_of_folded}
 use Rattle.fold.specs.Fold.{folded}
 use Rattle.fold.specs.Theorems.{InRange, FoldFits, FoldTells, FoldAccepted, Refuses, FoldNumber, FoldRefusals}
 use Rattle.fold.proofs.Checks as checks
@@ -100,7 +100,7 @@ answers_done : (k step offset : ℕ) (basis word : List ℕ) (x : ℕ) (values n
     × (next_basis_after k step basis word values next ≡ next_basis step basis)
 answers_done k step offset basis word x values next e = (
   is_offset,
-  (ap number_of_folded is_offset, ap place_of_folded is_offset, ap round_of_folded is_offset),
+  (ap number_of_outcome is_offset, ap place_of_outcome is_offset, ap round_of_outcome is_offset),
   λ none. ap (λ (a : Result Element Cause). value_of_folded a none) is_offset,
   ap (λ (o : Outcome). afterwards o (folded step offset basis word x) values) e,
   ap (λ (o : Outcome). afterwards o (next_basis step basis) next) e,
@@ -137,12 +137,12 @@ module _ (P : ℕ → Type 0) (p0 : P 0) (p4 : P 4) (p6 : P 6) (p7 : P 7) (p8 : 
       (lengths_number k step (length basis) (length word) (length values) (length next))
       (basis_number P p0 p8 basis))
 
-same_number : (outcome : Outcome) (offset : ℕ) → number_of_folded (folded_of outcome offset) ≡ number_of_outcome outcome
-same_number (Ok tt) offset = refl
+same_number : (outcome : Outcome) (offset : ℕ) → number_of_outcome (folded_of outcome offset) ≡ number_of_outcome outcome
+same_number (Ok _) offset = refl
 same_number (Err cause) offset = refl
 
 numbers : (k step offset : ℕ) (basis word values next : List ℕ)
-    → FoldNumber (number_of_folded (fold_answer k step offset basis word values next))
+    → FoldNumber (number_of_outcome (fold_answer k step offset basis word values next))
 numbers k step offset basis word values next =
     subst FoldNumber
     (sym (same_number (fold_outcome k step basis word values next) (next_offset step offset basis)))

@@ -39,7 +39,7 @@ fold_outcome k step basis word values next =
 
 -- the next offset, or the refusal
 abbrev pub folded_of : (outcome : Outcome) (offset : ℕ) → Result Element Cause
-folded_of (Ok tt) offset = Ok (record { 0 = offset })
+folded_of (Ok _) offset = Ok (record { 0 = offset })
 folded_of (Err cause) offset = Err cause
 
 -- the answer of a call
@@ -56,21 +56,6 @@ fold_values_after k step offset basis word challenge values next =
 abbrev pub next_basis_after : (k step : ℕ) (basis word values next : List ℕ) → List ℕ
 next_basis_after k step basis word values next =
     afterwards (fold_outcome k step basis word values next) (next_basis step basis) next
-
--- the number of an answer: 0 where there is a next offset, else that of the cause
-abbrev pub number_of_folded : (answer : Result Element Cause) → ℕ
-number_of_folded (Ok offset) = 0
-number_of_folded (Err cause) = number_of cause
-
--- the place of an answer: that of the cause
-abbrev pub place_of_folded : (answer : Result Element Cause) → Option ℕ
-place_of_folded (Ok offset) = None
-place_of_folded (Err cause) = place_of cause
-
--- the round of an answer: that of the cause
-abbrev pub round_of_folded : (answer : Result Element Cause) → Option ℕ
-round_of_folded (Ok offset) = None
-round_of_folded (Err cause) = round_of cause
 
 -- the value of an answer: the next offset, or `none` where there is none
 abbrev pub value_of_folded : (answer : Result Element Cause) (none : ℕ) → ℕ

@@ -1,5 +1,6 @@
 -- What is proved of the fold, as statements: Theorems.antt, Outcomes.antt and Cases.antt of
 -- proofs/ have a value of each.
+use Rattle.refusal.specs.Numbers.{number_of_outcome, place_of_outcome, round_of_outcome}
 use Rattle.std.specs.Prelude.{◌≡◌, ◌≢◌, ◌⊎◌, ◌↔◌, List, [], ◌∷◌, map, ℕ, ◌+◌, ◌*◌, ◌-◌, ◌^◌, ◌≤◌, ◌<◌, length, get_or}
 use Rattle.std.specs.Prelude.{Option, Some, None, Result, Ok}
 use Rattle.refusal.specs.declared.Cause.{Cause}
@@ -17,7 +18,7 @@ use Rattle.fold.specs.Halving.{value_at}
 use Rattle.fold.specs.Rows.{high_rows, rows_at}
 use Rattle.fold.specs.Exceptional.{FoldDegreeBelow, Exceptional}
 use Rattle.fold.specs.Answers.{fold_outcome, fold_answer, fold_values_after, next_basis_after}
-use Rattle.fold.specs.Answers.{number_of_folded, place_of_folded, round_of_folded, value_of_folded}
+use Rattle.fold.specs.Answers.{value_of_folded}
 
 -- a word of elements over a coset with an independent basis, whatever its entries
 pub record IsWord (offset : ℕ) (basis word : List ℕ) : Type 0 where
@@ -119,7 +120,7 @@ FoldFits k step basis word values next =
 -- an answer's number, place and round
 abbrev pub FoldTells : (answer : Result Element Cause) (number : ℕ) (place round : Option ℕ) → Type 0
 FoldTells answer number place round =
-    (number_of_folded answer ≡ number) × (place_of_folded answer ≡ place) × (round_of_folded answer ≡ round)
+    (number_of_outcome answer ≡ number) × (place_of_outcome answer ≡ place) × (round_of_outcome answer ≡ round)
 
 -- which calls are done, and what they answer and leave
 pub record FoldAccepted : Type 0 where
@@ -170,4 +171,4 @@ pub record FoldRefusals : Type 0 where
       → first_dependent basis ≡ Some place → Refuses k step basis word values next 8 (Some place)
   -- no number is given otherwise
   pub numbers : (k step offset : ℕ) (basis word values next : List ℕ)
-      → FoldNumber (number_of_folded (fold_answer k step offset basis word values next))
+      → FoldNumber (number_of_outcome (fold_answer k step offset basis word values next))

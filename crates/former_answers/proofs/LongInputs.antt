@@ -13,7 +13,7 @@ use Rattle.refusal.specs.declared.Cause.TheVariants.{InputTooLong}
 use Rattle.std.specs.Prelude.{None, Ok, Err}
 use Rattle.refusal.specs.Outcome.{Outcome}
 use Rattle.fri.specs.declared.Verdict.{Verdict}
-use Rattle.fri.specs.Judge.{number_of_answer, place_of_answer, round_of_answer}
+use Rattle.refusal.specs.Numbers.{number_of_outcome, place_of_outcome, round_of_outcome}
 use Rattle.fri.specs.Theorems.{Tells}
 use Rattle.transcript.specs.Checks.{front_outcome}
 use Rattle.transcript.specs.Judge.{transcript_verdict, input_limit, input_verdict}
@@ -23,7 +23,7 @@ use Rattle.transcript.proofs.LongInputs.{long_inputs}
 use Rattle.former_answers.specs.LongInputs.{former_input_verdict, ChangedAnswers}
 
 abbrev number : Verdict → ℕ
-number v = number_of_answer v.answer
+number v = number_of_outcome v.answer
 
 not_fourteen : (n : ℕ) → FrontNumber n → n ≢ 14
 not_fourteen n (inl two) e = omega arith
@@ -47,8 +47,8 @@ module _ (bytes : List ℕ) where
   former h =
       let told = former_long h in (
         ap number told,
-        ap (λ (v : Verdict). place_of_answer v.answer) told,
-        ap (λ (v : Verdict). round_of_answer v.answer) told,
+        ap (λ (v : Verdict). place_of_outcome v.answer) told,
+        ap (λ (v : Verdict). round_of_outcome v.answer) told,
         ap (λ (v : Verdict). v.reads) told,
       )
 
@@ -63,7 +63,7 @@ module _ (bytes : List ℕ) where
     where
       by_front : input_limit < length bytes → (front : Outcome) → front_outcome bytes ≡ front
           → (input_verdict bytes ≡ former_input_verdict bytes) ⊎ RefusedInFront
-      by_front h (Ok tt) e = inl (long_inputs.passed bytes h e ∙ sym (former_long h))
+      by_front h (Ok _) e = inl (long_inputs.passed bytes h e ∙ sym (former_long h))
       by_front h (Err cause) e = inr (h, (cause, e, (long_inputs.refused bytes cause h e).0))
 
       by_length : (test : Bool) → leb (length bytes) input_limit ≡ test

@@ -20,7 +20,7 @@ use Rattle.fri.specs.Checks.{parameters_outcome, lengths_outcome, queries_outcom
 use Rattle.fri.specs.Prover.{degree_outcome, prove_outcome, store_after, last_after}
 use Rattle.fri.specs.Rounds.{rounds_outcome}
 use Rattle.fri.specs.Reads.{entries_read}
-use Rattle.fri.specs.Judge.{answer_of, reads_after, verdict_of}
+use Rattle.fri.specs.Judge.{reads_after, verdict_of}
 use Rattle.transcript.specs.Numerals.{AreBytes}
 use Rattle.transcript.specs.Sections.{transcript_k, transcript_steps, run_in, queries_in}
 use Rattle.transcript.specs.Checks.{due_outcome, parameters_section, challenges_section, queries_section, layers_outcome}
@@ -86,7 +86,7 @@ former_transcript_outcome cause bytes =
 abbrev pub verdict_after : (checks : Outcome) (run : Run) (queries : List ℕ) → Verdict
 verdict_after checks run queries =
     record {
-      answer = answer_of (and_then checks (rounds_outcome run queries 0));
+      answer = and_then checks (rounds_outcome run queries 0);
       reads = reads_after checks (entries_read run queries);
     }
 

@@ -4,7 +4,7 @@ use Rattle.refusal.specs.declared.Cause.{Cause}
 use Rattle.refusal.specs.declared.Cause.TheVariants.{InputTooLong}
 use Rattle.std.specs.Prelude.{None, Err}
 use Rattle.fri.specs.declared.Verdict.{Verdict}
-use Rattle.fri.specs.Judge.{number_of_answer}
+use Rattle.refusal.specs.Numbers.{number_of_outcome}
 use Rattle.fri.specs.Theorems.{Tells}
 use Rattle.transcript.specs.Checks.{front_outcome}
 use Rattle.transcript.specs.Judge.{transcript_verdict, input_limit, input_verdict}
@@ -22,7 +22,7 @@ pub record ChangedAnswers : Type 0 where
   -- the answers that changed are those to inputs over the limit that get 2, 4 to 10 or 17 now, and no others
   pub exactly : (bytes : List ℕ)
       → (input_verdict bytes ≢ former_input_verdict bytes)
-      ↔ ((input_limit < length bytes) × FrontNumber (number_of_answer (input_verdict bytes).answer))
+      ↔ ((input_limit < length bytes) × FrontNumber (number_of_outcome (input_verdict bytes).answer))
   -- that is, to those of them that sections 1 to 4 refuse, and with that refusal
   pub by_sections : (bytes : List ℕ)
       → (input_verdict bytes ≢ former_input_verdict bytes)

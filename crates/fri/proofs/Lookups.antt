@@ -32,7 +32,7 @@ module _ (k rate step : ℕ) (store : List ℕ) (i : ℕ) where
   test = in_store k steps store i
 
   empty_after : (o : Outcome) → part_after o [] ≡ []
-  empty_after (Ok tt) = refl
+  empty_after (Ok _) = refl
   empty_after (Err cause) = refl
 
   empty_by : test ≡ false → layer_part k rate step store i ≡ []
@@ -49,7 +49,7 @@ module _ (k rate step : ℕ) (store : List ℕ) (i : ℕ) where
       (le-ltb i (length steps) (subst (λ (n : ℕ). n ≤ i) (sym (laws.length_steps k rate step)) u))) o))
 
   not_done : (o : Outcome) (part : List ℕ) → o ≢ (Ok tt) → part_after o part ≡ []
-  not_done (Ok tt) part n = absurd (n refl)
+  not_done (Ok _) part n = absurd (n refl)
   not_done (Err cause) part n = refl
 
   looked_up : ValidParameters k rate step → 1 ≤ i → i < rounds_of k rate step → length store ≡ store_length k steps

@@ -19,7 +19,7 @@ use Rattle.coset.specs.Span.{first_dependent}
 use Rattle.coset.specs.Answers.{outcome_of_basis, basis_outcome}
 use Rattle.fri.specs.Run.{Run, step_in}
 use Rattle.fri.specs.Checks.{parameters_outcome, lengths_outcome, run_outcome, queries_outcome}
-use Rattle.fri.specs.Judge.{checks_outcome, verdict_of, number_of_answer}
+use Rattle.fri.specs.Judge.{checks_outcome, verdict_of}
 use Rattle.fri.specs.Rounds.{rounds_outcome}
 use Rattle.fri.specs.Prover.{degree_outcome, prove_outcome}
 use Rattle.fri.specs.Demand.{ValidParameters}
@@ -166,18 +166,17 @@ shared_cosets =
 
 -- ---- numbers
 
-judge_number : (run : Run) (queries : List ℕ) → JudgeNumber (number_of_answer (verdict_of run queries).answer)
+judge_number : (run : Run) (queries : List ℕ) → JudgeNumber (number_of_outcome (verdict_of run queries).answer)
 judge_number run queries =
-    subst JudgeNumber (sym (verdicts.same_number (and_then (checks_outcome run queries) (rounds_outcome run queries 0))))
-    (number_then JudgeNumber (checks_outcome run queries) (rounds_outcome run queries 0)
+    number_then JudgeNumber (checks_outcome run queries) (rounds_outcome run queries 0)
     (number_then JudgeNumber (run_outcome run) (queries_outcome run.k (step_in run 0) queries)
     (checks.run_number JudgeNumber (inl refl) (λ n l u. inr (inl (l, omega arith))) (inr (inr (inl refl))) run)
     (checks.queries_number JudgeNumber (inl refl) (inr (inl (omega arith, omega arith)))
     (inr (inl (omega arith, omega arith))) (inr (inr (inr refl))) run.k (step_in run 0) queries))
-    (by (rounds_outcome run queries 0) refl))
+    (by (rounds_outcome run queries 0) refl)
   where
     by : (o : Outcome) → rounds_outcome run queries 0 ≡ o → JudgeNumber (number_of_outcome o)
-    by (Ok tt) e = inl refl
+    by (Ok _) e = inl refl
     by (Err cause) e =
         inr
         (inl (omega (arith, refused_by_round run queries cause e), omega (arith, refused_by_round run queries cause e)))

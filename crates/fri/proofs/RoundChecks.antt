@@ -9,13 +9,13 @@ use lib.ListN.{length, get_or}
 use Rattle.refusal.specs.declared.Cause.{Cause}
 use Rattle.refusal.specs.declared.Cause.TheVariants.{RoundCheckFails}
 use Rattle.std.specs.Prelude.{Some, None, Ok, Err}
-use Rattle.refusal.specs.Numbers.{number_of, number_of_outcome}
+use Rattle.refusal.specs.Numbers.{number_of, number_of_outcome, place_of_outcome, round_of_outcome}
 use Rattle.refusal.proofs.Checks.{number_then}
 use Rattle.fri.specs.Layout.{dimension, index_in}
 use Rattle.fri.specs.Run.{Run, steps_in, step_in, rounds_in, layer_in}
 use Rattle.fri.specs.Layers.{fold_of}
 use Rattle.fri.specs.Checks.{run_outcome, queries_outcome}
-use Rattle.fri.specs.Judge.{checks_outcome, verdict_of, number_of_answer, place_of_answer, round_of_answer}
+use Rattle.fri.specs.Judge.{checks_outcome, verdict_of}
 use Rattle.fri.specs.Rounds.{value_computed, rounds_outcome}
 use Rattle.fri.specs.Demand.{ValidCoset, Accepted}
 use Rattle.fri.specs.Theorems.{Tells, FailsFirst, RoundChecks, Reads}
@@ -79,9 +79,9 @@ told_accepted : (run : Run) (queries : List ℕ) → Accepted run queries
     → Tells (verdict_of run queries) 0 None None (length queries * rounds_in run * 2 ^ run.step)
 told_accepted run queries e =
     let told = verdicts.accepted_checks run queries e in (
-      ap number_of_answer e,
-      ap place_of_answer e,
-      ap round_of_answer e,
+      ap number_of_outcome e,
+      ap place_of_outcome e,
+      ap round_of_outcome e,
       verdicts.reads_accepted run queries told.0 told.1,
     )
 
@@ -91,9 +91,9 @@ told_refused : (run : Run) (queries : List ℕ) (query round : ℕ)
     (query * rounds_in run * 2 ^ run.step + min (round + 2) (rounds_in run) * 2 ^ run.step)
 told_refused run queries query round e =
     let told = round_refused run queries query round e in (
-      ap number_of_answer e,
-      ap place_of_answer e,
-      ap round_of_answer e,
+      ap number_of_outcome e,
+      ap place_of_outcome e,
+      ap round_of_outcome e,
       verdicts.reads_refused run queries query round told.0 told.1,
     )
 

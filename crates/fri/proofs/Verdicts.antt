@@ -10,12 +10,11 @@ use Rattle.refusal.specs.declared.Cause.TheVariants.{RoundCheckFails}
 use Rattle.std.specs.Prelude.{Ok, Err}
 use Rattle.refusal.specs.Outcome.{Outcome}
 use Rattle.refusal.specs.Checks.{and_then}
-use Rattle.refusal.specs.Numbers.{number_of, place_of, round_of, number_of_outcome}
+use Rattle.refusal.specs.Numbers.{number_of, place_of, round_of, number_of_outcome, place_of_outcome, round_of_outcome}
 use Rattle.refusal.proofs.Checks.{then_passed, then_refused, then_done, Either, which}
 use Rattle.fri.specs.Run.{Run, rounds_in, step_in}
 use Rattle.fri.specs.Checks.{run_outcome, queries_outcome}
-use Rattle.fri.specs.Judge.{checks_outcome, answer_of, reads_after, verdict_of}
-use Rattle.fri.specs.Judge.{number_of_answer, place_of_answer, round_of_answer}
+use Rattle.fri.specs.Judge.{checks_outcome, reads_after, verdict_of}
 use Rattle.fri.specs.Rounds.{rounds_outcome}
 use Rattle.fri.specs.Reads.{entries_read}
 use Rattle.fri.specs.Demand.{Accepted, ValidQueries, Apart}
@@ -23,20 +22,6 @@ use Rattle.fri.specs.Theorems.{PassesEveryRound, FailsFirst, Tells}
 use Rattle.fri.proofs.Rounds.{all_pass, pass_of_done, first_failing, read_all}
 use Rattle.fri.proofs.Rounds.{read_until, entries_of_rounds, entries_until}
 use Rattle.fri.proofs.Checks.{queries_valid, queries_pass}
-
--- ---- an outcome as an answer
-
-pub done_of : (o : Outcome) → answer_of o ≡ Ok tt → o ≡ Ok tt
-done_of (Ok tt) e = refl
-done_of (Err cause) e = absurd (let impossible : ◌≡◌ {A = ℕ} 0 1 = cc in omega arith)
-
-pub refused_of : (o : Outcome) (cause : Cause) → answer_of o ≡ Err cause → o ≡ Err cause
-refused_of (Ok tt) cause e = absurd (let impossible : ◌≡◌ {A = ℕ} 0 1 = cc in omega arith)
-refused_of (Err other) cause e = let same : other ≡ cause = cc in ap Err same
-
-pub same_number : (o : Outcome) → number_of_answer (answer_of o) ≡ number_of_outcome o
-same_number (Ok tt) = refl
-same_number (Err cause) = refl
 
 module _ (run : Run) (queries : List ℕ) where
   abbrev outcome : Outcome
@@ -49,13 +34,12 @@ module _ (run : Run) (queries : List ℕ) where
 
   pub accepted_checks : Accepted run queries → (checks_outcome run queries ≡ Ok tt) × AllPass
   accepted_checks e =
-      let both = then_done (checks_outcome run queries) (rounds_outcome run queries 0) (done_of outcome e) in
+      let both = then_done (checks_outcome run queries) (rounds_outcome run queries 0) e in
       (both.0, pass_of_done run queries both.1)
 
   pub accepted_by : checks_outcome run queries ≡ Ok tt → AllPass → Accepted run queries
   accepted_by l h =
-      ap answer_of
-      (sym (then_passed (checks_outcome run queries) (rounds_outcome run queries 0) l) ∙ all_pass run queries 0 h)
+      sym (then_passed (checks_outcome run queries) (rounds_outcome run queries 0) l) ∙ all_pass run queries 0 h
 
   pub reads_accepted : checks_outcome run queries ≡ Ok tt → AllPass
       → (verdict_of run queries).reads ≡ length queries * rounds_in run * 2 ^ run.step
@@ -76,13 +60,13 @@ module _ (run : Run) (queries : List ℕ) where
   pub refused_which : (cause : Cause) → (verdict_of run queries).answer ≡ Err cause
       → Either (checks_outcome run queries) (rounds_outcome run queries 0) cause
   refused_which cause e =
-      which (checks_outcome run queries) (rounds_outcome run queries 0) cause (refused_of outcome cause e)
+      which (checks_outcome run queries) (rounds_outcome run queries 0) cause e
 
   pub refused_by : (query round : ℕ) → checks_outcome run queries ≡ Ok tt → FailsFirst run queries query round
       → (verdict_of run queries).answer ≡ Err (RoundCheckFails query round)
   refused_by query round l f =
-      ap answer_of (sym (then_passed (checks_outcome run queries) (rounds_outcome run queries 0) l)
-      ∙ first_failing run queries 0 query round f)
+      sym (then_passed (checks_outcome run queries) (rounds_outcome run queries 0) l)
+      ∙ first_failing run queries 0 query round f
       ∙ ap (λ (n : ℕ). Err (RoundCheckFails n round)) (zero-add query)
 
   pub reads_refused : (query round : ℕ) → checks_outcome run queries ≡ Ok tt → FailsFirst run queries query round
@@ -100,7 +84,7 @@ module _ (run : Run) (queries : List ℕ) where
   pub refused_early : (cause : Cause) → checks_outcome run queries ≡ Err cause
       → ((verdict_of run queries).answer ≡ Err cause) × ((verdict_of run queries).reads ≡ 0)
   refused_early cause e = (
-    ap answer_of (sym (then_refused (checks_outcome run queries) (rounds_outcome run queries 0) cause e)),
+    sym (then_refused (checks_outcome run queries) (rounds_outcome run queries 0) cause e),
     ap (λ (o : Outcome). reads_after o (entries_read run queries)) e,
   )
 
@@ -108,7 +92,7 @@ module _ (run : Run) (queries : List ℕ) where
       → Tells (verdict_of run queries) (number_of cause) (place_of cause) (round_of cause) 0
   told_early cause e =
       let both = refused_early cause e in
-      (ap number_of_answer both.0, ap place_of_answer both.0, ap round_of_answer both.0, both.1)
+      (ap number_of_outcome both.0, ap place_of_outcome both.0, ap round_of_outcome both.0, both.1)
 
   abbrev of_queries : Outcome
   of_queries = queries_outcome run.k (step_in run 0) queries

@@ -7,7 +7,7 @@ use Rattle.fri.specs.Checks.{parameters_outcome}
 
 -- the part if the checks pass, else the empty part
 abbrev pub part_after : (outcome : Outcome) (part : List ℕ) → List ℕ
-part_after (Ok tt) part = part
+part_after (Ok _) part = part
 part_after (Err cause) part = []
 
 -- the store has a layer i: 1 ≤ i < r, and the length of the store is the one due

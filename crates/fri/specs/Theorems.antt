@@ -22,7 +22,7 @@ use Rattle.fri.specs.Layers.{layer_basis, basis_in, offset_in, fold_of, honest_l
 use Rattle.fri.specs.Layers.{last_interpolant, honest_last}
 use Rattle.fri.specs.Checks.{run_outcome, first_outside, first_shared}
 use Rattle.fri.specs.Lookup.{layer_part}
-use Rattle.fri.specs.Judge.{checks_outcome, verdict_of, number_of_answer, place_of_answer, round_of_answer}
+use Rattle.fri.specs.Judge.{checks_outcome, verdict_of}
 use Rattle.fri.specs.Rounds.{value_computed, value_found}
 use Rattle.fri.specs.Prover.{prove_outcome, store_after, last_after}
 use Rattle.fri.specs.Demand.{ValidParameters, ValidCoset, ProverInput, ValidQueries, Apart, Accepted}
@@ -144,8 +144,8 @@ pub record Passing : Type 0 where
 -- a verdict's number, place, round and reads
 abbrev pub Tells : (verdict : Verdict) (number : ℕ) (place round : Option ℕ) (reads : ℕ) → Type 0
 Tells verdict number place round reads =
-    (number_of_answer verdict.answer ≡ number) × (place_of_answer verdict.answer ≡ place)
-    × (round_of_answer verdict.answer ≡ round) × (verdict.reads ≡ reads)
+    (number_of_outcome verdict.answer ≡ number) × (place_of_outcome verdict.answer ≡ place)
+    × (round_of_outcome verdict.answer ≡ round) × (verdict.reads ≡ reads)
 
 -- prover and judge both refuse with this number and place: nothing is read, whatever the queries,
 -- and both lent lists are left as they were
@@ -294,6 +294,6 @@ ProverNumber n = (n ≡ 0) ⊎ ((4 ≤ n) × (n ≤ 8)) ⊎ ((12 ≤ n) × (n �
 -- no number is given otherwise
 pub record OnlyNumbers : Type 0 where
   -- the judge: 0, 4 to 11, 13 and 17
-  pub judge : (run : Run) (queries : List ℕ) → JudgeNumber (number_of_answer (verdict_of run queries).answer)
+  pub judge : (run : Run) (queries : List ℕ) → JudgeNumber (number_of_outcome (verdict_of run queries).answer)
   -- the prover: 0, 4 to 8, 12 and 13
   pub prover : (run : Run) → ProverNumber (number_of_outcome (prove_outcome run))

@@ -9,7 +9,7 @@ use Rattle.layout.specs.Parameters.{steps_by}
 
 -- the lengths if the checks pass, else 0 for each
 abbrev pub or_zeros : (outcome : Outcome) (lengths : Lengths) → Lengths
-or_zeros (Ok tt) lengths = lengths
+or_zeros (Ok _) lengths = lengths
 or_zeros (Err cause) lengths = record { rounds = 0; store = 0; last = 0 }
 
 -- r, the length of the store, and d

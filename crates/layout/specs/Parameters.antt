@@ -4,6 +4,7 @@ use Rattle.fri.specs.Layout.{steps_of}
 use Rattle.fri.specs.Run.{Run}
 use Rattle.fri.specs.Demand.{ValidParameters}
 use Rattle.layout.specs.declared.Parameters.{Parameters}
+use Rattle.layout.specs.declared.Claim.{Claim}
 
 -- the steps of the rounds
 abbrev pub steps_by : (p : Parameters) → List ℕ
@@ -27,3 +28,8 @@ run_of p offset basis challenges word store last =
       store = store;
       last = last;
     }
+
+-- the run of a claim, with a store and last coefficients
+abbrev pub run_claimed : (claim : Claim) (store last : List ℕ) → Run
+run_claimed claim store last =
+    run_of claim.parameters claim.offset.0 claim.basis.now claim.challenges.now claim.word.now store last

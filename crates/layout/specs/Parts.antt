@@ -14,7 +14,7 @@ empty = record { start = 0; length = 0 }
 
 -- the part if the checks pass, else the empty part
 abbrev pub or_empty : (outcome : Outcome) (part : Part) → Part
-or_empty (Ok tt) part = part
+or_empty (Ok _) part = part
 or_empty (Err cause) part = empty
 
 -- where layer i, 1 ≤ i < r, lies in a store of `count` entries; the empty part for bad parameters, another i or a count

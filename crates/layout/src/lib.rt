@@ -1,33 +1,52 @@
 // The parameters of a run, and where each of its layers lies in the store.
 #![tactic(auto)]
 
-ghost use Rattle.std.specs.Prelude.{◌≡◌, ◌≤◌, length};
+ghost use Rattle.std.specs.Prelude.{◌≡◌, ◌≤◌, length, IfOk};
+ghost use Rattle.refusal.specs.Outcome.{outcome_of};
 ghost use Rattle.fri.specs.Layout.{dimension, last_count, layer_start};
 ghost use Rattle.fri.specs.Checks.{parameters_outcome};
 ghost use Rattle.fri.specs.Lookup.{layer_part};
 ghost use Rattle.layout.specs.Parameters.{steps_by, Valid};
 ghost use Rattle.layout.specs.Parts.{part_of, part_in};
-ghost use Rattle.layout.specs.Lengths.{lengths_of};
+ghost use Rattle.layout.specs.Lengths.{lengths_of, lengths_due};
 
+use field::Element;
 use refusal::Cause;
 
-// k, R and η.
-#[derive(Clone, Copy)]
+// k, R and η, in range or not.
+#[derive(Clone, Copy, Debug, PartialEq, Eq)]
 pub struct Parameters {
     pub k: usize,
     pub rate: usize,
     pub step: usize,
 }
 
-// A part of a list.
+// The shape of a run: parameters in range.
 #[derive(Clone, Copy)]
+pub struct Shape {
+    pub parameters: Parameters,
+    ghost valid: { Valid parameters },
+}
+
+// What a prover is given: parameters, a coset by offset and basis, a challenge for each round, and the word.
+#[derive(Clone, Copy)]
+pub struct Claim<'a> {
+    pub parameters: Parameters,
+    pub offset: Element,
+    pub basis: &'a [u64],
+    pub challenges: &'a [u64],
+    pub word: &'a [u64],
+}
+
+// A part of a list.
+#[derive(Clone, Copy, Debug, PartialEq, Eq)]
 pub struct Part {
     pub start: usize,
     pub length: usize,
 }
 
 // How many challenges, entries of the store and last coefficients a run has.
-#[derive(Clone, Copy)]
+#[derive(Clone, Copy, Debug, PartialEq, Eq)]
 pub struct Lengths {
     pub rounds: usize,
     pub store: usize,
@@ -47,8 +66,9 @@ pub fn layer(parameters: Parameters, store: &[u64], i: usize) -> &[u64]
 
 impl Parameters {
     // Refuses parameters out of range, in the order 4, 5, 6, 7.
-    pub fn checked(self) -> Result<(), Cause>
-        ensures { result ≡ parameters_outcome self.k self.rate self.step }
+    pub fn checked(self) -> Result<Shape, Cause>
+        ensures outcome { outcome_of result ≡ parameters_outcome self.k self.rate self.step }
+        ensures shape { IfOk result (λ shape. shape.parameters ≡ self) }
     {
         if self.k < 2 || self.k > 20 {
             return Err(Cause::DimensionOutOfRange);
@@ -62,61 +82,15 @@ impl Parameters {
         if self.k < self.rate + self.step {
             return Err(Cause::DimensionTooSmall);
         }
-        Ok(())
-    }
-
-    // r.
-    pub fn rounds(self) -> usize
-        requires { Valid self }
-        ensures { result ≡ length (steps_by self) }
-    {
-        (self.k - self.rate) / self.step
-    }
-
-    // The dimension of layer i.
-    pub fn dimension(self, i: usize) -> usize
-        requires { Valid self × (i ≤ length (steps_by self)) }
-        ensures { result ≡ dimension self.k (steps_by self) i }
-    {
-        self.k - i * self.step
-    }
-
-    // d.
-    pub fn last_count(self) -> usize
-        requires { Valid self }
-        ensures { result ≡ last_count self.k self.rate (steps_by self) }
-    {
-        1 << (self.dimension(self.rounds()) - self.rate)
-    }
-
-    // Where layer i, from 1 on, begins in the store.
-    pub fn layer_start(self, i: usize) -> usize
-        requires { Valid self × (1 ≤ i) × (i ≤ length (steps_by self)) }
-        ensures { result ≡ layer_start self.k (steps_by self) i }
-    {
-        let mut start: usize = 0;
-        let mut before: usize = 1;
-        while before < i {
-            start += 1 << self.dimension(before);
-            before += 1;
-        }
-        start
+        Ok(Shape { parameters: self })
     }
 
     // What prover and judge are to be lent; all 0 for parameters out of range.
     pub fn lengths(self) -> Lengths
         ensures { result ≡ lengths_of self }
     {
-        let outcome = self.checked();
-        match outcome {
-            Ok(()) => {
-                let rounds = self.rounds();
-                Lengths {
-                    rounds,
-                    store: self.layer_start(rounds),
-                    last: self.last_count(),
-                }
-            }
+        match self.checked() {
+            Ok(shape) => shape.lengths(),
             Err(_) => Lengths {
                 rounds: 0,
                 store: 0,
@@ -129,22 +103,65 @@ impl Parameters {
     pub fn part(self, store_length: usize, i: usize) -> Part
         ensures { result ≡ part_of self store_length i }
     {
-        let lengths = self.lengths();
-        if i < 1 || i >= lengths.rounds {
-            return Part {
+        match self.checked() {
+            Ok(shape) if 1 <= i && i < shape.rounds() && store_length == shape.lengths().store => {
+                Part {
+                    start: shape.layer_start(i),
+                    length: 1 << shape.dimension(i),
+                }
+            }
+            _ => Part {
                 start: 0,
                 length: 0,
-            };
+            },
         }
-        if store_length != lengths.store {
-            return Part {
-                start: 0,
-                length: 0,
-            };
+    }
+}
+
+impl Shape {
+    // r.
+    pub fn rounds(self) -> usize
+        ensures { result ≡ length (steps_by self.parameters) }
+    {
+        (self.parameters.k - self.parameters.rate) / self.parameters.step
+    }
+
+    // The dimension of layer i.
+    pub fn dimension(self, i: usize) -> usize
+        requires { i ≤ length (steps_by self.parameters) }
+        ensures { result ≡ dimension self.parameters.k (steps_by self.parameters) i }
+    {
+        self.parameters.k - i * self.parameters.step
+    }
+
+    // d.
+    pub fn last_count(self) -> usize
+        ensures { result ≡ last_count self.parameters.k self.parameters.rate (steps_by self.parameters) }
+    {
+        1 << (self.dimension(self.rounds()) - self.parameters.rate)
+    }
+
+    // Where layer i, from 1 on, begins in the store.
+    pub fn layer_start(self, i: usize) -> usize
+        requires { (1 ≤ i) × (i ≤ length (steps_by self.parameters)) }
+        ensures { result ≡ layer_start self.parameters.k (steps_by self.parameters) i }
+    {
+        let mut start: usize = 0;
+        for before in 1..i {
+            start += 1 << self.dimension(before);
         }
-        Part {
-            start: self.layer_start(i),
-            length: 1 << self.dimension(i),
+        start
+    }
+
+    // What prover and judge are to be lent.
+    pub fn lengths(self) -> Lengths
+        ensures { result ≡ lengths_due self.parameters }
+    {
+        let rounds = self.rounds();
+        Lengths {
+            rounds,
+            store: self.layer_start(rounds),
+            last: self.last_count(),
         }
     }
 }

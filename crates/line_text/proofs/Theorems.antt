@@ -7,7 +7,7 @@ use Rattle.std.specs.Prelude.{ℕ, Option, None, Ok, Err}
 use Rattle.refusal.specs.Outcome.{Outcome}
 use Rattle.refusal.proofs.Theorems.{round_numbers}
 use Rattle.fri.specs.declared.Verdict.{Verdict}
-use Rattle.fri.specs.Judge.{number_of_answer, place_of_answer, round_of_answer}
+use Rattle.refusal.specs.Numbers.{number_of_outcome, place_of_outcome, round_of_outcome}
 use Rattle.line_text.specs.Digits.{bytes, digits, places_within, decimal}
 use Rattle.line_text.specs.Lines.{or_hyphen, answer_text, numbers_text, line_of, lines_of}
 use Rattle.line_text.specs.Theorems.{Examples, PrintedRounds, Decimals}
@@ -25,18 +25,18 @@ examples =
       shared = refl;
     }
 
-no_round : (answer : Outcome) → number_of_answer answer ≢ 11 → round_of_answer answer ≡ None
-no_round (Ok tt) n = refl
+no_round : (answer : Outcome) → number_of_outcome answer ≢ 11 → round_of_outcome answer ≡ None
+no_round (Ok _) n = refl
 no_round (Err cause) n = round_numbers.eleven_alone cause n
 
-hyphen : (verdict : Verdict) → number_of_answer verdict.answer ≢ 11
+hyphen : (verdict : Verdict) → number_of_outcome verdict.answer ≢ 11
     → line_of verdict
     ≡ answer_text verdict.answer
-    ++ numbers_text (number_of_answer verdict.answer) (place_of_answer verdict.answer) None verdict.reads
+    ++ numbers_text (number_of_outcome verdict.answer) (place_of_outcome verdict.answer) None verdict.reads
 unfolding line_of
 hyphen verdict n =
     ap (λ (round : Option ℕ). answer_text verdict.answer
-    ++ numbers_text (number_of_answer verdict.answer) (place_of_answer verdict.answer) round verdict.reads)
+    ++ numbers_text (number_of_outcome verdict.answer) (place_of_outcome verdict.answer) round verdict.reads)
     (no_round verdict.answer n)
 
 pub printed_rounds : PrintedRounds

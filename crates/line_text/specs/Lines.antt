@@ -3,7 +3,7 @@ use Rattle.std.specs.Prelude.{List, ◌++◌, ℕ}
 use Rattle.std.specs.Prelude.{Option, Some, None, Ok, Err}
 use Rattle.refusal.specs.Outcome.{Outcome}
 use Rattle.fri.specs.declared.Verdict.{Verdict}
-use Rattle.fri.specs.Judge.{number_of_answer, place_of_answer, round_of_answer}
+use Rattle.refusal.specs.Numbers.{number_of_outcome, place_of_outcome, round_of_outcome}
 use Rattle.line_text.specs.Digits.{bytes, decimal}
 
 -- a place or a round, or a hyphen where there is none
@@ -13,7 +13,7 @@ or_hyphen None = bytes "-"
 
 -- the line's first word
 unfoldable pub answer_text : (answer : Outcome) → List ℕ
-answer_text (Ok tt) = bytes "accepted"
+answer_text (Ok _) = bytes "accepted"
 answer_text (Err cause) = bytes "refused"
 
 -- what follows the answer: number, place, round and reads, each after a space, and a line feed
@@ -30,9 +30,9 @@ unfoldable pub line_of : (verdict : Verdict) → List ℕ
 line_of verdict =
     answer_text verdict.answer
     ++ numbers_text
-    (number_of_answer verdict.answer)
-    (place_of_answer verdict.answer)
-    (round_of_answer verdict.answer)
+    (number_of_outcome verdict.answer)
+    (place_of_outcome verdict.answer)
+    (round_of_outcome verdict.answer)
     verdict.reads
 
 -- the header and the line

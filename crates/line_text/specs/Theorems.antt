@@ -4,7 +4,7 @@ use Rattle.std.specs.Prelude.{◌≡◌, ◌≢◌, List, [], ◌∷◌, ◌++�
 use Rattle.refusal.specs.declared.Cause.TheVariants.{RoundCheckFails, CosetShared}
 use Rattle.std.specs.Prelude.{Some, None, Ok, Err}
 use Rattle.fri.specs.declared.Verdict.{Verdict}
-use Rattle.fri.specs.Judge.{number_of_answer, place_of_answer}
+use Rattle.refusal.specs.Numbers.{number_of_outcome, place_of_outcome}
 use Rattle.line_text.specs.Digits.{bytes, decimal}
 use Rattle.line_text.specs.Lines.{answer_text, numbers_text, line_of, lines_of}
 
@@ -31,10 +31,10 @@ pub record PrintedRounds : Type 0 where
   pub eleven : (query round reads : ℕ)
       → line_of (record { answer = Err (RoundCheckFails query round); reads = reads })
       ≡ bytes "refused" ++ numbers_text 11 (Some query) (Some round) reads
-  pub eleven_alone : (verdict : Verdict) → number_of_answer verdict.answer ≢ 11
+  pub eleven_alone : (verdict : Verdict) → number_of_outcome verdict.answer ≢ 11
       → line_of verdict
       ≡ answer_text verdict.answer
-      ++ numbers_text (number_of_answer verdict.answer) (place_of_answer verdict.answer) None verdict.reads
+      ++ numbers_text (number_of_outcome verdict.answer) (place_of_outcome verdict.answer) None verdict.reads
 
 -- the number that decimal digits stand for, read on after those that stand for `before`
 unfoldable pub value_after : (before : ℕ) (digits : List ℕ) → ℕ

@@ -60,12 +60,12 @@ pub then_refused : (first after : Outcome) (cause : Cause) → first ≡ Err cau
 then_refused first after cause e = sym (ap (λ (o : Outcome). and_then o after) e)
 
 pub then_done : (first after : Outcome) → and_then first after ≡ Ok tt → (first ≡ Ok tt) × (after ≡ Ok tt)
-then_done (Ok tt) after e = (refl, e)
+then_done (Ok _) after e = (refl, e)
 then_done (Err cause) after e = absurd (refused_not_done cause e)
 
 pub then_then : (first second third : Outcome)
     → and_then first (and_then second third) ≡ and_then (and_then first second) third
-then_then (Ok tt) second third = refl
+then_then (Ok _) second third = refl
 then_then (Err cause) second third = refl
 
 -- a refusal of two groups of checks is one of the first, or of the second after the first has passed
@@ -73,7 +73,7 @@ abbrev pub Either : Outcome → Outcome → Cause → Type 0
 Either first after cause = (first ≡ Err cause) ⊎ ((first ≡ Ok tt) × (after ≡ Err cause))
 
 pub which : (first after : Outcome) (cause : Cause) → and_then first after ≡ Err cause → Either first after cause
-which (Ok tt) after cause e = inr (refl, e)
+which (Ok _) after cause e = inr (refl, e)
 which (Err other) after cause e = inl e
 
 -- ---- what holds of every outcome that checks may have, and of every number
@@ -86,7 +86,7 @@ holds_unless Q false cause after c a = c
 -- those after the first are asked for where it has passed
 pub holds_after : (Q : Outcome → Type 0) (first after : Outcome) → Q first → (first ≡ Ok tt → Q after)
     → Q (and_then first after)
-holds_after Q (Ok tt) after f a = a refl
+holds_after Q (Ok _) after f a = a refl
 holds_after Q (Err cause) after f a = f
 
 pub number_unless : (P : ℕ → Type 0) (test : Bool) (cause : Cause) (after : Outcome) → P (number_of cause)

@@ -10,10 +10,10 @@ refused_unless holds cause after = cond holds after (Err cause)
 
 -- the first refusal of two groups of checks
 abbrev pub and_then : (first after : Outcome) → Outcome
-and_then (Ok tt) after = after
+and_then (Ok _) after = after
 and_then (Err cause) after = Err cause
 
 -- what a lent list holds afterwards: what was asked for, or, after a refusal, what it held
 abbrev pub afterwards : (outcome : Outcome) (wanted held : List ℕ) → List ℕ
-afterwards (Ok tt) wanted held = wanted
+afterwards (Ok _) wanted held = wanted
 afterwards (Err cause) wanted held = held

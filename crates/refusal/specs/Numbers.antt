@@ -7,8 +7,7 @@ use Rattle.refusal.specs.declared.Cause.TheVariants.{RateOutOfRange, StepOutOfRa
 use Rattle.refusal.specs.declared.Cause.TheVariants.{BasisDependent, QueryCountOutOfRange, QueryOutOfRange}
 use Rattle.refusal.specs.declared.Cause.TheVariants.{RoundCheckFails, DegreeTooLarge, WrongLength, InputTooLong}
 use Rattle.refusal.specs.declared.Cause.TheVariants.{CosetShared}
-use Rattle.std.specs.Prelude.{Option, Some, None, Ok, Err}
-use Rattle.refusal.specs.Outcome.{Outcome}
+use Rattle.std.specs.Prelude.{Option, Some, None, Result, Ok, Err}
 
 -- the table's column "Number": a number, once given, keeps its cause for good
 abbrev pub number_of : (cause : Cause) → ℕ
@@ -64,17 +63,17 @@ round_of (WrongLength list) = None
 round_of InputTooLong = None
 round_of (CosetShared query) = None
 
--- the number of an outcome: 0 where it went well, else that of the cause
-abbrev pub number_of_outcome : (outcome : Outcome) → ℕ
-number_of_outcome (Ok tt) = 0
+-- the number of what an operation answers: 0 where it went well, else that of the cause
+abbrev pub number_of_outcome : {A : Type 0} (outcome : Result A Cause) → ℕ
+number_of_outcome (Ok _) = 0
 number_of_outcome (Err cause) = number_of cause
 
--- the place of an outcome: that of the cause
-abbrev pub place_of_outcome : (outcome : Outcome) → Option ℕ
-place_of_outcome (Ok tt) = None
+-- its place: that of the cause
+abbrev pub place_of_outcome : {A : Type 0} (outcome : Result A Cause) → Option ℕ
+place_of_outcome (Ok _) = None
 place_of_outcome (Err cause) = place_of cause
 
--- the round of an outcome: that of the cause
-abbrev pub round_of_outcome : (outcome : Outcome) → Option ℕ
-round_of_outcome (Ok tt) = None
+-- its round: that of the cause
+abbrev pub round_of_outcome : {A : Type 0} (outcome : Result A Cause) → Option ℕ
+round_of_outcome (Ok _) = None
 round_of_outcome (Err cause) = round_of cause

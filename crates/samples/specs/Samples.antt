@@ -2,13 +2,13 @@
 -- definitions give the same.
 use Rattle.std.specs.Prelude.{Bool, true, false, ◌&&◌, List, [], ◌∷◌, ℕ, suc, eqb, length}
 use Rattle.std.specs.Prelude.{Option, Some, None}
-use Rattle.refusal.specs.Numbers.{number_of_outcome, place_of_outcome}
+use Rattle.refusal.specs.Numbers.{number_of_outcome, place_of_outcome, round_of_outcome}
 use Rattle.coset.specs.Coset.{tabulated}
 use Rattle.fri.specs.Layout.{steps_of, dimension, last_count, layer_start, store_length, index_in}
 use Rattle.fri.specs.Run.{Run}
 use Rattle.fri.specs.Layers.{layer_basis, layer_offset}
 use Rattle.fri.specs.Lookup.{layer_part}
-use Rattle.fri.specs.Judge.{verdict_of, number_of_answer, place_of_answer, round_of_answer}
+use Rattle.fri.specs.Judge.{verdict_of}
 use Rattle.fri.specs.Prover.{prove_outcome, store_after, last_after}
 
 -- the test passes in every row
@@ -108,8 +108,8 @@ pub record JudgedSample : Type 0 where
 abbrev pub judged_agrees : (row : JudgedSample) → Bool
 judged_agrees row =
     let verdict = verdict_of row.run row.queries in
-    eqb (number_of_answer verdict.answer) row.number && same_position (place_of_answer verdict.answer) row.place
-    && same_position (round_of_answer verdict.answer) row.round && eqb verdict.reads row.reads
+    eqb (number_of_outcome verdict.answer) row.number && same_position (place_of_outcome verdict.answer) row.place
+    && same_position (round_of_outcome verdict.answer) row.round && eqb verdict.reads row.reads
 
 -- a call of the prover with the number and place of its answer and what the two lent lists hold afterwards
 pub record ProvedSample : Type 0 where

@@ -22,7 +22,7 @@ use Rattle.refusal.proofs.Checks.{refused_not_done, then_passed}
 use Rattle.fri.specs.declared.Verdict.{Verdict}
 use Rattle.fri.specs.Run.{Run, rounds_in}
 use Rattle.fri.specs.Rounds.{value_computed, value_found, rounds_outcome}
-use Rattle.fri.specs.Judge.{checks_outcome, answer_of}
+use Rattle.fri.specs.Judge.{checks_outcome}
 use Rattle.fri.specs.Theorems.{FailsFirst}
 use Rattle.fri.proofs.Layouts as layouts
 use Rattle.fri.proofs.Checks.{run_valid}
@@ -202,10 +202,10 @@ module _ (bytes : List ℕ) where
   passed_fits done = checked_fits run queries (sym (checks_are bytes (passed_carries bytes done)) ∙ done)
 
   passed_lines : transcript_outcome bytes ≡ Ok tt → (outcome : Outcome) → rounds_outcome run queries 0 ≡ outcome
-      → has_lines (answer_of outcome) ≡ true → has_lines (transcript_verdict bytes).answer ≡ true
+      → has_lines outcome ≡ true → has_lines (transcript_verdict bytes).answer ≡ true
   unfolding transcript_verdict
   passed_lines done outcome e h =
-      ap (λ (o : Outcome). has_lines (answer_of o))
+      ap has_lines
       (sym (then_passed (transcript_outcome bytes) (rounds_outcome run queries 0) done) ∙ e)
       ∙ h
 

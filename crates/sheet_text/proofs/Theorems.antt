@@ -1,4 +1,5 @@
 -- Lines by example, and the sheets beside the judge's answers. Assumes nothing.
+use Rattle.refusal.specs.Numbers.{number_of_outcome}
 use mathlib.Core.Path.{◌≡◌, refl, sym, ap, ap₂, ◌∙◌, subst}
 use mathlib.Core.Logic.{◌≢◌, ◌⊎◌, ◌↔◌, inl, inr, ⊎_elim}
 use mathlib.Core.Bool.{Bool, true, false, cond, ◌||◌}
@@ -16,7 +17,7 @@ use Rattle.std.specs.Prelude.{Ok, Err}
 use Rattle.refusal.specs.Outcome.{Outcome}
 use Rattle.fri.specs.declared.Verdict.{Verdict}
 use Rattle.fri.specs.Rounds.{value_computed, value_found}
-use Rattle.fri.specs.Judge.{number_of_answer, verdict_of, checks_outcome}
+use Rattle.fri.specs.Judge.{verdict_of, checks_outcome}
 use Rattle.fri.proofs.Verdicts.{accepted_checks, accepted_by, refused_by}
 use Rattle.transcript.specs.Numerals.{AreBytes}
 use Rattle.transcript.specs.Sections.{transcript_rounds, run_in, queries_in}
@@ -102,7 +103,7 @@ module _ (judge : List ℕ → Verdict)
 
   passed_by : (transcript_verdict input).answer ≡ answer → has_lines answer ≡ true → (outcome : Outcome)
       → transcript_outcome input ≡ outcome → transcript_outcome input ≡ Ok tt
-  passed_by same e (Ok tt) o = o
+  passed_by same e (Ok _) o = o
   passed_by same e (Err cause) o =
       absurd (not_both (sym e ∙ sym (ap has_lines same) ∙ no_lines input cause o))
 
@@ -127,7 +128,7 @@ module _ (judge : List ℕ → Verdict)
 
   -- ---- which lines there are
 
-  has_number : (number_of_answer answer ≡ 0) ⊎ (number_of_answer answer ≡ 11) → has_lines answer ≡ true
+  has_number : (number_of_outcome answer ≡ 0) ⊎ (number_of_outcome answer ≡ 11) → has_lines answer ≡ true
   has_number (inl e) = ap (λ (n : ℕ). eqb n 0 || eqb n 11) e
   has_number (inr e) = ap (λ (n : ℕ). eqb n 0 || eqb n 11) e
 
@@ -138,18 +139,18 @@ module _ (judge : List ℕ → Verdict)
       mul-le-mul f.queries_some f.rounds_some in
       omega (arith, length_all_lines f, ap length (sym s.sheet ∙ e))
 
-  lines : (sheet_by judge input ≢ []) ↔ ((number_of_answer answer ≡ 0) ⊎ (number_of_answer answer ≡ 11))
+  lines : (sheet_by judge input ≢ []) ↔ ((number_of_outcome answer ≡ 0) ⊎ (number_of_outcome answer ≡ 11))
   lines = (
     λ some. by (has_lines answer) refl some,
     λ number. not_empty (shown_by (has_number number)),
   )
     where
       by : (test : Bool) → has_lines answer ≡ test → sheet_by judge input ≢ []
-          → (number_of_answer answer ≡ 0) ⊎ (number_of_answer answer ≡ 11)
+          → (number_of_outcome answer ≡ 0) ⊎ (number_of_outcome answer ≡ 11)
       by true e some =
-          ⊎_elim (λ (z : eqb (number_of_answer answer) 0 ≡ true). inl (eqb-true (number_of_answer answer) 0 z))
-          (λ (z : eqb (number_of_answer answer) 11 ≡ true). inr (eqb-true (number_of_answer answer) 11 z))
-          (or_true (eqb (number_of_answer answer) 0) (eqb (number_of_answer answer) 11) e)
+          ⊎_elim (λ (z : eqb (number_of_outcome answer) 0 ≡ true). inl (eqb-true (number_of_outcome answer) 0 z))
+          (λ (z : eqb (number_of_outcome answer) 11 ≡ true). inr (eqb-true (number_of_outcome answer) 11 z))
+          (or_true (eqb (number_of_outcome answer) 0) (eqb (number_of_outcome answer) 11) e)
       by false e some = absurd (some (sheet_empty judge input e))
 
   count : sheet_by judge input ≢ []
@@ -244,7 +245,7 @@ other_numbers : (n : ℕ) → FrontNumber n ⊎ (n ≡ 14) → (eqb n 0 || eqb n
 other_numbers n given = let others = never n given in ap₂ ◌||◌ (ne_eqb n 0 others.0) (ne_eqb n 11 others.3)
 
 long_lines : (input : List ℕ) → input_limit < length input → has_lines (input_verdict input).answer ≡ false
-long_lines input h = other_numbers (number_of_answer (input_verdict input).answer) (long_inputs.numbers input h)
+long_lines input h = other_numbers (number_of_outcome (input_verdict input).answer) (long_inputs.numbers input h)
 
 program_agrees : (input : List ℕ) → has_lines (input_verdict input).answer ≡ true
     → input_verdict input ≡ transcript_verdict input
@@ -276,7 +277,7 @@ nothing_longer : (input : List ℕ) → longest_transcript < length input → tr
 nothing_longer input h = by (transcript_outcome input) refl
   where
     by : (outcome : Outcome) → transcript_outcome input ≡ outcome → transcript_sheet input ≡ []
-    by (Ok tt) e = absurd (omega (arith, long_transcripts.longest input e))
+    by (Ok _) e = absurd (omega (arith, long_transcripts.longest input e))
     by (Err cause) e = sheet_refused input cause e
 
 pub sheets : Sheets

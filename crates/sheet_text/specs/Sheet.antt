@@ -4,7 +4,7 @@ use Rattle.refusal.specs.Outcome.{Outcome}
 use Rattle.fri.specs.declared.Verdict.{Verdict}
 use Rattle.fri.specs.Run.{Run, rounds_in}
 use Rattle.fri.specs.Rounds.{value_computed, value_found}
-use Rattle.fri.specs.Judge.{number_of_answer}
+use Rattle.refusal.specs.Numbers.{number_of_outcome}
 use Rattle.transcript.specs.Sections.{run_in, queries_in}
 use Rattle.transcript.specs.Judge.{transcript_verdict, input_verdict}
 use Rattle.line_text.specs.Digits.{bytes, digits, decimal}
@@ -58,7 +58,7 @@ sheet_lines run (j ∷ queries) query =
 
 -- there are lines where the judge accepts (0) or a round check fails (11)
 abbrev pub has_lines : (answer : Outcome) → Bool
-has_lines answer = eqb (number_of_answer answer) 0 || eqb (number_of_answer answer) 11
+has_lines answer = eqb (number_of_outcome answer) 0 || eqb (number_of_outcome answer) 11
 
 -- the lines of the run that an input of bytes carries, or nothing, as a judge of it answers
 unfoldable pub sheet_by : (judge : List ℕ → Verdict) (input : List ℕ) → List ℕ

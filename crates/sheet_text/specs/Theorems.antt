@@ -4,7 +4,7 @@ use Rattle.refusal.specs.declared.Cause.TheVariants.{RoundCheckFails}
 use Rattle.std.specs.Prelude.{Ok, Err}
 use Rattle.fri.specs.declared.Verdict.{Verdict}
 use Rattle.fri.specs.Rounds.{value_computed, value_found}
-use Rattle.fri.specs.Judge.{number_of_answer}
+use Rattle.refusal.specs.Numbers.{number_of_outcome}
 use Rattle.transcript.specs.Numerals.{AreBytes}
 use Rattle.transcript.specs.Sections.{transcript_rounds, run_in, queries_in}
 use Rattle.transcript.specs.Judge.{transcript_verdict, longest_transcript, input_limit, input_verdict}
@@ -49,7 +49,7 @@ pub record SheetsBeside (judge : List ℕ → Verdict) : Type 0 where
   -- there are lines exactly where it accepts or answers 11
   pub lines : (input : List ℕ)
       → (sheet_by judge input ≢ [])
-      ↔ ((number_of_answer (judge input).answer ≡ 0) ⊎ (number_of_answer (judge input).answer ≡ 11))
+      ↔ ((number_of_outcome (judge input).answer ≡ 0) ⊎ (number_of_outcome (judge input).answer ≡ 11))
   -- then there are queries · r lines
   pub count : (input : List ℕ) → sheet_by judge input ≢ []
       → length (sheet_by judge input) ≡ line_length * (length (queries_in input) * transcript_rounds input)

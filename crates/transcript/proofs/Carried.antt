@@ -41,7 +41,7 @@ test_then true cause after = refl
 test_then false cause after = refl
 
 then_nothing : (o : Outcome) → and_then o (Ok tt) ≡ o
-then_nothing (Ok tt) = refl
+then_nothing (Ok _) = refl
 then_nothing (Err cause) = refl
 
 module _ (bytes : List ℕ) where

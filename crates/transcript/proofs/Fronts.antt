@@ -37,7 +37,7 @@ then_same : {o o' : Outcome} (a a' : Outcome) → o ≡ o' → (o' ≡ Ok tt →
 then_same {o} {o'} a a' e h = ap (λ (x : Outcome). and_then x a) e ∙ by o' refl
   where
     by : (x : Outcome) → o' ≡ x → and_then o' a ≡ and_then o' a'
-    by (Ok tt) d = ap (λ (x : Outcome). and_then x a) d ∙ h d ∙ sym (ap (λ (x : Outcome). and_then x a') d)
+    by (Ok _) d = ap (λ (x : Outcome). and_then x a) d ∙ h d ∙ sym (ap (λ (x : Outcome). and_then x a') d)
     by (Err cause) d = ap (λ (x : Outcome). and_then x a) d ∙ sym (ap (λ (x : Outcome). and_then x a') d)
 
 module _ (front rest : List ℕ) where

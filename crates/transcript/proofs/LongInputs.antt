@@ -16,17 +16,15 @@ use Rattle.refusal.specs.declared.Cause.TheVariants.{InputTooLong}
 use Rattle.std.specs.Prelude.{Some, None, Ok, Err}
 use Rattle.refusal.specs.Outcome.{Outcome}
 use Rattle.refusal.specs.Checks.{and_then}
-use Rattle.refusal.specs.Numbers.{number_of, number_of_outcome}
+use Rattle.refusal.specs.Numbers.{number_of, number_of_outcome, place_of_outcome, round_of_outcome}
 use Rattle.refusal.proofs.Checks.{refused_not_done, then_passed, then_refused, then_done, holds_after, number_then}
 use Rattle.refusal.proofs.Theorems.{never_zero}
 use Rattle.fri.specs.declared.Verdict.{Verdict}
 use Rattle.fri.specs.Checks.{parameters_outcome}
 use Rattle.fri.specs.Rounds.{rounds_outcome}
-use Rattle.fri.specs.Judge.{answer_of, number_of_answer, place_of_answer, round_of_answer}
 use Rattle.fri.specs.Theorems.{Tells}
 use Rattle.fri.proofs.Checks.{k_refused}
 use Rattle.fri.proofs.Rounds.{refused_by_round}
-use Rattle.fri.proofs.Verdicts.{same_number}
 use Rattle.transcript.specs.Sections.{section_start, section_count, transcript_k, transcript_rate, transcript_step}
 use Rattle.transcript.specs.Sections.{run_in, queries_in}
 use Rattle.transcript.specs.Checks.{due_outcome, parameters_section, lists_outcome, front_outcome, layers_outcome}
@@ -45,10 +43,10 @@ use Rattle.transcript.proofs.Theorems.{refused_verdict, short, long}
 -- ---- sections 1 to 4
 
 abbrev InFront : Outcome → Type 0
-InFront o = (o ≡ Ok tt) ⊎ RefusedInFront (answer_of o)
+InFront o = (o ≡ Ok tt) ⊎ RefusedInFront o
 
 by_value : (o : Outcome) → ValueNumber (number_of_outcome o) → InFront o
-by_value (Ok tt) v = inl refl
+by_value (Ok _) v = inl refl
 by_value (Err cause) (inl none) = absurd (never_zero cause none)
 by_value (Err cause) (inr some) = inr (inr some)
 
@@ -60,8 +58,8 @@ front_refused bytes cause enough e =
     (λ (given : RefusedInFront (Err cause)). given)
     (subst InFront e (whole_front_holds InFront by_value (λ s h. inr (inl (s, h, refl))) bytes enough))
 
-number-of : (answer : Outcome) → RefusedInFront answer → FrontNumber (number_of_answer answer)
-number-of answer (inl (section, h, is)) = inl (ap number_of_answer is)
+number-of : (answer : Outcome) → RefusedInFront answer → FrontNumber (number_of_outcome answer)
+number-of answer (inl (section, h, is)) = inl (ap number_of_outcome is)
 number-of answer (inr some) = inr some
 
 front_number : (bytes : List ℕ) (cause : Cause) → longest_front ≤ length bytes → front_outcome bytes ≡ Err cause
@@ -119,7 +117,7 @@ passed bytes h e = long bytes h ∙ long_passed bytes e
 
 -- what is behind section 4 gives no such refusal
 abbrev Behind : Outcome → Type 0
-Behind o = RefusedInFront (answer_of o) → ⊥
+Behind o = RefusedInFront o → ⊥
 
 accepted_behind : Behind (Ok tt)
 accepted_behind given = (never 0 (inl (number-of (Ok tt) given))).0 refl
@@ -130,7 +128,7 @@ later_count s h (inr (inl range)) = omega arith
 later_count s h (inr (inr seventeen)) = omega arith
 
 rounds_behind : (bytes : List ℕ) (o : Outcome) → rounds_outcome (run_in bytes) (queries_in bytes) 0 ≡ o → Behind o
-rounds_behind bytes (Ok tt) e = accepted_behind
+rounds_behind bytes (Ok _) e = accepted_behind
 rounds_behind bytes (Err cause) e =
     λ given. (never (number_of cause) (inl (number-of (Err cause) given))).3
     (refused_by_round (run_in bytes) (queries_in bytes) cause e)
@@ -156,7 +154,7 @@ by_library bytes h = by (front_outcome bytes) refl
         → (RefusedInFront (transcript_verdict bytes).answer → input_verdict bytes ≡ transcript_verdict bytes)
         × ((RefusedInFront (transcript_verdict bytes).answer → ⊥)
         → input_verdict bytes ≡ record { answer = Err InputTooLong; reads = 0 })
-    by (Ok tt) e = (λ given. absurd (passed_behind bytes e given), λ none. passed bytes h e)
+    by (Ok _) e = (λ given. absurd (passed_behind bytes e given), λ none. passed bytes h e)
     by (Err cause) e =
         let both = refused bytes cause h e in (
           λ given. both.1,
@@ -167,13 +165,13 @@ by_library bytes h = by (front_outcome bytes) refl
 
 -- ---- which numbers are given over the limit
 
-numbers : (bytes : List ℕ) → input_limit < length bytes → LongNumber (number_of_answer (input_verdict bytes).answer)
+numbers : (bytes : List ℕ) → input_limit < length bytes → LongNumber (number_of_outcome (input_verdict bytes).answer)
 numbers bytes h = by (front_outcome bytes) refl
   where
-    by : (front : Outcome) → front_outcome bytes ≡ front → LongNumber (number_of_answer (input_verdict bytes).answer)
-    by (Ok tt) e = inr (ap (λ (v : Verdict). number_of_answer v.answer) (passed bytes h e))
+    by : (front : Outcome) → front_outcome bytes ≡ front → LongNumber (number_of_outcome (input_verdict bytes).answer)
+    by (Ok _) e = inr (ap (λ (v : Verdict). number_of_outcome v.answer) (passed bytes h e))
     by (Err cause) e =
-        inl (subst FrontNumber (sym (ap (λ (v : Verdict). number_of_answer v.answer) (refused bytes cause h e).0))
+        inl (subst FrontNumber (sym (ap (λ (v : Verdict). number_of_outcome v.answer) (refused bytes cause h e).0))
         (front_number bytes cause (omega arith) e))
 
 accepted : (bytes : List ℕ) → (input_verdict bytes).answer ≡ Ok tt
@@ -187,7 +185,7 @@ accepted bytes e = by (leb (length bytes) input_limit) refl
         (within, sym (ap (λ (v : Verdict). v.answer) (short bytes within)) ∙ e)
     by false t =
         let given = numbers bytes (leb-false (length bytes) input_limit t) in
-        absurd ((never (number_of_answer (input_verdict bytes).answer) given).0 (ap number_of_answer e))
+        absurd ((never (number_of_outcome (input_verdict bytes).answer) given).0 (ap number_of_outcome e))
 
 first : (bytes : List ℕ) (read : ℕ) → input_limit < read → input_verdict (take read bytes) ≡ input_verdict bytes
 first bytes read h =
@@ -202,9 +200,9 @@ large_dimension : (bytes : List ℕ) → input_limit < length bytes → section_
     → Tells (input_verdict bytes) 4 None None 0
 large_dimension bytes h three large =
     let told = (refused bytes DimensionOutOfRange h front).0 in (
-      ap (λ (v : Verdict). number_of_answer v.answer) told,
-      ap (λ (v : Verdict). place_of_answer v.answer) told,
-      ap (λ (v : Verdict). round_of_answer v.answer) told,
+      ap (λ (v : Verdict). number_of_outcome v.answer) told,
+      ap (λ (v : Verdict). place_of_outcome v.answer) told,
+      ap (λ (v : Verdict). round_of_outcome v.answer) told,
       ap (λ (v : Verdict). v.reads) told,
     )
   where
@@ -241,17 +239,16 @@ long_inputs =
 
 rounds_number : (bytes : List ℕ) (o : Outcome) → rounds_outcome (run_in bytes) (queries_in bytes) 0 ≡ o
     → TranscriptNumber (number_of_outcome o)
-rounds_number bytes (Ok tt) e = inl (omega arith)
+rounds_number bytes (Ok _) e = inl (omega arith)
 rounds_number bytes (Err cause) e = inl (omega (arith, refused_by_round (run_in bytes) (queries_in bytes) cause e))
 
-library_number : (bytes : List ℕ) → TranscriptNumber (number_of_answer (transcript_verdict bytes).answer)
+library_number : (bytes : List ℕ) → TranscriptNumber (number_of_outcome (transcript_verdict bytes).answer)
 unfolding transcript_verdict
 library_number bytes =
     let rounds = rounds_outcome (run_in bytes) (queries_in bytes) 0 in
-    subst TranscriptNumber (sym (same_number (and_then (transcript_outcome bytes) rounds)))
-    (number_then TranscriptNumber (transcript_outcome bytes) rounds
+    number_then TranscriptNumber (transcript_outcome bytes) rounds
     (transcript_number TranscriptNumber (λ n l. inl (omega arith)) (inr refl) bytes)
-    (rounds_number bytes rounds refl))
+    (rounds_number bytes rounds refl)
 
 of_front : (n : ℕ) → FrontNumber n → TranscriptNumber n
 of_front n (inl two) = inl (omega arith)
@@ -260,7 +257,7 @@ of_front n (inr (inr seventeen)) = inr seventeen
 
 abbrev ProgramNumber : Verdict → Type 0
 ProgramNumber verdict =
-    TranscriptNumber (number_of_answer verdict.answer) ⊎ (number_of_answer verdict.answer ≡ 14)
+    TranscriptNumber (number_of_outcome verdict.answer) ⊎ (number_of_outcome verdict.answer ≡ 14)
 
 program_number : (bytes : List ℕ) → ProgramNumber (input_verdict bytes)
 program_number bytes = by (leb (length bytes) input_limit) refl
@@ -269,8 +266,8 @@ program_number bytes = by (leb (length bytes) input_limit) refl
     by true e =
         subst ProgramNumber (sym (short bytes (leb-true (length bytes) input_limit e))) (inl (library_number bytes))
     by false e =
-        ⊎_elim (λ (f : FrontNumber (number_of_answer (input_verdict bytes).answer)). inl (of_front _ f))
-        (λ (l : number_of_answer (input_verdict bytes).answer ≡ 14). inr l)
+        ⊎_elim (λ (f : FrontNumber (number_of_outcome (input_verdict bytes).answer)). inl (of_front _ f))
+        (λ (l : number_of_outcome (input_verdict bytes).answer ≡ 14). inr l)
         (numbers bytes (leb-false (length bytes) input_limit e))
 
 empty : Tells (input_verdict []) 1 (Some 1) None 0

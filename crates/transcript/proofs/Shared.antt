@@ -22,7 +22,6 @@ use Rattle.fri.specs.Rounds.{rounds_outcome}
 use Rattle.fri.specs.Demand.{ValidQueries}
 use Rattle.fri.proofs.Checks.{parameters_number, shared_of, shared_refused}
 use Rattle.fri.proofs.Rounds.{refused_by_round}
-use Rattle.fri.proofs.Verdicts.{refused_of}
 use Rattle.transcript.specs.Sections.{section_start, section_count, transcript_k, transcript_rate, transcript_step}
 use Rattle.transcript.specs.Sections.{transcript_steps, transcript_rounds, run_in, queries_in}
 use Rattle.transcript.specs.Checks.{section_outcome, due_outcome, parameters_section, coset_section}
@@ -112,7 +111,7 @@ module _ (bytes : List ℕ) (query : ℕ) where
   of_verdict e =
       let rounds = rounds_outcome (run_in bytes) (queries_in bytes) 0 in
       of_sections (by (which (transcript_outcome bytes) rounds (CosetShared query)
-      (refused_of (and_then (transcript_outcome bytes) rounds) (CosetShared query) e)))
+      e))
     where
       by : Either (transcript_outcome bytes) (rounds_outcome (run_in bytes) (queries_in bytes) 0) (CosetShared query)
           → transcript_outcome bytes ≡ refused

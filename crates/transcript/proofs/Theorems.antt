@@ -23,9 +23,8 @@ use Rattle.fri.specs.Run.{Run}
 use Rattle.fri.specs.Run as run
 use Rattle.fri.specs.Rounds.{rounds_outcome}
 use Rattle.fri.specs.Reads.{entries_read}
-use Rattle.fri.specs.Judge.{answer_of, reads_after, verdict_of}
+use Rattle.fri.specs.Judge.{reads_after, verdict_of}
 use Rattle.fri.specs.Demand.{Any, Accepted, Visits, Elements}
-use Rattle.fri.proofs.Verdicts.{done_of, refused_of}
 use Rattle.fri.proofs.Soundness.{soundness}
 use Rattle.fri.proofs.Completeness.{completeness}
 use Rattle.transcript.specs.Sections.{run_in, queries_in}
@@ -46,7 +45,7 @@ carried bytes c =
     ap {B = Verdict}
     (λ (o : Outcome).
     record {
-      answer = answer_of (and_then o (rounds_outcome (run_in bytes) (queries_in bytes) 0));
+      answer = and_then o (rounds_outcome (run_in bytes) (queries_in bytes) 0);
       reads = reads_after o (entries_read (run_in bytes) (queries_in bytes));
     })
     (checks_are bytes c)
@@ -59,7 +58,7 @@ refused_verdict bytes cause e =
     ap {B = Verdict}
     (λ (o : Outcome).
     record {
-      answer = answer_of (and_then o (rounds_outcome (run_in bytes) (queries_in bytes) 0));
+      answer = and_then o (rounds_outcome (run_in bytes) (queries_in bytes) 0);
       reads = reads_after o (entries_read (run_in bytes) (queries_in bytes));
     })
     e
@@ -71,7 +70,7 @@ passed_sections : (bytes : List ℕ) → (transcript_verdict bytes).answer ≡ O
 unfolding transcript_verdict
 passed_sections bytes e =
     let rounds = rounds_outcome (run_in bytes) (queries_in bytes) 0 in
-    (then_done (transcript_outcome bytes) rounds (done_of (and_then (transcript_outcome bytes) rounds) e)).0
+    (then_done (transcript_outcome bytes) rounds e).0
 
 accepted_carries : (bytes : List ℕ) → (transcript_verdict bytes).answer ≡ Ok tt → Carries bytes
 accepted_carries bytes e = passed_carries bytes (passed_sections bytes e)
@@ -82,7 +81,7 @@ unfolding transcript_verdict
 refused_carries bytes query round e =
     let rounds = rounds_outcome (run_in bytes) (queries_in bytes) 0 in
     by (which (transcript_outcome bytes) rounds (RoundCheckFails query round)
-    (refused_of (and_then (transcript_outcome bytes) rounds) (RoundCheckFails query round) e))
+    e)
   where
     by : Either (transcript_outcome bytes) (rounds_outcome (run_in bytes) (queries_in bytes) 0)
         (RoundCheckFails query round) → Carries bytes
@@ -175,7 +174,7 @@ judging_bytes =
 same_refusal : (front bytes : List ℕ) (outcome : Outcome) → transcript_outcome front ≡ outcome
     → transcript_outcome bytes ≡ outcome → longest_transcript < length front
     → transcript_verdict front ≡ transcript_verdict bytes
-same_refusal front bytes (Ok tt) e f h = absurd (omega (arith, longest front e))
+same_refusal front bytes (Ok _) e f h = absurd (omega (arith, longest front e))
 same_refusal front bytes (Err cause) e f h = refused_verdict front cause e ∙ sym (refused_verdict bytes cause f)
 
 first_decide : (bytes : List ℕ) (read : ℕ) → longest_transcript < read

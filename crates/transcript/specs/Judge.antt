@@ -6,7 +6,7 @@ use Rattle.refusal.specs.Checks.{and_then}
 use Rattle.fri.specs.declared.Verdict.{Verdict}
 use Rattle.fri.specs.Rounds.{rounds_outcome}
 use Rattle.fri.specs.Reads.{entries_read}
-use Rattle.fri.specs.Judge.{answer_of, reads_after}
+use Rattle.fri.specs.Judge.{reads_after}
 use Rattle.transcript.specs.Sections.{run_in, queries_in}
 use Rattle.transcript.specs.Checks.{front_outcome, transcript_outcome}
 
@@ -14,7 +14,7 @@ use Rattle.transcript.specs.Checks.{front_outcome, transcript_outcome}
 unfoldable pub transcript_verdict : (bytes : List ℕ) → Verdict
 transcript_verdict bytes =
     record {
-      answer = answer_of (and_then (transcript_outcome bytes) (rounds_outcome (run_in bytes) (queries_in bytes) 0));
+      answer = and_then (transcript_outcome bytes) (rounds_outcome (run_in bytes) (queries_in bytes) 0);
       reads = reads_after (transcript_outcome bytes) (entries_read (run_in bytes) (queries_in bytes));
     }
 
@@ -34,7 +34,7 @@ input_limit = 2 ^ 16
 
 -- the program's answer to more bytes than that: the first refusal of sections 1 to 4, then 14 (02, Q-8)
 abbrev pub long_verdict : (bytes : List ℕ) → Verdict
-long_verdict bytes = record { answer = answer_of (and_then (front_outcome bytes) (Err InputTooLong)); reads = 0 }
+long_verdict bytes = record { answer = and_then (front_outcome bytes) (Err InputTooLong); reads = 0 }
 
 -- the program's answer
 unfoldable pub input_verdict : (bytes : List ℕ) → Verdict

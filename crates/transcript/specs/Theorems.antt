@@ -6,14 +6,14 @@ use Rattle.refusal.specs.declared.Cause.{Cause}
 use Rattle.refusal.specs.declared.Cause.TheVariants.{CountDiffers, RoundCheckFails, InputTooLong, CosetShared}
 use Rattle.std.specs.Prelude.{Some, None, Ok, Err}
 use Rattle.refusal.specs.Outcome.{Outcome}
-use Rattle.refusal.specs.Numbers.{number_of}
+use Rattle.refusal.specs.Numbers.{number_of, number_of_outcome}
 use Rattle.coset.specs.Span.{Independent}
 use Rattle.fri.specs.Layout.{dimension, last_count}
 use Rattle.fri.specs.Run.{Run}
 use Rattle.fri.specs.Run as run
 use Rattle.fri.specs.Layers.{honest}
 use Rattle.fri.specs.Checks.{first_shared}
-use Rattle.fri.specs.Judge.{checks_outcome, number_of_answer, verdict_of}
+use Rattle.fri.specs.Judge.{checks_outcome, verdict_of}
 use Rattle.fri.specs.Demand.{ValidParameters, LowDegree, ValidQueries, Apart, Any, Visits, Sound}
 use Rattle.fri.specs.Theorems.{Tells}
 use Rattle.transcript.specs.Numerals.{AreBytes}
@@ -79,7 +79,7 @@ FrontNumber n = (n ≡ 2) ⊎ ((4 ≤ n) × (n ≤ 10)) ⊎ (n ≡ 17)
 abbrev pub RefusedInFront : (answer : Outcome) → Type 0
 RefusedInFront answer =
     ((section : ℕ) × (section ≤ 3) × (answer ≡ Err (CountDiffers section)))
-    ⊎ ((4 ≤ number_of_answer answer) × (number_of_answer answer ≤ 10)) ⊎ (number_of_answer answer ≡ 17)
+    ⊎ ((4 ≤ number_of_outcome answer) × (number_of_outcome answer ≤ 10)) ⊎ (number_of_outcome answer ≡ 17)
 
 -- the program's answer to inputs over the limit (02, Q-8)
 pub record LongInputs : Type 0 where
@@ -106,7 +106,7 @@ pub record LongInputs : Type 0 where
       → front_outcome bytes ≡ Err cause → FrontNumber (number_of cause)
   -- so no other numbers are given than 2, 4 to 10, 14 and 17: never 0, 1, 3 or 11
   pub numbers : (bytes : List ℕ) → input_limit < length bytes
-      → FrontNumber (number_of_answer (input_verdict bytes).answer) ⊎ (number_of_answer (input_verdict bytes).answer ≡ 14)
+      → FrontNumber (number_of_outcome (input_verdict bytes).answer) ⊎ (number_of_outcome (input_verdict bytes).answer ≡ 14)
   -- so what the program accepts is not over the limit, and the library accepts it
   pub accepted : (bytes : List ℕ) → (input_verdict bytes).answer ≡ Ok tt
       → (length bytes ≤ input_limit) × ((transcript_verdict bytes).answer ≡ Ok tt)
@@ -155,9 +155,9 @@ TranscriptNumber n = (n ≤ 11) ⊎ (n ≡ 17)
 
 -- no other numbers are given: over bytes 0 to 11 and 17, and 14 by the program
 pub record TranscriptNumbers : Type 0 where
-  pub library : (bytes : List ℕ) → TranscriptNumber (number_of_answer (transcript_verdict bytes).answer)
+  pub library : (bytes : List ℕ) → TranscriptNumber (number_of_outcome (transcript_verdict bytes).answer)
   pub program : (bytes : List ℕ)
-      → TranscriptNumber (number_of_answer (input_verdict bytes).answer)
-      ⊎ (number_of_answer (input_verdict bytes).answer ≡ 14)
+      → TranscriptNumber (number_of_outcome (input_verdict bytes).answer)
+      ⊎ (number_of_outcome (input_verdict bytes).answer ≡ 14)
   -- case N: no bytes at all
   pub empty : Tells (input_verdict []) 1 (Some 1) None 0

@@ -34,7 +34,7 @@ length_told p offset basis challenges queries word store last few = by parameter
 
     by : (o : Outcome) → parameters ≡ o
         → write_outcome run queries (transcript_length_of p (length queries)) ≡ checks_outcome run queries
-    by (Ok tt) e =
+    by (Ok _) e =
         ap (write_outcome run queries) (ap₂ told e (lt-ltb (length queries) (2 ^ 60) few))
         ∙ writer_refusals.as_lists run queries
     by (Err cause) e =

@@ -9,7 +9,7 @@ use Rattle.written.specs.Transcript.{transcript_length}
 
 -- the number if the checks pass, else 0
 abbrev pub or_zero : (outcome : Outcome) (number : ℕ) → ℕ
-or_zero (Ok tt) number = number
+or_zero (Ok _) number = number
 or_zero (Err cause) number = 0
 
 -- the length due; 0 for parameters out of range, and for 2^60 queries or more, which no list of 64-bit numbers has

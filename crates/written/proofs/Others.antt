@@ -91,7 +91,7 @@ others_refused run queries bytes passes b e q = by (transcript_outcome bytes) re
         → (bytes ≡ transcript_of run queries)
         ⊎ ((cause : Cause) × (transcript_verdict bytes ≡ record { answer = Err cause; reads = 0 })
         × (number_of cause ≤ 3))
-    by (Ok tt) done = inl (sym (only bytes b (passed_carries bytes done)) ∙ ap₂ transcript_of e q)
+    by (Ok _) done = inl (sym (only bytes b (passed_carries bytes done)) ∙ ap₂ transcript_of e q)
     by (Err cause) refused =
         let low = subst (λ (o : Outcome). Low (number_of_outcome o)) refused
         (low_number bytes (ap₂ checks_outcome e q ∙ passes)) in

@@ -39,8 +39,8 @@ cut first second after cause e = then_then first second after ∙ ap (λ (o : Ou
 number_before : (P : ℕ → Type 0) (first second third after : Outcome)
     → P (number_of_outcome (and_then first (and_then second third))) → P (number_of_outcome after)
     → P (number_of_outcome (and_then first (and_then second after)))
-number_before P (Ok tt) (Ok tt) third after h a = a
-number_before P (Ok tt) (Err cause) third after h a = h
+number_before P (Ok _) (Ok _) third after h a = a
+number_before P (Ok _) (Err cause) third after h a = h
 number_before P (Err cause) second third after h a = h
 
 -- ---- the writer's
@@ -81,7 +81,7 @@ module _ (run : Run) (queries : List ℕ) where
       by : (o : Outcome) → and_then parameters (lengths_outcome run) ≡ o
           → write_outcome run queries due ≡ checks_outcome run queries
       by (Err cause) e = earlier due cause e ∙ sym (earlier needed cause e) ∙ as_lists_needed
-      by (Ok tt) e =
+      by (Ok _) e =
           let both = then_done parameters (lengths_outcome run) e in
           let valid = parameters_valid run.k run.rate run.step both.0 in
           ap (write_outcome run queries) (sym (transcript_size run valid (lengths_fit run both.1) queries))

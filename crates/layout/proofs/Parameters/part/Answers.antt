@@ -1,40 +1,35 @@
 -- `Parameters::part` meets its contract. Assumes nothing.
-use Rattle.layout.proofs.Parts.{round_told, part_found}
-use Rattle.layout.proofs.Sizes.{dimension_most}
-use Rattle.layout.specs.declared.Parameters.{Parameters}
-use Rattle.layout.specs.declared.Lengths.{Lengths}
-use Rattle.layout.specs.Lengths.{lengths_of}
-use Rattle.layout.specs.Parameters.{Valid}
-use Rattle.fri.proofs.Checks.{parameters_valid}
-use Rattle.coset.proofs.Sizes.{size_shifted}
-use Prim.Native.Nat.{ℕ, ◌^◌, ◌<◌}
-use mathlib.Core.Path.{◌≡◌, ap, ap₂, ◌∙◌}
+use mathlib.Core.Path.{◌≡◌, sym, ap, ap₂, ◌∙◌, subst}
+use Prim.Native.Nat.{ℕ, ◌^◌, ◌≤◌, ◌<◌}
 use native.Mathlib.Omega.{arith}
+use lib.ListN.{length}
+use Rattle.coset.proofs.Sizes.{size_shifted}
+use Rattle.fri.specs.Layout.{dimension, layer_start}
+use Rattle.layout.specs.declared.Parameters.{Parameters}
+use Rattle.layout.specs.declared.Part.{Part}
+use Rattle.layout.specs.Parameters.{steps_by}
+use Rattle.layout.specs.Lengths.{lengths_due}
+use Rattle.layout.proofs.Parts.{found, part_found}
+use Rattle.layout.proofs.Sizes.{dimension_most}
 use Rattle.layout.proofs.Parameters.part.Goals as goal
-
--- i is below the rounds told
-below : (p : Parameters) (told : Lengths) → told ≡ lengths_of p → (i : ℕ) → i < told.rounds → i < (lengths_of p).rounds
-below p told e i h = omega (arith, h, ap (λ (l : Lengths). l.rounds) e)
-
--- so the parameters are in range
-valid : (p : Parameters) (store_length i : ℕ) → i < (lengths_of p).rounds → Valid p
-valid p store_length i h = parameters_valid p.k p.rate p.step (round_told p store_length i h)
 
 pub overflow_shl-result : goal.overflow_shl-result
 overflow_shl-result c =
-    let a = c.args in
-    let inside = below a.self c.lengths-lengths.result c.lengths-lengths.ensures a.i c.if-i-lengths.false in
-    omega (arith, c.dimension.ensures, dimension_most a.self (valid a.self a.store_length a.i inside) a.i)
+    let shape = c.in-Ok.shape in
+    omega (arith, c.dimension.ensures, dimension_most shape.parameters shape.valid c.args.i)
 
-pub returns : goal.returns
-returns c =
+pub returns-in-Ok : goal.returns-in-Ok
+returns-in-Ok c =
     let a = c.args in
-    let told = c.lengths-lengths in
-    let inside = below a.self told.result told.ensures a.i c.if-i-lengths.false in
+    let shape = c.in-Ok.shape in
+    let same = c.in-Ok.ensures.shape in
     let small : c.dimension.result < 64 =
-    omega (arith, c.dimension.ensures, dimension_most a.self (valid a.self a.store_length a.i inside) a.i)
+    omega (arith, c.dimension.ensures, dimension_most shape.parameters shape.valid a.i)
     in
     ap₂ (λ (m n : ℕ). record { start = m; length = n }) c.layer_start.ensures
     (size_shifted c.dimension.result small ∙ ap (λ (n : ℕ). 2 ^ n) c.dimension.ensures)
-    ∙ part_found a.self a.store_length a.i (round_told a.self a.store_length a.i inside) c.if-i-lt1.false
-    inside (c.if-store_length-lengths.false ∙ ap (λ (l : Lengths). l.store) told.ensures)
+    ∙ ap (λ (p : Parameters). found p a.store_length a.i) same
+    ∙ part_found a.self a.store_length a.i (sym c.in-Ok.ensures.outcome) c.if-i-ge1.true
+    (subst (λ (p : Parameters). a.i < length (steps_by p)) same (omega (arith, c.if-i-rounds.true, c.rounds.ensures)))
+    (c.if-store_length-lengths.true ∙ ap (λ (l : Rattle.layout.specs.declared.Lengths.Lengths). l.store) c.lengths.ensures
+    ∙ ap (λ (p : Parameters). (lengths_due p).store) same)

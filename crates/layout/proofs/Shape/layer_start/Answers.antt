@@ -11,7 +11,7 @@ use Prim.Native.Nat.{ℕ, ◌+◌, ◌*◌, ◌%◌, ◌^◌, ◌≤◌}
 use mathlib.Core.Path.{◌≡◌, sym, ap, ap₂, ◌∙◌}
 use borrow.Author.Rules.{rules}
 use native.Mathlib.Omega.{arith}
-use Rattle.layout.proofs.Parameters.layer_start.Goals as goal
+use Rattle.layout.proofs.Shape.layer_start.Goals as goal
 
 -- the dimension of layer `before` is small
 small : (p : Parameters) (v : Valid p) (before m : ℕ) → m ≡ dimension p.k (steps_by p) before → m ≤ 20
@@ -23,30 +23,27 @@ size_is : (p : Parameters) (v : Valid p) (before m : ℕ) → m ≡ dimension p.
 size_is p v before m e = size_shifted m (omega (arith, small p v before m e)) ∙ ap (λ (n : ℕ). 2 ^ n) e
 
 pub loop-before-init : goal.loop-before-init
-loop-before-init c = (search rules, c.requires.1, start_of_first c.args.self.k (steps_by c.args.self))
+loop-before-init c = start_of_first c.args.self.parameters.k (steps_by c.args.self.parameters)
 
 pub overflow_shl-start : goal.overflow_shl-start
 overflow_shl-start c =
     omega (
       arith,
-      small c.args.self c.requires.0 c.loop-before.before c.dimension.result c.dimension.ensures,
+      small c.args.self.parameters c.args.self.valid c.loop-before.before c.dimension.result c.dimension.ensures,
     )
 
 pub overflow_add-start : goal.overflow_add-start
 overflow_add-start c =
-    let p = c.args.self in
+    let p = c.args.self.parameters in
     let l = c.loop-before in
-    let size = size_is p c.requires.0 l.before c.dimension.result c.dimension.ensures in
-    let few = start_few p c.requires.0 l.before (omega (arith, c.requires.2)) in
-    omega (arith, size, layer_small p.k (steps_by p) l.before c.requires.0.k_most, l.invariant.2, few)
+    let size = size_is p c.args.self.valid l.before c.dimension.result c.dimension.ensures in
+    let few = start_few p c.args.self.valid l.before (omega (arith, c.requires.1)) in
+    omega (arith, size, layer_small p.k (steps_by p) l.before c.args.self.valid.k_most, l.invariant, few)
 
 pub loop-before-preserved : goal.loop-before-preserved
 loop-before-preserved c =
-    let p = c.args.self in
+    let p = c.args.self.parameters in
     let l = c.loop-before in
-    let size = size_is p c.requires.0 l.before c.dimension.result c.dimension.ensures in (
-      search rules,
-      search rules,
-      ap₂ (λ (m n : ℕ). m + n) l.invariant.2 size ∙ sym (start_next p.k (steps_by p) l.before l.invariant.0)
-          ∙ ap (layer_start p.k (steps_by p)) (sym (add-one l.before)),
-    )
+    let size = size_is p c.args.self.valid l.before c.dimension.result c.dimension.ensures in
+      ap₂ (λ (m n : ℕ). m + n) l.invariant size ∙ sym (start_next p.k (steps_by p) l.before (omega arith))
+          ∙ ap (layer_start p.k (steps_by p)) (sym (add-one l.before))
