@@ -14,11 +14,8 @@ pub fn composed_maps(elements: &[u64], x: Element) -> Element
     ensures { result.0 ≡ composed_maps elements.now x.0 }
 {
     let mut y = x;
-    let mut i: usize = 0;
-    while i < elements.len() {
-        let e = elements[i];
-        y = y.product(y.sum(Element(e)));
-        i += 1;
+    for e in elements {
+        y = y.product(y.sum(Element(*e)));
     }
     y
 }
@@ -30,11 +27,8 @@ pub fn fill_elements(basis: &[u64], elements: &mut [u64])
     ensures { let k = length basis.now in
         elements.new ≡ step_elements k basis.now ++ drop k elements.old }
 {
-    let mut t: usize = 0;
-    while t < basis.len() {
-        let b = basis[t];
-        elements[t] = composed_maps(&elements[..t], Element(b)).0;
-        t += 1;
+    for (t, b) in basis.iter().enumerate() {
+        elements[t] = composed_maps(&elements[..t], Element(*b)).0;
     }
 }
 
@@ -54,11 +48,8 @@ pub fn fill_images(elements: &[u64], xs: &[u64], images: &mut [u64])
     ensures { let front = map (composed_maps elements.now) xs.now in
         images.new ≡ front ++ drop (length xs.now) images.old }
 {
-    let mut i: usize = 0;
-    while i < xs.len() {
-        let x = xs[i];
-        images[i] = composed_maps(elements, Element(x)).0;
-        i += 1;
+    for (i, x) in xs.iter().enumerate() {
+        images[i] = composed_maps(elements, Element(*x)).0;
     }
 }
 

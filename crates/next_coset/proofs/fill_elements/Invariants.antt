@@ -2,7 +2,7 @@
 -- were. Assumes nothing.
 use mathlib.Core.Path.{◌≡◌}
 use mathlib.Core.List.{List, ◌++◌}
-use Prim.Native.Nat.{ℕ, ◌-◌, ◌≤◌}
+use Prim.Native.Nat.{ℕ}
 use lib.ListN.{length, drop}
 use Rattle.poly.proofs.Filling.{filled}
 use Rattle.coset.specs.Steps.{step_elements}
@@ -14,8 +14,4 @@ whole basis = step_elements (length basis) basis
 
 abbrev pub invariant-loop-t : goal.invariant-loop-t
 invariant-loop-t l =
-    (l.t ≤ length l.basis) × (length l.elements ≡ length l.initial.elements)
-    × (l.elements ≡ filled (whole l.basis ++ drop (length (whole l.basis)) l.initial.elements) l.initial.elements l.t)
-
-abbrev pub decreases-loop-t : goal.decreases-loop-t
-decreases-loop-t l = length l.basis - l.t
+    l.elements ≡ filled (whole l.basis ++ drop (length (whole l.basis)) l.initial.elements) l.initial.elements l.t

@@ -2,7 +2,6 @@
 -- were. Assumes nothing.
 use mathlib.Core.Path.{◌≡◌}
 use mathlib.Core.List.{map, ◌++◌}
-use Prim.Native.Nat.{◌-◌, ◌≤◌}
 use lib.ListN.{length, drop}
 use Rattle.poly.proofs.Filling.{filled}
 use Rattle.coset.specs.Steps.{composed_maps}
@@ -10,9 +9,5 @@ use Rattle.next_coset.proofs.fill_images.Given as goal
 
 abbrev pub invariant-loop-i : goal.invariant-loop-i
 invariant-loop-i l =
-    (l.i ≤ length l.xs) × (length l.images ≡ length l.initial.images)
-    × (l.images ≡ filled (map (composed_maps l.elements) l.xs ++ drop
-    (length (map (composed_maps l.elements) l.xs)) l.initial.images) l.initial.images l.i)
-
-abbrev pub decreases-loop-i : goal.decreases-loop-i
-decreases-loop-i l = length l.xs - l.i
+    l.images ≡ filled (map (composed_maps l.elements) l.xs ++ drop
+    (length (map (composed_maps l.elements) l.xs)) l.initial.images) l.initial.images l.i
