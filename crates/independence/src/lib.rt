@@ -14,8 +14,7 @@ use refusal::Cause;
 pub fn checked_basis(basis: &[u64]) -> Result<(), Cause>
     ensures { result ≡ basis_outcome basis.now }
 {
-    let dependent = first_dependent(basis);
-    match dependent {
+    match first_dependent(basis) {
         Some(place) => Err(Cause::BasisDependent { place }),
         None => Ok(()),
     }
@@ -26,16 +25,11 @@ pub fn checked_basis(basis: &[u64]) -> Result<(), Cause>
 fn first_dependent(basis: &[u64]) -> Option<usize>
     ensures { result ≡ first_dependent basis.now }
 {
-    let first = first_among_64(basis);
-    match first {
+    match first_among_64(basis) {
         Some(place) => Some(place),
-        None => {
-            // More than 64 elements of 64 bits are never independent.
-            if basis.len() > 64 {
-                return Some(64);
-            }
-            None
-        }
+        // More than 64 elements of 64 bits are never independent.
+        None if basis.len() > 64 => Some(64),
+        None => None,
     }
 }
 
@@ -43,16 +37,14 @@ fn first_dependent(basis: &[u64]) -> Option<usize>
 fn first_among_64(basis: &[u64]) -> Option<usize>
     ensures { result ≡ first_dependent (take 64 basis.now) }
 {
-    let count = poly::lesser(basis.len(), 64);
+    let count = basis.len().min(64);
     let mut rows = first_64(basis);
-    let mut place: usize = 0;
-    while place < count {
+    for place in 0..count {
         let row = rows[place];
         if row == 0 {
             return Some(place);
         }
-        place += 1;
-        clear(&mut rows[place..count], row);
+        clear(&mut rows[place + 1..count], row);
     }
     None
 }
@@ -61,13 +53,9 @@ fn first_among_64(basis: &[u64]) -> Option<usize>
 fn first_64(basis: &[u64]) -> [u64; 64]
     ensures { result ≡ padded gf64 64 (take 64 basis.now) }
 {
-    let count = poly::lesser(basis.len(), 64);
+    let count = basis.len().min(64);
     let mut rows = [0u64; 64];
-    let mut i: usize = 0;
-    while i < count {
-        rows[i] = basis[i];
-        i += 1;
-    }
+    rows[..count].copy_from_slice(&basis[..count]);
     rows
 }
 
@@ -75,10 +63,8 @@ fn first_64(basis: &[u64]) -> [u64; 64]
 fn clear(rows: &mut [u64], row: u64)
     ensures { rows.new ≡ map (cleared row) rows.old }
 {
-    let mut i: usize = 0;
-    while i < rows.len() {
-        rows[i] = cleared(row, rows[i]);
-        i += 1;
+    for a in rows.iter_mut() {
+        *a = cleared(row, *a);
     }
 }
 

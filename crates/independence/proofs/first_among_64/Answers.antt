@@ -6,7 +6,6 @@ use Prim.Native.Nat.{ℕ, ◌+◌, ◌-◌, min}
 use lib.ListN.{length, take, get_or, length-take, length-map}
 use lib.Seq.{length-take-le, get_or-take}
 use borrow.Rule.Slice.PartMut.{mid_of, same_len_mid}
-use borrow.Author.Rules.{rules}
 use native.Mathlib.Omega.{arith}
 use Rattle.poly.specs.Carrier.{gf64}
 use Rattle.poly.specs.Polynomial.{padded}
@@ -27,41 +26,37 @@ pub loop-place-init : goal.loop-place-init
 unfolding first_dependent
 loop-place-init c =
     let basis = c.args.basis.now in (
-      search rules,
-      c.lesser-count.ensures,
       ap length c.first_64-rows.ensures ∙ length-padded gf64 64 (take 64 basis) (omega (arith, length-take 64 basis)),
-      ap first_dependent (take-rows basis c.first_64-rows.result c.lesser-count.result
-          c.lesser-count.ensures c.first_64-rows.ensures),
+      ap first_dependent (take-rows basis c.first_64-rows.result c.min-count.result
+          c.min-count.ensures c.first_64-rows.ensures),
     )
 
 pub returns-then-row-eq0 : goal.returns-then-row-eq0
 returns-then-row-eq0 c =
     let l = c.loop-place in
-    let count = c.lesser-count.result in
+    let count = c.min-count.result in
     sym
     (row_zero (take count l.rows) l.place (omega (arith, length-take-le count l.rows (omega arith)))
     (get_or-take count l.rows l.place 0 (omega arith) ∙ c.if-row-eq0.true))
-    ∙ l.invariant.3
+    ∙ l.invariant.1
 
 pub loop-place-preserved : goal.loop-place-preserved
 loop-place-preserved c =
     let l = c.loop-place in
-    let count = c.lesser-count.result in
+    let count = c.min-count.result in
     let changed = c.clear.new.rows in (
-      search rules,
-      l.invariant.1,
       same_len_mid (l.place + 1) (count - (l.place + 1)) l.rows changed
           (ap length c.clear.ensures
           ∙ length-map (mid_of (l.place + 1) (count - (l.place + 1)) l.rows)
           (cleared (get_or l.rows l.place 0)))
-          ∙ l.invariant.2,
+          ∙ l.invariant.0,
       row_next l.rows count l.place changed (omega arith) (omega arith) c.if-row-eq0.false
-          c.clear.ensures ∙ l.invariant.3,
+          c.clear.ensures ∙ l.invariant.1,
     )
 
 pub returns : goal.returns
 returns c =
     let l = c.loop-place in
-    let count = c.lesser-count.result in
+    let count = c.min-count.result in
     sym (rows_end (take count l.rows) l.place (omega (arith, length-take-le count l.rows (omega arith))))
-    ∙ l.invariant.3
+    ∙ l.invariant.1
