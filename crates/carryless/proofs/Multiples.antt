@@ -1,7 +1,7 @@
 -- The table of the multiples of a polynomial of 32 bits: entry n from entry n / 2. Assumes nothing.
 use mathlib.Core.Path.{◌≡◌, sym, ap, ◌∙◌, subst}
 use mathlib.Core.List.{List}
-use Prim.Native.Nat.{ℕ, ◌+◌, ◌*◌, ◌/◌, ◌%◌, ◌^◌, ◌<◌}
+use Prim.Native.Nat.{ℕ, ◌+◌, ◌*◌, ◌/◌, ◌%◌, ◌^◌, ◌≤◌, ◌<◌}
 use native.Mathlib.Nat.{le_trans}
 use native.Mathlib.Omega.{arith}
 use lib.Arith.{lt-one}
@@ -10,7 +10,8 @@ use lib.Seq.{get_or-set_same, get_or-set_other}
 use lib.Bits.{bit_xor}
 use borrow.Author.Count.{below_more}
 use Rattle.gf64.specs.Polynomial.{carryless}
-use Rattle.gf64.proofs.Carryless.{carryless_step, carryless_lt, carryless-zero_l}
+use Rattle.gf64.proofs.Carryless.{carryless_step, carryless_lt, carryless-zero_l, carryless_one_l}
+use Rattle.carryless.specs.Window.{Multiples}
 
 -- the entries below n are the multiples
 abbrev pub Filled : ℕ → List ℕ → ℕ → Type 0
@@ -32,3 +33,12 @@ next_multiple a t n v pos inside filled e =
     (λ k l. get_or-set_other t n k v 0 (omega arith) ∙ filled k l)
     (get_or-set_same t n v 0 inside ∙ e ∙ ap (λ (x : ℕ). bit_xor (n % 2 * a) (x * 2)) (filled (n / 2) (omega arith))
     ∙ sym (carryless_step n a))
+
+-- entry 1 is the polynomial itself
+pub entry_one : (a : ℕ) (t : List ℕ) (n : ℕ) → 1 < n → Filled a t n → get_or t 1 0 ≡ a
+entry_one a t n h filled = filled 1 h ∙ carryless_one_l a
+
+pub all_multiples : (a : ℕ) (t : List ℕ) (n : ℕ) → a < 2 ^ 32 → 16 ≤ n → Filled a t n → Multiples (get_or t 1 0) t
+all_multiples a t n short h filled =
+    subst (λ (x : ℕ). Multiples x t) (sym (entry_one a t n (omega arith) filled))
+    (record { short = short; at = λ m l. filled m (omega arith) })

@@ -2,13 +2,14 @@
 -- Assumes nothing.
 use mathlib.Core.Path.{◌≡◌, refl, sym, ap, ap₂, ◌∙◌, subst}
 use Prim.Native.Nat.{ℕ, ◌+◌, ◌*◌, ◌/◌, ◌%◌, ◌^◌, ◌≤◌, ◌<◌}
-use native.Mathlib.Nat.{mod-lt, mul-div-mul_right, mul_assoc}
-use lib.Pow.{pow_pos, shl_exact, shr_lt}
+use native.Mathlib.Nat.{mod-lt, mod-one, mod-eq_of_lt, mul-div-mul_right, mul_assoc}
+use native.Mathlib.Omega.{arith}
+use lib.Pow.{pow_pos, shl_exact, shr_lt, field, mod-mod-pow}
 use lib.Bits.{bit_xor, xor_shifted, xor_comm}
 use Rattle.gf64.specs.Polynomial.{carryless}
 use Rattle.gf64.proofs.Xor.{xor_swap, xor_shift}
 use Rattle.gf64.proofs.Additive.{shift_left_additive}
-use Rattle.gf64.proofs.Carryless.{carryless_lt, carryless_parts, carryless_comm}
+use Rattle.gf64.proofs.Carryless.{carryless_lt, carryless_parts, carryless_comm, carryless-zero_l}
 use Rattle.carryless.specs.declared.Products.{Products}
 use Rattle.carryless.specs.Window.{Sums, shifted_sum, joined_of}
 use Rattle.carryless.proofs.WideSums.{wide_sum}
@@ -29,7 +30,7 @@ shifted_swap k u v s t =
     ap (λ (x : ℕ). bit_xor x (bit_xor s t)) (shift_left_additive k 64 u v)
     ∙ xor_swap (u * 2 ^ k % 2 ^ 64) (v * 2 ^ k % 2 ^ 64) s t
 
-pub sums_joined : (j k a₀ a₁ x y : ℕ) (p q r : Products) → a₀ < 2 ^ 32 → a₁ < 2 ^ 32 → x < 2 ^ (j + k) → y < 2 ^ (j + k)
+sums_joined : (j k a₀ a₁ x y : ℕ) (p q r : Products) → a₀ < 2 ^ 32 → a₁ < 2 ^ 32 → x < 2 ^ (j + k) → y < 2 ^ (j + k)
     → j + 32 + k ≤ 64 → Sums a₀ a₁ (x / 2 ^ k) (y / 2 ^ k) p → Sums a₀ a₁ (x % 2 ^ k) (y % 2 ^ k) q
     → r ≡ joined_of p k q → Sums a₀ a₁ x y r
 sums_joined j k a₀ a₁ x y p q r h₀ h₁ hx hy fits above below e =
@@ -46,6 +47,39 @@ sums_joined j k a₀ a₁ x y p q r h₀ h₁ hx hy fits above below e =
       high = ap (λ (s : Products). s.high) e
           ∙ parts_joined j k a₁ x p.high q.high h₁ hx fits above.high below.high;
     }
+
+-- ---- the sums by four bits of x and y after the other, from the lowest on
+
+pub no_sums : (a₀ a₁ x y : ℕ) → Sums a₀ a₁ (x % 1) (y % 1) (record { low = 0; middle = 0; high = 0 })
+no_sums a₀ a₁ x y =
+    record {
+      low = none y a₀;
+      middle = ap₂ bit_xor (none x a₀) (none y a₁);
+      high = none x a₁;
+    }
+  where
+    none : (u a : ℕ) → 0 ≡ carryless (u % 1) a
+    none u a = rw (mod-one u) (sym (carryless-zero_l a))
+
+pub sums_next : (a₀ a₁ x y n : ℕ) (p q r : Products) → a₀ < 2 ^ 32 → a₁ < 2 ^ 32 → n < 8
+    → Sums a₀ a₁ (x / 2 ^ (4 * n) % 2 ^ 4) (y / 2 ^ (4 * n) % 2 ^ 4) p
+    → Sums a₀ a₁ (x % 2 ^ (4 * n)) (y % 2 ^ (4 * n)) q → r ≡ joined_of p (4 * n) q
+    → Sums a₀ a₁ (x % 2 ^ (4 * (n + 1))) (y % 2 ^ (4 * (n + 1))) r
+sums_next a₀ a₁ x y n p q r h₀ h₁ h upper lower e =
+    subst (λ (k : ℕ). Sums a₀ a₁ (x % 2 ^ k) (y % 2 ^ k) r) (omega arith)
+    (sums_joined 4 (4 * n) a₀ a₁ (x % 2 ^ (4 + 4 * n)) (y % 2 ^ (4 + 4 * n)) p q r h₀ h₁
+    (mod-lt x (pow_pos (4 + 4 * n))) (mod-lt y (pow_pos (4 + 4 * n))) (omega arith)
+    (rw (field x 4 (4 * n), field y 4 (4 * n)) upper)
+    (rw (mod-mod-pow x 4 (4 * n), mod-mod-pow y 4 (4 * n)) lower) e)
+
+pub all_sums : (a₀ a₁ x y n : ℕ) (p : Products) → n ≡ 8 → (x < 2 ^ 32) × (y < 2 ^ 32)
+    → Sums a₀ a₁ (x % 2 ^ (4 * n)) (y % 2 ^ (4 * n)) p → Sums a₀ a₁ x y p
+all_sums a₀ a₁ x y n p e within s =
+    subst (λ (u : ℕ). Sums a₀ a₁ u y p) (whole x within.0)
+    (subst (λ (v : ℕ). Sums a₀ a₁ (x % 2 ^ (4 * n)) v p) (whole y within.1) s)
+  where
+    whole : (u : ℕ) → u < 2 ^ 32 → u % 2 ^ (4 * n) ≡ u
+    whole u l = ap (λ (m : ℕ). u % 2 ^ (4 * m)) e ∙ mod-eq_of_lt l
 
 -- ---- the schoolbook product by halves of 32 bits
 

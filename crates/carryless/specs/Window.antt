@@ -21,11 +21,6 @@ pub record Sums (a₀ a₁ x y : ℕ) (p : Products) : Type 0 where
   pub middle : p.middle ≡ bit_xor (carryless x a₀) (carryless y a₁)
   pub high : p.high ≡ carryless x a₁
 
--- what is answered from two tables of multiples
-abbrev pub ProductsBy : (table₀ table₁ : List ℕ) (x y : ℕ) (p : Products) → Type 0
-ProductsBy table₀ table₁ x y p =
-    (a₀ a₁ : ℕ) → Multiples a₀ table₀ → Multiples a₁ table₁ → Sums a₀ a₁ x y p
-
 -- v shifted up in 64 bits, and w
 abbrev pub shifted_sum : (v shift w : ℕ) → ℕ
 shifted_sum v shift w = bit_xor (v * 2 ^ shift % 2 ^ 64) w

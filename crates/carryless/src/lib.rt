@@ -5,10 +5,12 @@
 ghost use Rattle.std.specs.Prelude.{◌≡◌, ◌*◌, ◌%◌, ◌^◌, ◌<◌};
 ghost use Rattle.std.specs.Int.Bits.{bit_xor};
 ghost use Rattle.gf64.specs.Polynomial.{carryless};
-ghost use Rattle.carryless.specs.Window.{wide_of, Multiples, ProductsBy, joined_of};
+ghost use Rattle.carryless.specs.Window.{wide_of, Sums, joined_of};
+
+use std::marker::Model;
 
 // A polynomial of 128 bits.
-#[derive(Drop)]
+#[derive(Clone, Copy, Debug, PartialEq, Eq)]
 pub struct Wide {
     pub high: u64,
     pub low: u64,
@@ -26,65 +28,81 @@ fn multiple(n: usize, a: u64, half: u64) -> u64
     }
 }
 
-// The multiples of a by all polynomials of four bits.
-fn window(a: u64) -> [u64; 16]
-    requires { a < 2 ^ 32 }
-    ensures { Multiples a result }
-{
-    let mut t = [0u64; 16];
-    let mut n: usize = 1;
-    while n < 16 {
-        t[n] = multiple(n, a, t[n / 2]);
-        n += 1;
-    }
-    t
+// The multiples of a polynomial of 32 bits by all polynomials of four bits. A clause sees the polynomial.
+#[derive(Drop)]
+struct Window {
+    entries: [u64; 16],
 }
 
-// The products of the two halves of a by two polynomials x and y, from the multiples of the halves: low · y,
+impl Model for Window {
+    ghost use Rattle.std.specs.Prelude.{ℕ, get_or};
+    ghost use Rattle.carryless.specs.Window.{Multiples};
+
+    ghost Value = { ℕ };
+
+    ghost view = { λ w. get_or w.entries 1 0 };
+
+    ghost invariant = { λ w. Multiples (get_or w.entries 1 0) w.entries };
+}
+
+impl Window {
+    fn of(a: u64) -> Window
+        requires { a < 2 ^ 32 }
+        ensures { result ≡ a }
+    {
+        let mut entries = [0u64; 16];
+        for n in 1..16 {
+            entries[n] = multiple(n, a, entries[n / 2]);
+        }
+        Window { entries }
+    }
+
+    // The product by a polynomial of four bits.
+    fn times(&self, n: u64) -> u64
+        requires { n < 2 ^ 4 }
+        ensures { result ≡ carryless n self.now }
+    {
+        self.entries[n as usize]
+    }
+}
+
+// The products of the two halves of a by two polynomials x and y, from the windows of the halves: low · y,
 // low · x + high · y, and high · x.
-#[derive(Drop)]
+#[derive(Clone, Copy, Debug, PartialEq, Eq)]
 pub struct Products {
     pub low: u64,
     pub middle: u64,
     pub high: u64,
 }
 
-// For an x and a y of 4, then 8, 16 and 32 bits.
-fn times4(low: &[u64; 16], high: &[u64; 16], x: u64, y: u64) -> Products
+// For an x and a y of 4 bits.
+fn times4(low: &Window, high: &Window, x: u64, y: u64) -> Products
     requires { (x < 2 ^ 4) × (y < 2 ^ 4) }
-    ensures { ProductsBy low.now high.now x y result }
+    ensures { Sums low.now high.now x y result }
 {
-    let i = x as usize;
-    let j = y as usize;
     Products {
-        low: low[j],
-        middle: low[i] ^ high[j],
-        high: high[i],
+        low: low.times(y),
+        middle: low.times(x) ^ high.times(y),
+        high: high.times(x),
     }
 }
 
-fn times8(low: &[u64; 16], high: &[u64; 16], x: u64, y: u64) -> Products
-    requires { (x < 2 ^ 8) × (y < 2 ^ 8) }
-    ensures { ProductsBy low.now high.now x y result }
+// For an x and a y of 32 bits, four bits of both at a time, from the lowest on.
+fn times32(low: &Window, high: &Window, x: u64, y: u64) -> Products
+    requires halves { (low.now < 2 ^ 32) × (high.now < 2 ^ 32) }
+    requires within { (x < 2 ^ 32) × (y < 2 ^ 32) }
+    ensures { Sums low.now high.now x y result }
 {
-    let upper = times4(low, high, x / 16, y / 16);
-    upper.joined(4, times4(low, high, x % 16, y % 16))
-}
-
-fn times16(low: &[u64; 16], high: &[u64; 16], x: u64, y: u64) -> Products
-    requires { (x < 2 ^ 16) × (y < 2 ^ 16) }
-    ensures { ProductsBy low.now high.now x y result }
-{
-    let upper = times8(low, high, x / 256, y / 256);
-    upper.joined(8, times8(low, high, x % 256, y % 256))
-}
-
-fn times32(low: &[u64; 16], high: &[u64; 16], x: u64, y: u64) -> Products
-    requires { (x < 2 ^ 32) × (y < 2 ^ 32) }
-    ensures { ProductsBy low.now high.now x y result }
-{
-    let upper = times16(low, high, x / 65536, y / 65536);
-    upper.joined(16, times16(low, high, x % 65536, y % 65536))
+    let mut sums = Products {
+        low: 0,
+        middle: 0,
+        high: 0,
+    };
+    for n in 0..8 {
+        let upper = times4(low, high, (x >> (4 * n)) % 16, (y >> (4 * n)) % 16);
+        sums = upper.joined(4 * n, sums);
+    }
+    sums
 }
 
 impl Products {
@@ -105,8 +123,8 @@ impl Products {
 pub fn wide_product(a: u64, b: u64) -> Wide
     ensures { wide_of result ≡ carryless a b }
 {
-    let low = window(a % 4294967296);
-    let high = window(a / 4294967296);
+    let low = Window::of(a % 4294967296);
+    let high = Window::of(a / 4294967296);
     let p = times32(&low, &high, b / 4294967296, b % 4294967296);
     Wide {
         high: p.high ^ (p.middle >> 32),

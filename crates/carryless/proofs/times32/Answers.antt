@@ -1,10 +1,15 @@
--- `carryless::times32` meets its contract: the parts' products make the whole. Assumes nothing.
+-- `carryless::times32` meets its contract. Assumes nothing.
 use native.Mathlib.Omega.{arith}
-use borrow.Author.Rules.{rules}
-use Rattle.carryless.proofs.Schoolbook.{sums_joined}
+use Rattle.carryless.proofs.Schoolbook.{no_sums, sums_next, all_sums}
 use Rattle.carryless.proofs.times32.Goals as goal
 
+pub loop-n-init : goal.loop-n-init
+loop-n-init c = no_sums _ _ c.args.x c.args.y
+
+pub loop-n-preserved : goal.loop-n-preserved
+loop-n-preserved c =
+    sums_next _ _ c.args.x c.args.y c.loop-n.n _ _ _ c.requires.halves.0 c.requires.halves.1 (omega arith)
+    c.times4-upper.ensures c.loop-n.invariant c.joined-sums.ensures
+
 pub returns : goal.returns
-returns c a₀ a₁ m₀ m₁ =
-    sums_joined 16 16 a₀ a₁ _ _ _ _ _ m₀.short m₁.short (search rules) (search rules) (omega arith)
-    (c.times16-upper.ensures a₀ a₁ m₀ m₁) (c.times16.ensures a₀ a₁ m₀ m₁) c.joined.ensures
+returns c = all_sums _ _ c.args.x c.args.y c.loop-n.n _ (omega arith) c.requires.within c.loop-n.invariant
