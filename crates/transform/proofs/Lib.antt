@@ -7,6 +7,5 @@ pub mod Converting
 pub mod Splitting
 pub mod Normalised
 pub mod Theorems
-pub mod Entries
 pub mod Recursion
 pub mod InPlace

@@ -1,24 +1,21 @@
 // The steps of the additive transform that go over a list once. Each half step undoes itself.
 #![tactic(auto)]
 
-ghost use Rattle.std.specs.Prelude.{◌≡◌, ◌/◌, ◌%◌, length};
+ghost use Rattle.std.specs.Prelude.{◌≡◌, ◌/◌, ◌%◌, ℕ, length};
 ghost use Rattle.poly.specs.Carrier.{gf64};
 ghost use Rattle.poly.specs.Polynomial.{scale};
 ghost use Rattle.transform.specs.Transform.{second_added, first_added};
+ghost use Rattle.transform_steps.specs.Factor.{Multiplies};
 
 use field::Element;
 
 // Each entry of the first half plus the one of the second half.
+#[tactic(auto, using(gf64::proofs::Ring::product_one_l))]
 pub fn add_second(slice: &mut [u64])
     requires { length slice.old % 2 ≡ 0 }
     ensures { slice.new ≡ second_added 1 (length slice.old / 2) slice.old }
 {
-    let half = slice.len() / 2;
-    let mut i: usize = 0;
-    while i < half {
-        slice[i] = slice[i] ^ slice[half + i];
-        i += 1;
-    }
+    add_images(|x| x, slice);
 }
 
 // Each entry of the first half plus c times the one of the second half. A table of c's multiples pays from the third
@@ -28,36 +25,23 @@ pub fn add_multiples(c: Element, slice: &mut [u64])
     ensures { slice.new ≡ second_added c.0 (length slice.old / 2) slice.old }
 {
     if slice.len() < 6 {
-        add_products(c, slice);
+        add_images(|x| c.product(Element(x)).0, slice);
     } else {
-        add_by_table(c, slice);
+        let table = multiplier::multiples(c);
+        add_images(|x| multiplier::times(&table, x), slice);
     }
 }
 
-fn add_products(c: Element, slice: &mut [u64])
-    requires { length slice.old % 2 ≡ 0 }
-    ensures { slice.new ≡ second_added c.0 (length slice.old / 2) slice.old }
+// Each entry of the first half plus the image of the one of the second half.
+fn add_images<F: Fn(u64) -> u64>(image: F, slice: &mut [u64])
+    requires callable { F.IsAlwaysCallable image }
+    requires halves { length slice.old % 2 ≡ 0 }
+    ensures { (c : ℕ) → Multiplies c (F.post image)
+        → slice.new ≡ second_added c (length slice.old / 2) slice.old }
 {
-    let half = slice.len() / 2;
-    let mut i: usize = 0;
-    while i < half {
-        let b = slice[half + i];
-        slice[i] = slice[i] ^ c.product(Element(b)).0;
-        i += 1;
-    }
-}
-
-fn add_by_table(c: Element, slice: &mut [u64])
-    requires { length slice.old % 2 ≡ 0 }
-    ensures { slice.new ≡ second_added c.0 (length slice.old / 2) slice.old }
-{
-    let table = multiplier::multiples(c);
-    let half = slice.len() / 2;
-    let mut i: usize = 0;
-    while i < half {
-        let b = slice[half + i];
-        slice[i] = slice[i] ^ multiplier::times(&table, b);
-        i += 1;
+    let (first, second) = slice.split_at_mut(slice.len() / 2);
+    for (i, a) in first.iter_mut().enumerate() {
+        *a ^= image(second[i]);
     }
 }
 
@@ -66,11 +50,9 @@ pub fn add_first(slice: &mut [u64])
     requires { length slice.old % 2 ≡ 0 }
     ensures { slice.new ≡ first_added (length slice.old / 2) slice.old }
 {
-    let half = slice.len() / 2;
-    let mut i: usize = 0;
-    while i < half {
-        slice[half + i] = slice[half + i] ^ slice[i];
-        i += 1;
+    let (first, second) = slice.split_at_mut(slice.len() / 2);
+    for (i, b) in second.iter_mut().enumerate() {
+        *b ^= first[i];
     }
 }
 
@@ -79,30 +61,19 @@ pub fn scale(c: Element, part: &mut [u64])
     ensures { part.new ≡ scale gf64 c.0 part.old }
 {
     if part.len() < 3 {
-        scale_by_products(c, part);
+        map_images(|x| c.product(Element(x)).0, part);
     } else {
-        scale_by_table(c, part);
+        let table = multiplier::multiples(c);
+        map_images(|x| multiplier::times(&table, x), part);
     }
 }
 
-fn scale_by_products(c: Element, part: &mut [u64])
-    ensures { part.new ≡ scale gf64 c.0 part.old }
+// Every entry's image in its place.
+fn map_images<F: Fn(u64) -> u64>(image: F, part: &mut [u64])
+    requires { F.IsAlwaysCallable image }
+    ensures { (c : ℕ) → Multiplies c (F.post image) → part.new ≡ scale gf64 c part.old }
 {
-    let mut i: usize = 0;
-    while i < part.len() {
-        part[i] = c.product(Element(part[i])).0;
-        i += 1;
-    }
-}
-
-fn scale_by_table(c: Element, part: &mut [u64])
-    ensures { part.new ≡ scale gf64 c.0 part.old }
-{
-    let table = multiplier::multiples(c);
-    let mut i: usize = 0;
-    while i < part.len() {
-        let b = part[i];
-        part[i] = multiplier::times(&table, b);
-        i += 1;
+    for x in part.iter_mut() {
+        *x = image(*x);
     }
 }
