@@ -1,72 +1,48 @@
 // The checks that prover, judge and writer have in common, in the order of the papers.
 #![tactic(auto)]
 
-ghost use Rattle.std.specs.Prelude.{◌≡◌};
+ghost use Rattle.std.specs.Prelude.{◌≡◌, IfOk};
+ghost use Rattle.refusal.specs.Outcome.{outcome_of};
 ghost use Rattle.refusal.specs.Checks.{and_then};
 ghost use Rattle.fri.specs.Checks.{parameters_outcome, lengths_outcome, run_outcome};
-ghost use Rattle.layout.specs.Parameters.{run_of};
+ghost use Rattle.layout.specs.Parameters.{run_claimed};
 
-use field::Element;
-use layout::Parameters;
+use layout::{Claim, Shape};
 use refusal::Cause;
 
-// The checks that prover and judge have in common, in the order of the papers: 4, 5, 6, 7, 13, 8. Any offset passes;
-// the contract's run has it.
-pub fn checked(
-    parameters: Parameters,
-    offset: Element,
-    basis: &[u64],
-    challenges: &[u64],
-    word: &[u64],
-    store: &[u64],
-    last: &[u64],
-) -> Result<(), Cause>
-    ensures { let run = run_of parameters offset.0 basis.now challenges.now word.now
-        store.now last.now in
-        result ≡ run_outcome run }
+// The checks that prover and judge have in common, in the order of the papers: 4, 5, 6, 7, 13, 8. Any offset passes.
+pub fn checked(claim: &Claim, store: &[u64], last: &[u64]) -> Result<Shape, Cause>
+    ensures outcome { outcome_of result ≡ run_outcome (run_claimed claim.now store.now last.now) }
+    ensures shape { IfOk result (λ shape. shape.parameters ≡ claim.now.parameters) }
 {
-    let lists = checked_lists(parameters, offset, basis, challenges, word, store, last);
-    match lists {
-        Ok(()) => independence::checked_basis(basis),
-        Err(cause) => Err(cause),
-    }
+    let shape = checked_lists(claim, store, last)?;
+    independence::checked_basis(claim.basis)?;
+    Ok(shape)
 }
 
-// Refuses parameters out of range (4 to 7), then the lowest list whose length is not the one due (13). The contract's
-// run has the offset.
-pub fn checked_lists(
-    parameters: Parameters,
-    offset: Element,
-    basis: &[u64],
-    challenges: &[u64],
-    word: &[u64],
-    store: &[u64],
-    last: &[u64],
-) -> Result<(), Cause>
-    ensures { let run = run_of parameters offset.0 basis.now challenges.now word.now
-        store.now last.now in
-        result ≡ and_then (parameters_outcome run.k run.rate run.step) (lengths_outcome run) }
+// Refuses parameters out of range (4 to 7), then the lowest list whose length is not the one due (13).
+pub fn checked_lists(claim: &Claim, store: &[u64], last: &[u64]) -> Result<Shape, Cause>
+    ensures outcome { let run = run_claimed claim.now store.now last.now in
+        outcome_of result
+        ≡ and_then (parameters_outcome run.k run.rate run.step) (lengths_outcome run) }
+    ensures shape { IfOk result (λ shape. shape.parameters ≡ claim.now.parameters) }
 {
-    let ranges = parameters.checked();
-    match ranges {
-        Err(cause) => return Err(cause),
-        Ok(()) => {}
-    }
-    let rounds = parameters.rounds();
-    if basis.len() != parameters.k {
+    let shape = claim.parameters.checked()?;
+    let due = shape.lengths();
+    if claim.basis.len() != claim.parameters.k {
         return Err(Cause::WrongLength { list: 1 });
     }
-    if challenges.len() != rounds {
+    if claim.challenges.len() != due.rounds {
         return Err(Cause::WrongLength { list: 2 });
     }
-    if word.len() != 1 << parameters.k {
+    if claim.word.len() != 1 << claim.parameters.k {
         return Err(Cause::WrongLength { list: 3 });
     }
-    if store.len() != parameters.layer_start(rounds) {
+    if store.len() != due.store {
         return Err(Cause::WrongLength { list: 4 });
     }
-    if last.len() != parameters.last_count() {
+    if last.len() != due.last {
         return Err(Cause::WrongLength { list: 5 });
     }
-    Ok(())
+    Ok(shape)
 }
