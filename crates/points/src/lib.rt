@@ -1,7 +1,7 @@
 // A coset, and its points by index and in sequence.
 #![tactic(auto)]
 
-ghost use Rattle.std.specs.Prelude.{◌≡◌, ◌≤◌, length, get_or, take};
+ghost use Rattle.std.specs.Prelude.{◌≡◌, ℕ, ◌^◌, ◌≤◌, ◌<◌, length, get_or, take};
 ghost use Rattle.std.specs.Int.Count.{count_trailing_zeros};
 ghost use Rattle.gf64.specs.Field.{sum};
 ghost use Rattle.poly.specs.Carrier.{gf64};
@@ -19,9 +19,18 @@ pub struct Coset<'a> {
     pub basis: &'a [u64],
     pub ghost few: { length basis.now ≤ 20 },
     pub ghost independent: { Independent basis.now },
+    // True of every slice of u64. Kept since a proof that is handed the struct is not told of the list's numbers.
+    pub ghost elements: { (i : ℕ) → get_or basis.now i 0 < 2 ^ 64 },
 }
 
 impl<'a> Coset<'a> {
+    pub fn new(offset: Element, basis: &'a [u64]) -> Coset<'a>
+        requires { (length basis.now ≤ 20) × Independent basis.now }
+        ensures { (result.offset ≡ offset) × (result.basis.now ≡ basis.now) }
+    {
+        Coset { offset, basis }
+    }
+
     // Point j, j below the number of points.
     pub fn point(self, j: usize) -> Element
         ensures { result.0 ≡ point self.entry.offset.0 self.entry.basis.now j }
