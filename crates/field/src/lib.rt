@@ -8,7 +8,7 @@ ghost use Rattle.std.specs.Prelude.{◌≡◌, ◌≢◌, ◌^◌};
 ghost use Rattle.gf64.specs.Polynomial.{remainder};
 ghost use Rattle.gf64.specs.Field.{sum, product, power, inverse};
 
-#[derive(Clone, Copy)]
+#[derive(Clone, Copy, Debug, PartialEq, Eq)]
 pub struct Element(pub u64);
 
 impl Element {
@@ -38,7 +38,7 @@ impl Element {
         ensures of_zero { self.0 ≡ Self.ZERO.0 → result.0 ≡ Self.ZERO.0 }
         ensures inverts { self.0 ≢ Self.ZERO.0 → product self.0 result.0 ≡ Self.ONE.0 }
     {
-        if self.0 == Element::ZERO.0 {
+        if self == Element::ZERO {
             return Element::ZERO;
         }
         // ones_n is self^(2^n - 1), whose exponent has n bits, all set.
@@ -73,10 +73,8 @@ impl Element {
         ensures { result.0 ≡ power self.0 (2 ^ n) }
     {
         let mut x = self.0;
-        let mut i: usize = 0;
-        while i < n {
+        for _ in 0..n {
             x = reduction::square(x);
-            i += 1;
         }
         Element(x)
     }

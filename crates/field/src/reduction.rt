@@ -12,12 +12,10 @@ fn times_reduction(a: u64) -> Wide
     ensures { wide_of result ≡ carryless reduction a }
 {
     let mut w = Wide { high: 0, low: 0 };
-    let mut i: u64 = 0;
-    while i < 5 {
+    for i in 0..5 {
         if (Element::REDUCTION.0 >> i) % 2 == 1 {
             w = carryless::plus_shifted(w, a, i);
         }
-        i += 1;
     }
     w
 }
@@ -31,6 +29,7 @@ pub fn reduced(w: Wide) -> u64
 }
 
 // The product of the field. It goes by numbers, which return in a register, where an element returns in memory.
+#[tactic(auto, unfolding(gf64::specs::Field::product))]
 pub fn product(a: u64, b: u64) -> u64
     ensures { result ≡ product a b }
 {
@@ -38,6 +37,7 @@ pub fn product(a: u64, b: u64) -> u64
 }
 
 // The square of the field, without the windows that a product builds.
+#[tactic(auto, unfolding(gf64::specs::Field::product))]
 pub fn square(a: u64) -> u64
     ensures { result ≡ product a a }
 {

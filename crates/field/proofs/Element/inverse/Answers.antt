@@ -1,20 +1,17 @@
 -- `field::Element::inverse` meets its contract: each line joins two exponents that are all ones. Assumes
 -- nothing.
-use mathlib.Core.Path.{refl, sym, ap, ◌∙◌}
+use mathlib.Core.Path.{◌≡◌, sym, ap, ◌∙◌}
 use native.Mathlib.Omega.{arith}
+use borrow.Author.Rules.{rules}
 use Rattle.gf64.specs.Field.{product, inverse}
 use Rattle.gf64.proofs.Inverse.{inverse_right, inverse-zero}
 use Rattle.field.proofs.Ones.{ones_first, ones_join, ones_last}
 use Rattle.field.proofs.Element.inverse.Goals as goal
 
-pub returns-then-self : goal.returns-then-self
-returns-then-self c =
-    let zero = c.if-self.true in
-    record {
-      value = sym (ap inverse zero ∙ inverse-zero);
-      of_zero = λ z. refl;
-      inverts = λ nonzero. absurd (nonzero zero);
-    }
+pub returns-then-eq-clause-value : goal.returns-then-eq-clause-value
+returns-then-eq-clause-value c =
+    let zero : c.args.self.0 ≡ 0 = search rules in
+    sym (ap inverse zero ∙ inverse-zero)
 
 pub returns : goal.returns
 returns c =

@@ -3,5 +3,5 @@ use mathlib.Core.Path.{sym}
 use Rattle.gf64.proofs.Remainder.{remainder_t64}
 use Rattle.field.proofs.Element.product.Goals as goal
 
-pub returns : goal.returns
-returns c = record { value = c.product.ensures; constant = sym remainder_t64 }
+pub returns-clause-constant : goal.returns-clause-constant
+returns-clause-constant c = sym remainder_t64

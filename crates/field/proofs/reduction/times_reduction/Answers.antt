@@ -1,9 +1,7 @@
--- `field::reduction::times_reduction` meets its contract. The loop's invariant: w is the product by the i low bits of
--- the reduction constant. Assumes nothing.
+-- `field::reduction::times_reduction` meets its contract. Assumes nothing.
 use mathlib.Core.Path.{◌≡◌, sym, ap, ◌∙◌}
 use Prim.Native.Nat.{ℕ, ◌%◌, ◌^◌}
 use native.Mathlib.Omega.{arith}
-use borrow.Author.Rules.{rules}
 use Rattle.gf64.specs.Polynomial.{carryless, reduction}
 use Rattle.gf64.proofs.Carryless.{carryless-zero_l}
 use Rattle.carryless.specs.Window.{wide_of}
@@ -12,22 +10,20 @@ use Rattle.field.proofs.reduction.times_reduction.Goals as goal
 use Rattle.field.proofs.reduction.times_reduction.Goals.{then-i-eq1, else-i-eq1}
 
 pub loop-i-init : goal.loop-i-init
-loop-i-init c = (search rules, sym (carryless-zero_l c.args.a))
+loop-i-init c = sym (carryless-zero_l c.args.a)
 
 pub loop-i-preserved : goal.loop-i-preserved
 loop-i-preserved c =
     let a = c.args.a in
     let i = c.loop-i.i in
     let w = c.loop-i.w in
-    let inv = c.loop-i.invariant.1 in (
-      omega arith,
-      elim c.if-i-eq1.branch [
-        | then-i-eq1 k ↦ ap wide_of k.w-is ∙ k.plus_shifted-w.ensures ∙ bit_set reduction i a (wide_of w) k.if-i-eq1.true inv
-        | else-i-eq1 k ↦ ap wide_of k.w-is ∙ bit_clear reduction i a (wide_of w) (omega (arith, k.if-i-eq1.false)) inv
-      ],
-    )
+    let inv = c.loop-i.invariant in
+    elim c.if-i-eq1.branch [
+      | then-i-eq1 k ↦ ap wide_of k.w-is ∙ k.plus_shifted-w.ensures ∙ bit_set reduction i a (wide_of w) k.if-i-eq1.true inv
+      | else-i-eq1 k ↦ ap wide_of k.w-is ∙ bit_clear reduction i a (wide_of w) (omega (arith, k.if-i-eq1.false)) inv
+    ]
 
 pub returns : goal.returns
 returns c =
     let five : c.loop-i.i ≡ 5 = omega arith in
-    c.loop-i.invariant.1 ∙ ap (λ (i : ℕ). carryless (reduction % 2 ^ i) c.args.a) five
+    c.loop-i.invariant ∙ ap (λ (i : ℕ). carryless (reduction % 2 ^ i) c.args.a) five
