@@ -10,7 +10,3 @@ use Rattle.newton.proofs.expand.Given as goal
 abbrev pub invariant-loop-i : goal.invariant-loop-i
 invariant-loop-i l =
     (l.i ≤ length l.initial.coefficients) × (l.coefficients ≡ expanded_from (points l.offset.0 l.basis) l.initial.coefficients l.i)
-    × (length l.coefficients ≡ length l.initial.coefficients)
-
-abbrev pub decreases-loop-i : goal.decreases-loop-i
-decreases-loop-i l = l.i

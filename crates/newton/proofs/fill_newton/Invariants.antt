@@ -4,16 +4,9 @@ use Rattle.coset.specs.Coset.{points}
 use Rattle.poly.proofs.Filling.{filled}
 use Rattle.poly.specs.Newton.{newton_coefficients}
 use Rattle.poly.specs.Carrier.{gf64}
-use lib.ListN.{length}
-use Prim.Native.Nat.{◌-◌, ◌≤◌}
 use mathlib.Core.Path.{◌≡◌}
 use Rattle.newton.proofs.fill_newton.Given as goal
 
 abbrev pub invariant-loop-i : goal.invariant-loop-i
 invariant-loop-i l =
-    (l.i ≤ length l.initial.coefficients)
-    × (l.coefficients ≡ filled (newton_coefficients gf64 (points l.offset.0 l.basis) l.initial.coefficients) l.initial.coefficients l.i)
-    × (length l.coefficients ≡ length l.initial.coefficients)
-
-abbrev pub decreases-loop-i : goal.decreases-loop-i
-decreases-loop-i l = length l.initial.coefficients - l.i
+    l.coefficients ≡ filled (newton_coefficients gf64 (points l.coset.offset.0 l.coset.basis.now) l.initial.coefficients) l.initial.coefficients l.i

@@ -1,9 +1,8 @@
 -- `newton::join` meets its contract. The loop's invariant: the entries before the last looked at are those of the
 -- product, the others as they were. Assumes nothing.
-use mathlib.Core.Path.{refl, ap, ◌∙◌}
+use mathlib.Core.Path.{ap, ◌∙◌}
 use Prim.Native.Nat.{◌-◌}
-use lib.ListN.{get_or, set, length-set}
-use borrow.Author.Rules.{rules}
+use lib.ListN.{get_or, set}
 use native.Mathlib.Omega.{arith}
 use Rattle.gf64.specs.Field.{sum}
 use Rattle.poly.specs.Carrier.{gf64}
@@ -12,29 +11,21 @@ use Rattle.poly.proofs.Filling.{filled_start}
 use Rattle.newton.proofs.Joining.{join_next, join_end}
 use Rattle.newton.proofs.join.Goals as goal
 
-pub loop-next-init : goal.loop-next-init
-loop-next-init c = (
-  search rules,
-  filled_start (horner_step gf64 c.args.x.0 c.args.coefficients.now)
-      c.args.coefficients.now,
-  refl,
-)
+pub loop-j-init : goal.loop-j-init
+loop-j-init c = (omega arith, filled_start (horner_step gf64 c.args.x.0 c.args.coefficients.now) c.args.coefficients.now)
 
-pub loop-next-preserved : goal.loop-next-preserved
-loop-next-preserved c =
+pub loop-j-preserved : goal.loop-j-preserved
+loop-j-preserved c =
     let a = c.args in
-    let l = c.loop-next in (
-      search rules,
-      ap (set l.coefficients (l.next - 1))
-          (c.sum.ensures ∙ ap (sum (get_or l.coefficients (l.next - 1) 0)) c.product.ensures.value)
-          ∙ join_next a.x.0 a.coefficients.now l.coefficients l.next l.invariant.0
-          (omega (arith, l.invariant.2)) l.invariant.1,
-      length-set l.coefficients (l.next - 1) c.sum.result.0 ∙ l.invariant.2,
+    let l = c.loop-j in (
+      omega arith,
+      ap (set l.coefficients (l.j - 1))
+          (c.sum.ensures ∙ ap (sum (get_or l.coefficients (l.j - 1) 0)) c.product.ensures.value)
+          ∙ join_next a.x.0 a.coefficients.now l.coefficients l.j l.invariant.0 (omega arith) l.invariant.1,
     )
 
 pub returns : goal.returns
 returns c =
     let a = c.args in
-    let l = c.loop-next in
-    join_end a.x.0 a.coefficients.now l.coefficients l.next l.invariant.0 (omega (arith, l.invariant.2))
-    l.invariant.1
+    let l = c.loop-j in
+    join_end a.x.0 a.coefficients.now l.coefficients l.j l.invariant.0 (omega arith) l.invariant.1

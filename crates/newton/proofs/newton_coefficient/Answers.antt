@@ -20,7 +20,7 @@ pub loop-j-init : goal.loop-j-init
 unfolding newton_value vanishing
 loop-j-init c =
     let a = c.args in
-    (search rules, refl, refl, λ h. sym (point_first a.offset.0 a.basis.now))
+    (refl, refl, λ h. sym (point_first a.offset.0 a.basis.now))
 
 pub loop-j-preserved : goal.loop-j-preserved
 loop-j-preserved c =
@@ -30,16 +30,15 @@ loop-j-preserved c =
     let inside : l.j < length a.known.now = omega arith in
     let below : l.j < 2 ^ length a.basis.now = omega (arith, c.requires.1) in
     let among : l.j < length all = omega (arith, length-points a.offset.0 a.basis.now) in
-    let first = l.invariant.3 inside in
+    let first = l.invariant.2 inside in
     let listed : l.x.0 ≡ get_or all l.j 0 = first
     ∙ sym (get_or-points a.offset.0 a.basis.now l.j below) in (
-      search rules,
       c.sum-value.ensures ∙ ap (sum l.value.0) c.product.ensures.value
           ∙ value_next all a.known.now l.j a.z.0 l.value.0 l.vanishing.0 among inside
-          (omega (arith, c.type_inv.known l.j)) l.invariant.1 l.invariant.2,
+          (omega (arith, c.type_inv.known l.j)) l.invariant.0 l.invariant.1,
       c.product-vanishing.ensures.value
           ∙ ap (product l.vanishing.0) (c.sum.ensures ∙ ap (sum a.z.0) listed)
-          ∙ vanishing_next all l.j a.z.0 l.vanishing.0 among l.invariant.2,
+          ∙ vanishing_next all l.j a.z.0 l.vanishing.0 among l.invariant.1,
       λ h. c.stepped-x.ensures
           ∙ ap (λ (sums : List ℕ). sum l.x.0 (get_or sums (count_trailing_zeros 64 (l.j + 1)) 0))
           c.prefix_sums-sums.ensures
@@ -53,7 +52,7 @@ inverse_of_nonzero-requires c =
     not_passed c.args.offset.0 c.args.basis.now l.j (length c.args.known.now)
     c.args.z.0 l.vanishing.0 (search rules) (search rules)
     (λ i. omega (arith, c.type_inv.basis i)) (omega arith) c.requires.2
-    l.invariant.2
+    l.invariant.1
 
 pub returns : goal.returns
 returns c =
@@ -62,4 +61,4 @@ returns c =
     c.product-2.ensures.value ∙ ap₂ product c.sum-2.ensures c.inverse_of_nonzero.ensures
     ∙ coefficient_end (points a.offset.0 a.basis.now) a.known.now l.j a.z.0 a.y.0 l.value.0
     l.vanishing.0
-    l.invariant.0 c.loop-j-test.false l.invariant.1 l.invariant.2
+    (omega arith) (omega arith) l.invariant.0 l.invariant.1
