@@ -1,5 +1,5 @@
 -- The entries of the table: an entry from that of the higher of its bits and that of the others. Assumes nothing.
-use mathlib.Core.Path.{◌≡◌, sym, ap, ap₂, ◌∙◌}
+use mathlib.Core.Path.{◌≡◌, sym, ap, ap₂, ◌∙◌, subst}
 use mathlib.Core.List.{List}
 use Prim.Native.Nat.{ℕ, ◌+◌, ◌*◌, ◌/◌, ◌%◌, ◌^◌, ◌≤◌, ◌<◌}
 use native.Mathlib.Nat.{one-mul, zero-mul, mul_comm, mul-add}
@@ -11,7 +11,7 @@ use lib.Bits.{bit_xor, xor_shifted, xor_comm}
 use borrow.Author.Count.{below_more}
 use Rattle.gf64.specs.Field.{product}
 use Rattle.gf64.proofs.Xor.{xor_shift}
-use Rattle.gf64.proofs.Ring.{product-add_r, product-zero_r}
+use Rattle.gf64.proofs.Ring.{product-add_r, product-zero_r, product_one_r}
 use Rattle.multiplier.specs.Table.{placed, Filled, Multiples}
 use Rattle.multiplier.proofs.Places.{product_shifted}
 
@@ -96,3 +96,12 @@ filled_all c t filled =
           filled (16 * n + v) (omega arith)
           ∙ ap (product c) (placed_at (16 * n + v) n v hv (omega arith));
     }
+
+-- ---- the element whose table it is
+
+-- entry 1 is the element itself
+pub entry_one : (c : ℕ) (t : List ℕ) → c < 2 ^ 64 → Multiples c t → get_or t 1 0 ≡ c
+entry_one c t h m = m.at 0 1 (omega arith) (omega arith) ∙ product_one_r c h
+
+pub of_entry_one : (c : ℕ) (t : List ℕ) → c < 2 ^ 64 → Multiples c t → Multiples (get_or t 1 0) t
+of_entry_one c t h m = subst (λ (x : ℕ). Multiples x t) (sym (entry_one c t h m)) m

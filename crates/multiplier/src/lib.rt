@@ -7,6 +7,41 @@ ghost use Rattle.multiplier.specs.Table.{RowFilled, BlockFilled, Multiples, Prod
 
 use carryless::Wide;
 use field::Element;
+use std::marker::Model;
+
+// An element with a table of its multiples, in which products by it are looked up, four bits at a time. A clause sees
+// the element.
+#[derive(Drop)]
+pub struct Multiplier {
+    entries: [u64; 64],
+}
+
+impl Model for Multiplier {
+    ghost use Rattle.std.specs.Prelude.{ℕ, get_or};
+    ghost use Rattle.multiplier.specs.Table.{Multiples};
+
+    ghost Value = { ℕ };
+
+    ghost view = { λ t. get_or t.entries 1 0 };
+
+    ghost invariant = { λ t. Multiples (get_or t.entries 1 0) t.entries };
+}
+
+impl Multiplier {
+    // Sixteen shifts, and a sum for each entry. It pays from the third product on.
+    pub fn of(c: Element) -> Multiplier
+        ensures { result ≡ c.0 }
+    {
+        let entries = multiples(c);
+        Multiplier { entries }
+    }
+
+    pub fn times(&self, x: u64) -> u64
+        ensures { result ≡ product self.now x }
+    {
+        times(&self.entries, x)
+    }
+}
 
 // t^k · v.
 fn shifted(v: u64, k: u64) -> u64
