@@ -1,2 +1,2 @@
-mod Outside
+mod Found
 mod Shared

@@ -1,15 +1,12 @@
 -- The queries one after the other, up to the first that visits the first-layer coset of an earlier one. Assumes
 -- nothing.
 use mathlib.Core.Path.{◌≡◌, sym, ap, ◌∙◌}
-use mathlib.Core.Logic.{◌≢◌}
-use mathlib.Core.Bool.{Bool, true, false, cond, ◌||◌}
+use mathlib.Core.Bool.{Bool, true, false, cond}
 use mathlib.Core.List.{List, [], ◌∷◌, ◌++◌, map-append}
 use Prim.Native.Nat.{ℕ, suc, ◌+◌, ◌/◌, ◌^◌, ◌≤◌, ◌<◌}
 use native.Mathlib.Numerals.{add-one}
-use lib.Dec.{eqb}
 use lib.ListN.{length, get_or, take, drop, drop_of_length-le}
 use lib.Seq.{drop-cons, take-suc}
-use borrow.Author.Tests.{eq-eqb, ne_eqb}
 use Rattle.std.specs.Prelude.{Option, Some, None}
 use Rattle.fri.specs.Checks.{among, first_repeated_after, visited_cosets}
 
@@ -32,28 +29,6 @@ module _ (step : ℕ) (queries : List ℕ) (query : ℕ) where
 
   from_one : query < length queries → from ≡ coset_here ∷ after
   from_one h = ap (visited_cosets step) (drop-cons queries query 0 h)
-
-  -- ---- whether one of them visits a coset
-
-  module _ (coset : ℕ) where
-    pub visits_none : length queries ≤ query → false ≡ among from coset
-    unfolding among
-    visits_none h = sym (ap (λ (l : List ℕ). among l coset) (from_none h))
-
-    among_from : query < length queries → among from coset ≡ (eqb coset_here coset || among after coset)
-    unfolding among
-    among_from h = ap (λ (l : List ℕ). among l coset) (from_one h)
-
-    pub visits_here : query < length queries → coset_here ≡ coset → true ≡ among from coset
-    visits_here h e = sym (among_from h ∙ ap (λ (t : Bool). t || among after coset) (eq-eqb coset_here coset e))
-
-    pub visits_next : query < length queries → coset_here ≢ coset
-        → among (visited_cosets step (drop (query + 1) queries)) coset ≡ among from coset
-    visits_next h n =
-        ap (λ (m : ℕ). among (visited_cosets step (drop m queries)) coset) (add-one query)
-        ∙ sym (among_from h ∙ ap (λ (t : Bool). t || among after coset) (ne_eqb coset_here coset n))
-
-  -- ---- the first that visits the coset of an earlier one
 
   abbrev left : Option ℕ
   left = first_repeated_after before from query

@@ -3,7 +3,7 @@
 #![tactic(auto)]
 
 ghost use Rattle.std.specs.Prelude.{◌≡◌, ◌&&◌, ◌≤◌, leb};
-ghost use Rattle.fri.specs.Checks.{first_outside, among, visited_cosets, first_shared, outcome_of_shared};
+ghost use Rattle.fri.specs.Checks.{first_outside, among, visited_cosets, first_shared};
 ghost use Rattle.fri.specs.Checks.{indices_outcome, queries_outcome};
 
 use refusal::Cause;
@@ -30,37 +30,20 @@ pub fn checked_indices(k: usize, step: usize, queries: &[u64]) -> Result<(), Cau
     requires { (k ≤ 20) × (step ≤ 3) }
     ensures { result ≡ indices_outcome k step queries.now }
 {
-    let outside = first_outside(1 << k, queries);
-    match outside {
-        Some(query) => Err(Cause::QueryOutOfRange { query }),
-        None => checked_apart(step, queries),
+    if let Some(query) = first_outside(1 << k, queries) {
+        return Err(Cause::QueryOutOfRange { query });
+    }
+    match first_shared(step, queries) {
+        Some(query) => Err(Cause::CosetShared { query }),
+        None => Ok(()),
     }
 }
 
 // The first query whose index is not below the size.
-fn first_outside(size: usize, queries: &[u64]) -> Option<usize>
+fn first_outside(size: u64, queries: &[u64]) -> Option<usize>
     ensures { result ≡ first_outside size queries.now 0 }
 {
-    let mut query: usize = 0;
-    while query < queries.len() {
-        if queries[query] as usize >= size {
-            return Some(query);
-        }
-        query += 1;
-    }
-    None
-}
-
-// No two queries share a first-layer coset (17).
-fn checked_apart(step: usize, queries: &[u64]) -> Result<(), Cause>
-    requires { step ≤ 3 }
-    ensures { result ≡ outcome_of_shared (first_shared step queries.now) }
-{
-    let shared = first_shared(step, queries);
-    match shared {
-        Some(query) => Err(Cause::CosetShared { query }),
-        None => Ok(()),
-    }
+    queries.iter().position(|j| *j >= size)
 }
 
 // The first query that lies in the first-layer coset of an earlier one. Each is compared with those before it: 256
@@ -69,28 +52,18 @@ fn first_shared(step: usize, queries: &[u64]) -> Option<usize>
     requires { step ≤ 3 }
     ensures { result ≡ first_shared step queries.now }
 {
-    let mut query: usize = 0;
-    while query < queries.len() {
-        let coset = queries[query] >> step;
-        if visits(step, &queries[..query], coset) {
+    for (query, j) in queries.iter().enumerate() {
+        if visits(step, &queries[..query], *j >> step) {
             return Some(query);
         }
-        query += 1;
     }
     None
 }
 
-// Whether one of the queries visits the first-layer coset of this number.
+// Whether one of the queries lies in that first-layer coset.
 fn visits(step: usize, queries: &[u64], coset: u64) -> bool
     requires { step ≤ 3 }
     ensures { result ≡ among (visited_cosets step queries.now) coset }
 {
-    let mut query: usize = 0;
-    while query < queries.len() {
-        if queries[query] >> step == coset {
-            return true;
-        }
-        query += 1;
-    }
-    false
+    queries.iter().any(|j| *j >> step == coset)
 }

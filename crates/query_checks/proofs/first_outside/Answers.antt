@@ -1,23 +1,12 @@
--- `query_checks::first_outside` meets its contract. The loop's invariant: the queries still to come decide. Assumes
--- nothing.
-use Rattle.query_checks.proofs.Outside.{outside_none, outside_here, outside_next}
-use mathlib.Core.Path.{◌∙◌}
-use borrow.Author.Rules.{rules}
-use native.Mathlib.Omega.{arith}
+-- `query_checks::first_outside` meets its contract. Assumes nothing.
+use Rattle.std.proofs.Common.{rules, tests, leb}
+use Rattle.std.proofs.lemmas.Iterator.{YieldsList-from_slice}
+use Rattle.std.proofs.lemmas.Iterator.Search.{position_from_yields_List}
+use Rattle.query_checks.proofs.Found.{outside_found}
 use Rattle.query_checks.proofs.first_outside.Goals as goal
-
-pub returns-then-queries-query : goal.returns-then-queries-query
-returns-then-queries-query c =
-    let a = c.args in
-    outside_here a.size a.queries.now c.loop-query.query (omega arith) c.if-queries-query.true ∙ c.loop-query.invariant.1
-
-pub loop-query-preserved : goal.loop-query-preserved
-loop-query-preserved c =
-    let a = c.args in
-    let inside = outside_next a.size a.queries.now c.loop-query.query (omega arith) c.if-queries-query.false in
-    (search rules, inside ∙ c.loop-query.invariant.1)
 
 pub returns : goal.returns
 returns c =
-    let a = c.args in
-    outside_none a.size a.queries.now c.loop-query.query (omega arith) ∙ c.loop-query.invariant.1
+    outside_found c.args.size c.args.queries.now c.position.result
+    (position_from_yields_List (λ j. leb c.args.size j) _ _ c.position.result c.position.ensures.ran
+    (YieldsList-from_slice _ c.iter.ensures.rest) (λ x b q k. search (rules, tests)))

@@ -1,25 +1,13 @@
--- `query_checks::visits` meets its contract. The loop's invariant: the queries still to come decide. Assumes nothing.
-use Rattle.query_checks.proofs.Shared.{visits_none, visits_here, visits_next}
-use mathlib.Core.Path.{◌∙◌}
-use borrow.Author.Rules.{rules}
-use native.Mathlib.Omega.{arith}
+-- `query_checks::visits` meets its contract. Assumes nothing.
+use Rattle.std.proofs.Common.{rules, tests, ◌/◌, ◌^◌, nat_eq}
+use Rattle.std.proofs.lemmas.Iterator.{YieldsList-from_slice}
+use Rattle.std.proofs.lemmas.Iterator.Search.{any_from_yields_List}
+use Rattle.query_checks.proofs.Found.{visited}
 use Rattle.query_checks.proofs.visits.Goals as goal
-
-pub returns-then-queries-query : goal.returns-then-queries-query
-returns-then-queries-query c =
-    let a = c.args in
-    visits_here a.step a.queries.now c.loop-query.query a.coset (omega arith) c.if-queries-query.true
-    ∙ c.loop-query.invariant.1
-
-pub loop-query-preserved : goal.loop-query-preserved
-loop-query-preserved c =
-    let a = c.args in (
-      search rules,
-      visits_next a.step a.queries.now c.loop-query.query a.coset (omega arith) c.if-queries-query.false
-          ∙ c.loop-query.invariant.1,
-    )
 
 pub returns : goal.returns
 returns c =
     let a = c.args in
-    visits_none a.step a.queries.now c.loop-query.query a.coset (omega arith) ∙ c.loop-query.invariant.1
+    visited a.step a.queries.now a.coset c.any.result
+    (any_from_yields_List (λ j. nat_eq (j / 2 ^ a.step) a.coset) _ _ c.any.result c.any.ensures.ran
+    (YieldsList-from_slice _ c.iter.ensures.rest) (λ x b q k. search (rules, tests)))
