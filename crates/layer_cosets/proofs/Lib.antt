@@ -1,2 +1,1 @@
-pub mod LayerCosets
 pub mod NextLayers

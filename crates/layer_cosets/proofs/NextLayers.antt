@@ -9,8 +9,7 @@ use Rattle.fri.proofs.Layouts.{step_of_round}
 use Rattle.layout.specs.declared.Parameters.{Parameters}
 use Rattle.layout.specs.Parameters.{steps_by}
 use Rattle.layer_cosets.specs.declared.LayerCoset.{LayerCoset}
-use Rattle.layer_cosets.specs.Cosets.{layer_coset_of, basis_of}
-use Rattle.layer_cosets.proofs.LayerCosets.{basis_of_coset}
+use Rattle.layer_cosets.specs.Cosets.{layer_coset_of}
 
 pub basis_first : (steps basis : List ℕ) → basis ≡ layer_basis steps basis 0
 unfolding layer_basis
@@ -36,20 +35,8 @@ module _ (p : Parameters) (offset : ℕ) (basis : List ℕ) (i : ℕ) (h : i < l
 
 -- a coset by value that has layer i's basis is followed by one that has the next layer's
 pub coset_next : (p : Parameters) (basis : List ℕ) (i : ℕ) (coset next : LayerCoset) → i < length (steps_by p)
-    → coset ≡ layer_coset_of coset.offset.0 (layer_basis (steps_by p) basis i)
-    → next
-    ≡ layer_coset_of (next_offset p.step coset.offset.0 (basis_of coset)) (next_basis p.step (basis_of coset))
-    → next ≡ layer_coset_of next.offset.0 (layer_basis (steps_by p) basis (suc i))
+    → coset.basis ≡ layer_basis (steps_by p) basis i
+    → next ≡ layer_coset_of (next_offset p.step coset.offset.0 coset.basis) (next_basis p.step coset.basis)
+    → next.basis ≡ layer_basis (steps_by p) basis (suc i)
 coset_next p basis i coset next h e n =
-    whole ∙ ap (λ (o : ℕ). layer_coset_of o (layer_basis (steps_by p) basis (suc i)))
-    (sym (ap (λ (r : LayerCoset). r.offset.0) whole))
-  where
-    here : basis_of coset ≡ layer_basis (steps_by p) basis i
-    here = ap basis_of e ∙ basis_of_coset coset.offset.0 (layer_basis (steps_by p) basis i)
-
-    whole : next
-        ≡ layer_coset_of (next_offset p.step coset.offset.0 (basis_of coset)) (layer_basis (steps_by p) basis (suc i))
-    whole =
-        n
-        ∙ ap (layer_coset_of (next_offset p.step coset.offset.0 (basis_of coset)))
-        (ap (next_basis p.step) here ∙ basis_next p 0 basis i h)
+    ap (λ (c : LayerCoset). c.basis) n ∙ ap (next_basis p.step) e ∙ basis_next p 0 basis i h

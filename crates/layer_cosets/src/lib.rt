@@ -2,20 +2,18 @@
 #![tactic(auto)]
 
 ghost use Rattle.std.specs.Prelude.{◌≡◌, ◌≤◌, length};
-ghost use Rattle.poly.specs.Carrier.{gf64};
-ghost use Rattle.poly.specs.Polynomial.{padded};
 ghost use Rattle.coset.specs.Steps.{step_elements};
 ghost use Rattle.coset.specs.Subspace.{next_offset, next_basis};
-ghost use Rattle.layer_cosets.specs.Cosets.{layer_coset_of, basis_of};
+ghost use Rattle.layer_cosets.specs.Cosets.{layer_coset_of};
 
 use field::Element;
+use short_list::ShortList;
 
-// Offset and basis; zeros follow the basis.
-#[derive(Clone, Copy)]
+// Offset and basis.
+#[derive(Drop)]
 pub struct LayerCoset {
     pub offset: Element,
-    pub basis: [u64; 20],
-    pub dimension: usize,
+    pub basis: ShortList<20>,
 }
 
 impl LayerCoset {
@@ -24,37 +22,30 @@ impl LayerCoset {
         requires { length basis.now ≤ 20 }
         ensures { result ≡ layer_coset_of offset.0 basis.now }
     {
-        let mut elements = [0u64; 20];
-        poly::copy(basis, &mut elements);
         LayerCoset {
             offset,
-            basis: elements,
-            dimension: basis.len(),
+            basis: ShortList::of(basis),
         }
     }
 
     // That of the next layer.
     pub fn next(self, step: usize) -> LayerCoset
-        requires { (step ≤ 3) × (step ≤ self.dimension) × (self.dimension ≤ 20) }
-        ensures { result ≡ layer_coset_of (next_offset step self.offset.0 (basis_of self)) (next_basis step (basis_of self)) }
+        requires { (step ≤ 3) × (step ≤ length self.basis) }
+        ensures { result ≡ layer_coset_of (next_offset step self.offset.0 self.basis) (next_basis step self.basis) }
     {
+        let basis = self.basis.as_slice();
         let elements = self.step_elements(step);
-        let basis = self.basis;
-        let dimension = self.dimension;
         LayerCoset {
-            offset: next_coset::composed_maps(&elements[..step], self.offset),
-            basis: next_coset::next_basis(&basis[..dimension], step),
-            dimension: dimension - step,
+            offset: next_coset::composed_maps(elements.as_slice(), self.offset),
+            basis: ShortList::front(next_coset::next_basis(basis, step), basis.len() - step),
         }
     }
 
-    // The elements of the maps of a step, and zeros.
-    pub fn step_elements(self, step: usize) -> [u64; 3]
-        requires { (step ≤ 3) × (step ≤ self.dimension) × (self.dimension ≤ 20) }
-        ensures { result ≡ padded gf64 3 (step_elements step (basis_of self)) }
+    // The elements of the maps of a step.
+    pub fn step_elements(&self, step: usize) -> ShortList<3>
+        requires { (step ≤ 3) × (step ≤ length self.now.basis) }
+        ensures { result ≡ step_elements step self.now.basis }
     {
-        let basis = self.basis;
-        let dimension = self.dimension;
-        next_coset::step_elements(&basis[..dimension], step)
+        ShortList::front(next_coset::step_elements(self.basis.as_slice(), step), step)
     }
 }

@@ -41,7 +41,8 @@ impl<const N: usize> ShortList<N> {
     }
 
     pub fn as_slice(&self) -> &[u64]
-        ensures { result.now ≡ self.now }
+        ensures list { result.now ≡ self.now }
+        ensures few { length result.now ≤ N }
     {
         &self.room[..self.count]
     }
