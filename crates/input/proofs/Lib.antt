@@ -1,2 +1,3 @@
 -- What the programs' proofs cite.
+pub mod Known
 pub mod Printed

@@ -1,59 +1,47 @@
-// Reading an input, for the programs: all bytes of standard input, as far as a lent list has room for them.
+// Reading an input and printing what is answered to it, for the programs: all bytes of a reader, as far as a lent list
+// has room for them.
 #![tactic(auto)]
 
-ghost use Rattle.std.specs.Prelude.{◌≡◌, ◌-◌, ◌≤◌, length};
-ghost use Rattle.input.specs.Reading.{Moved, read_after, Over};
+ghost use Rattle.std.specs.Prelude.{◌≡◌, ◌+◌, ◌≤◌, List, ℕ, length, IfSome};
+ghost use Rattle.input.specs.Reading.{read_after, Over, Filled, Prints};
 
-use std::io::{Read, Stdin};
+use std::io::{Print, Read, Stdout};
+use std::ops::ControlFlow;
 
-// How far reading has come: so many bytes and there may be more, so many bytes and no more are read, or a read failed.
-#[derive(Clone, Copy)]
-pub enum Reading {
-    More(usize),
-    Done(usize),
-    Failed,
-}
-
-// Reads until the list is full or the input ends.
-pub fn read(mut stdin: Stdin, input: &mut [u8]) -> Reading
-    ensures { Over (length input.new) result }
+// Reads until the list is full or the input ends, and answers how many bytes that is, or nothing where a read failed.
+pub fn read<R: Read + Drop>(mut source: R, input: &mut [u8]) -> Option<usize>
+    ensures over { Over (length input.new) result }
+    ensures filled { Filled (R.remaining source) result input.new }
 {
     let mut count: usize = 0;
     loop {
-        let got = read_once(&mut stdin, &mut input[count..]);
-        let reading = after(count, got, input.len());
-        let Reading::More(next) = reading else {
-            return reading;
-        };
-        count = next;
+        let got = source.read(&mut input[count..]).ok();
+        match after(count, got, input.len())? {
+            ControlFlow::Break(whole) => return Some(whole),
+            ControlFlow::Continue(next) => count = next,
+        }
     }
 }
 
-// What one read into a lent list answers: how many bytes it put there, or -1 where it failed.
-fn read_once(stdin: &mut Stdin, list: &mut [u8]) -> isize
-    ensures { Moved (length list.new) result }
-{
-    match stdin.read(list) {
-        Ok(count) => count as isize,
-        Err(_) => -1,
-    }
-}
-
-// After `count` of `size` bytes a read answered `got`: done at the end of the input, or where the room is full.
-fn after(count: usize, got: isize, size: usize) -> Reading
-    requires room { count ≤ size }
-    requires moved { Moved (size - count) got }
+// After `count` of `size` bytes a read gave so many more, or failed: done at the end of the input, or where the room
+// is full.
+fn after(count: usize, got: Option<usize>, size: usize) -> Option<ControlFlow<usize, usize>>
+    requires { IfSome got (λ more. count + more ≤ size) }
     ensures { result ≡ read_after count got size }
 {
-    if got < 0 {
-        return Reading::Failed;
+    let more = got?;
+    let whole = count + more;
+    if more == 0 || whole == size {
+        return Some(ControlFlow::Break(whole));
     }
-    let more = got as usize;
-    if more == 0 {
-        return Reading::Done(count);
-    }
-    if more < size - count {
-        return Reading::More(count + more);
-    }
-    Reading::Done(size)
+    Some(ControlFlow::Continue(whole))
+}
+
+// The one place that prints. Input and reading are handed over so that the contract can say which lines these are: those
+// that a program prints of any input that begins with what was read.
+pub fn print(stdout: Stdout, lines: &[u8], input: &[u8], reading: Option<usize>)
+    ghost text: { List ℕ → List ℕ }
+    requires { Prints text reading input.now lines.now }
+{
+    let _written = stdout.write_all(lines);
 }

@@ -8,31 +8,22 @@ ghost use Rattle.transcript.specs.Judge.{input_limit};
 ghost use Rattle.input.specs.Reading.{Over, Prints};
 ghost use Rattle.judge.specs.Printed.{verdict_lines};
 
-use input::Reading;
 use report::Text;
-use std::io::{Print, Stdout};
 
 // What is printed. The list has room for the limit and one byte more.
-fn answer(input: &[u8], reading: Reading) -> Text
+fn answer(input: &[u8], reading: Option<usize>) -> Text
     requires size { length input.now ≡ input_limit + 1 }
     requires over { Over (length input.now) reading }
     ensures text { Prints verdict_lines reading input.now (take result.length result.bytes) }
     ensures fits { (result.length ≤ length result.bytes) × (result.length ≡ length (take result.length result.bytes)) }
 {
-    let Reading::Done(count) = reading else {
+    let Some(count) = reading else {
         return Text {
             bytes: [0; 128],
             length: 0,
         };
     };
     report::lines(reader::judge_input(&input[..count]))
-}
-
-// The one place that prints. The input is handed over so that the contract can say which lines these are.
-fn print(stdout: Stdout, lines: &[u8], input: &[u8], reading: Reading)
-    requires { Prints verdict_lines reading input.now lines.now }
-{
-    let _written = stdout.write_all(lines);
 }
 
 // To be read here, since no contract can say it: the reading is what `read` answered, and it is printed once.
@@ -42,5 +33,5 @@ fn main(rt: HostRuntime) {
     let text = answer(&input, reading);
     let bytes = text.bytes;
     let length = text.length;
-    print(rt.stdout(), &bytes[..length], &input, reading);
+    input::print(rt.stdout(), &bytes[..length], &input, reading);
 }

@@ -8,29 +8,20 @@ ghost use Rattle.transcript.specs.Judge.{input_limit};
 ghost use Rattle.sheet_text.specs.Sheet.{sheet_of, largest_sheet};
 ghost use Rattle.input.specs.Reading.{Over, Prints};
 
-use input::Reading;
-use std::io::{Print, Stdout};
 
 // What is printed, at the front of the second list, and its length. The first list has room for the limit and one byte
 // more, the second for the largest sheet of any transcript.
-fn answer(input: &[u8], reading: Reading, out: &mut [u8]) -> usize
+fn answer(input: &[u8], reading: Option<usize>, out: &mut [u8]) -> usize
     requires size { length input.now ≡ input_limit + 1 }
     requires over { Over (length input.now) reading }
     requires room { length out.old ≡ largest_sheet }
     ensures text { Prints sheet_of reading input.now (take result out.new) }
     ensures fits { (result ≤ length out.new) × (result ≡ length (take result out.new)) }
 {
-    let Reading::Done(count) = reading else {
+    let Some(count) = reading else {
         return 0;
     };
     marking::sheet_input(&input[..count], out)
-}
-
-// The one place that prints. The input is handed over so that the contract can say which lines these are.
-fn print(stdout: Stdout, lines: &[u8], input: &[u8], reading: Reading)
-    requires { Prints sheet_of reading input.now lines.now }
-{
-    let _written = stdout.write_all(lines);
 }
 
 // To be read here, since no contract can say it: the reading is what `read` answered, and it is printed once.
@@ -39,5 +30,5 @@ fn main(rt: HostRuntime) {
     let reading = input::read(rt.stdin(), &mut input);
     let mut out = [0u8; 272384];
     let length = answer(&input, reading, &mut out);
-    print(rt.stdout(), &out[..length], &input, reading);
+    input::print(rt.stdout(), &out[..length], &input, reading);
 }

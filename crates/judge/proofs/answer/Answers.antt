@@ -11,5 +11,5 @@ pub returns-clause-text : goal.returns-clause-text
 returns-clause-text c =
     let first : (whole : List ℕ) → verdict_lines (take (length c.args.input.now) whole) ≡ verdict_lines whole =
     λ whole. ap lines_of (long_inputs.first whole (length c.args.input.now) (omega (arith, c.requires.size))) in
-    prints_whole verdict_lines _ _ c.args.input.now _ first c.in-Done.is
+    prints_whole verdict_lines _ _ c.args.input.now _ first c.in-Some.is
     (c.lines.ensures.text ∙ ap lines_of c.judge_input.ensures)

@@ -35,17 +35,17 @@ placed text held list n count e room =
 
 pub returns-clause-text : goal.returns-clause-text
 returns-clause-text c =
-    let read = take c.in-Done.count c.args.input.now in
+    let read = take c.in-Some.count c.args.input.now in
     let first : (whole : List ℕ) → sheet_of (take (length c.args.input.now) whole) ≡ sheet_of whole =
     λ whole. sheets.whole whole (length c.args.input.now) (omega (arith, c.requires.size)) in
     let room : length (sheet_of read) ≤ length c.args.out.now =
     subst (λ (n : ℕ). length (sheet_of read) ≤ n) (sym c.requires.room) (sheets.program.largest read) in
-    prints_whole sheet_of _ _ c.args.input.now _ first c.in-Done.is
+    prints_whole sheet_of _ _ c.args.input.now _ first c.in-Some.is
     (placed _ c.args.out.now _ _ c.sheet_input.ensures.length c.sheet_input.ensures.list room).0
 
 pub returns-clause-fits : goal.returns-clause-fits
 returns-clause-fits c =
-    let read = take c.in-Done.count c.args.input.now in
+    let read = take c.in-Some.count c.args.input.now in
     let room : length (sheet_of read) ≤ length c.args.out.now =
     subst (λ (n : ℕ). length (sheet_of read) ≤ n) (sym c.requires.room) (sheets.program.largest read) in
     (placed _ c.args.out.now _ _ c.sheet_input.ensures.length c.sheet_input.ensures.list room).1
