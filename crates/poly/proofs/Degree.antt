@@ -1,9 +1,10 @@
 -- The least bound of the degree against all bounds. Assumes nothing.
-use mathlib.Core.Path.{◌≡◌, refl, sym, subst}
+use mathlib.Core.Path.{◌≡◌, refl, sym, subst, ◌∙◌}
 use mathlib.Core.Logic.{◌≢◌, ◌↔◌, ◌⊎◌, inl, inr}
 use mathlib.Core.Bool.{Bool, true, false, cond}
 use mathlib.Core.List.{List, [], ◌∷◌}
-use Prim.Native.Nat.{ℕ, zero, suc, ◌≤◌, ◌<◌}
+use Prim.Native.Nat.{ℕ, zero, suc, ◌+◌, ◌≤◌, ◌<◌}
+use native.Mathlib.Numerals.{add-one}
 use native.Mathlib.Omega.{arith}
 use lib.ListN.{length, get_or, drop_of_length-le}
 use lib.Seq.{drop-cons}
@@ -64,16 +65,18 @@ by_test n p false e = inr (λ z. absurd (omega (arith, leb-false (degree_bound p
 pub below_or_not : (n : ℕ) (p : List ℕ) → DegreeBelow gf64 n p ⊎ (DegreeBelow gf64 n p → ⊥)
 below_or_not n p = by_test n p (leb (degree_bound p) n) refl
 
--- ---- one coefficient less
+-- ---- the last coefficient that is not zero
 
-pub bound_falls : (p : List ℕ) (n : ℕ) → n < length p → degree_bound p ≤ suc n → get_or p n 0 ≡ 0 → degree_bound p ≤ n
-bound_falls p n h b z =
-    (below_bound n p).0 (subst (Zeros gf64) (sym (drop-cons p n 0 h)) (z, (below_bound (suc n) p).1 b))
+zeros_from : (p : List ℕ) (n : ℕ) → ((k : ℕ) → n ≤ k → k < length p → get_or p k 0 ≡ 0) → DegreeBelow gf64 n p
+zeros_from [] zero z = record {}
+zeros_from [] (suc n) z = record {}
+zeros_from (c ∷ p) zero z = (z 0 (omega arith) (omega arith), zeros_from p zero (λ k l h. z (suc k) (omega arith) (omega arith)))
+zeros_from (c ∷ p) (suc n) z = zeros_from p n (λ k l h. z (suc k) (omega arith) (omega arith))
 
 zero_above : (p : List ℕ) (n : ℕ) → n < length p → degree_bound p ≤ n → get_or p n 0 ≡ 0
 zero_above p n h b = (subst (Zeros gf64) (drop-cons p n 0 h) ((below_bound n p).1 b)).0
 
-pub bound_least : (p : List ℕ) (n : ℕ) → n < length p → degree_bound p ≤ suc n → get_or p n 0 ≢ 0 → suc n ≡ degree_bound p
+bound_least : (p : List ℕ) (n : ℕ) → n < length p → degree_bound p ≤ suc n → get_or p n 0 ≢ 0 → suc n ≡ degree_bound p
 bound_least p n h b z = by (below_or_not n p)
   where
     by : DegreeBelow gf64 n p ⊎ (DegreeBelow gf64 n p → ⊥) → suc n ≡ degree_bound p
@@ -83,6 +86,14 @@ bound_least p n h b z = by (below_or_not n p)
         at_least : (test : Bool) → leb (degree_bound p) n ≡ test → suc n ≡ degree_bound p
         at_least true e = absurd (d ((below_bound n p).1 (leb-true (degree_bound p) n e)))
         at_least false e = omega (arith, leb-false (degree_bound p) n e)
+
+pub bound_of_last : (p : List ℕ) (n : ℕ) → n < length p → get_or p n 0 ≢ 0
+    → ((k : ℕ) → n < k → k < length p → get_or p k 0 ≡ 0) → n + 1 ≡ degree_bound p
+bound_of_last p n h c z =
+    add-one n ∙ bound_least p n h ((below_bound (suc n) p).0 (zeros_from p (suc n) (λ k l i. z k (omega arith) i))) c
+
+pub bound_of_none : (p : List ℕ) → ((k : ℕ) → k < length p → get_or p k 0 ≡ 0) → 0 ≡ degree_bound p
+bound_of_none p z = omega (arith, (below_bound 0 p).0 (zeros_from p 0 (λ k l i. z k i)))
 
 pub bound_within : (p : List ℕ) → degree_bound p ≤ length p
 bound_within p =

@@ -1,31 +1,33 @@
 -- Horner's rule from the end of a list to its start, in the field of 2^64 elements. Assumes nothing.
-use mathlib.Core.Path.{◌≡◌, sym, ap, ◌∙◌}
-use mathlib.Core.List.{List}
-use Prim.Native.Nat.{ℕ, zero, suc, ◌-◌, ◌<◌, ◌≤◌}
-use native.Mathlib.Omega.{arith}
-use lib.ListN.{length, drop, get_or}
-use lib.Seq.{drop-cons, drop-length}
+use mathlib.Core.Path.{◌≡◌, refl, sym, ap, ◌∙◌}
+use mathlib.Core.List.{List, [], ◌∷◌, reverse, map}
+use denote.Ref.{Bor}
+use Rattle.field.specs.declared.Element.{Element}
+use Rattle.std.specs.List.{fold}
+use Rattle.std.proofs.lemmas.List.Sums.{fold-append}
+use Rattle.std.proofs.lemmas.Grind.{reverse_onto}
+use Prim.Native.Nat.{ℕ}
 use Rattle.gf64.specs.Field.{sum, product}
 use Rattle.poly.specs.Carrier.{gf64}
 use Rattle.poly.specs.Polynomial.{evaluate}
 
-pub horner_end : (p : List ℕ) (x : ℕ) → 0 ≡ evaluate gf64 (drop (length p) p) x
+pub horner_fold : (p : List ℕ) (x : ℕ) → evaluate gf64 p x ≡ fold (λ (v c : ℕ). sum c (product x v)) 0 (reverse p)
 unfolding evaluate
-horner_end p x = ap (λ (q : List ℕ). evaluate gf64 q x) (sym (drop-length p))
+horner_fold [] x = refl
+horner_fold (c ∷ p) x =
+    ap (λ (v : ℕ). sum c (product x v)) (horner_fold p x)
+    ∙ sym (ap (fold (λ (v c : ℕ). sum c (product x v)) 0) (reverse_onto p c [])
+    ∙ fold-append (λ (v c : ℕ). sum c (product x v)) 0 (reverse p) (c ∷ []))
 
-horner_at : (p : List ℕ) (i x v : ℕ) → i < length p → v ≡ evaluate gf64 (drop (suc i) p) x
-    → sum (get_or p i 0) (product x v) ≡ evaluate gf64 (drop i p) x
-unfolding evaluate
-horner_at p i x v l e =
-    ap (λ (s : ℕ). sum (get_or p i 0) (product x s)) e ∙ ap (λ (q : List ℕ). evaluate gf64 q x) (sym (drop-cons p i 0 l))
+-- one coefficient, as the code adds it
+abbrev pub horner : ℕ → Element → Bor ℕ → Element
+horner x v c = record { 0 = sum c.now (product x v.0) }
 
-pub horner_step : (p : List ℕ) (i x v : ℕ) → 0 < i → i ≤ length p → v ≡ evaluate gf64 (drop i p) x
-    → sum (get_or p (i - 1) 0) (product x v) ≡ evaluate gf64 (drop (i - 1) p) x
-horner_step p i x v h l e = at (i - 1) (omega arith)
+pub folded : (x : ℕ) (items : List (Bor ℕ)) (p : List ℕ) (v : Element) → map (λ (y : Bor ℕ). y.now) items ≡ p
+    → (fold (horner x) v items).0 ≡ fold (λ (u c : ℕ). sum c (product x u)) v.0 p
+folded x items p v e = all items v ∙ ap (fold (λ (u c : ℕ). sum c (product x u)) v.0) e
   where
-    at : (j : ℕ) → suc j ≡ i → sum (get_or p j 0) (product x v) ≡ evaluate gf64 (drop j p) x
-    at j s = horner_at p j x v (omega arith) (e ∙ ap (λ (k : ℕ). evaluate gf64 (drop k p) x) (sym s))
-
-pub horner_start : (p : List ℕ) (i x v : ℕ) → i ≤ 0 → v ≡ evaluate gf64 (drop i p) x → v ≡ evaluate gf64 p x
-horner_start p zero x v h e = e
-horner_start p (suc i) x v h e = absurd (omega arith)
+    all : (items : List (Bor ℕ)) (v : Element) → (fold (horner x) v items).0
+        ≡ fold (λ (u c : ℕ). sum c (product x u)) v.0 (map (λ (y : Bor ℕ). y.now) items)
+    all [] v = refl
+    all (c ∷ items) v = all items (horner x v c)

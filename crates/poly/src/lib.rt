@@ -12,27 +12,17 @@ use field::Element;
 pub fn evaluate(coefficients: &[u64], x: Element) -> Element
     ensures { result.0 ≡ evaluate gf64 coefficients.now x.0 }
 {
-    let mut value = Element::ZERO;
-    let mut i = coefficients.len();
-    while i > 0 {
-        i -= 1;
-        value = Element(coefficients[i]).sum(x.product(value));
-    }
-    value
+    coefficients.iter().rev().fold(Element::ZERO, |value, c| Element(*c).sum(x.product(value)))
 }
 
 // The degree plus 1, or 0 for the zero polynomial.
 pub fn degree_bound(coefficients: &[u64]) -> usize
     ensures { result ≡ degree_bound coefficients.now }
 {
-    let mut bound = coefficients.len();
-    while bound > 0 {
-        if coefficients[bound - 1] != 0 {
-            return bound;
-        }
-        bound -= 1;
+    match coefficients.iter().rposition(|c| *c != 0) {
+        Some(last) => last + 1,
+        None => 0,
     }
-    0
 }
 
 // Copies a list into the front of another one.

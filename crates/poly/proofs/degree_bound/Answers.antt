@@ -1,30 +1,13 @@
--- `poly::degree_bound` meets its contract. The loop's invariant: the degree is below the bound. Assumes nothing.
-use Rattle.poly.proofs.Degree.{bound_falls, bound_least, bound_within}
-use Rattle.poly.specs.Degree.{degree_bound}
-use Prim.Native.Nat.{suc, ◌-◌, ◌≤◌}
-use mathlib.Core.Path.{◌≡◌, sym, ◌∙◌}
-use borrow.Author.Rules.{rules}
+-- `poly::degree_bound` meets its contract: the place that is found is the degree. Assumes nothing.
 use native.Mathlib.Omega.{arith}
+use Rattle.std.proofs.lemmas.Grind.{common_steps}
+use Rattle.poly.proofs.Degree.{bound_of_last, bound_of_none}
 use Rattle.poly.proofs.degree_bound.Goals as goal
 
-pub loop-bound-init : goal.loop-bound-init
-loop-bound-init c = (search rules, bound_within c.args.coefficients.now)
+pub returns-in-Some : goal.returns-in-Some
+returns-in-Some c =
+    bound_of_last c.args.coefficients.now c.in-Some.last (grind (arith, common_steps)) (λ z. grind (arith, common_steps))
+    (λ k l h. grind (arith, common_steps))
 
-pub returns-then-coefficients-bound-ne0 : goal.returns-then-coefficients-bound-ne0
-returns-then-coefficients-bound-ne0 c =
-    let p = c.args.coefficients.now in
-    let bound = c.loop-bound.bound in
-    let one_less : suc (bound - 1) ≡ bound = omega arith in
-    let stands : degree_bound p ≤ suc (bound - 1) = omega (arith, one_less, c.loop-bound.invariant.1) in
-    sym one_less ∙ bound_least p (bound - 1) (omega arith) stands c.if-coefficients-bound-ne0.true
-
-pub loop-bound-preserved : goal.loop-bound-preserved
-loop-bound-preserved c =
-    let p = c.args.coefficients.now in
-    let bound = c.loop-bound.bound in
-    let one_less : suc (bound - 1) ≡ bound = omega arith in
-    let stands : degree_bound p ≤ suc (bound - 1) = omega (arith, one_less, c.loop-bound.invariant.1) in
-    (search rules, bound_falls p (bound - 1) (omega arith) stands c.if-coefficients-bound-ne0.false)
-
-pub returns : goal.returns
-returns c = omega (arith, c.loop-bound.invariant.1)
+pub returns-in-None : goal.returns-in-None
+returns-in-None c = bound_of_none c.args.coefficients.now (λ k h. grind (arith, common_steps))

@@ -1,28 +1,20 @@
--- `poly::evaluate` meets its contract. The loop's invariant: the value is that of the coefficients
--- from i on. Assumes nothing.
-use mathlib.Core.Path.{ap, ◌∙◌}
-use Prim.Native.Nat.{◌-◌}
-use borrow.Author.Rules.{rules}
+-- `poly::evaluate` meets its contract. Assumes nothing.
+use mathlib.Core.Path.{◌≡◌, ap, sym, ◌∙◌}
+use mathlib.Core.List.{map, reverse}
+use Prim.Native.Nat.{ℕ}
 use native.Mathlib.Omega.{arith}
-use lib.ListN.{get_or}
-use Rattle.gf64.specs.Field.{sum}
-use Rattle.poly.proofs.Horner.{horner_end, horner_step, horner_start}
+use Rattle.std.proofs.lemmas.Grind.{common_steps}
+use borrow.Author.Rules.{rules}
+use denote.Ref.{Bor}
+use Rattle.field.specs.declared.Element.{Element}
+use Rattle.poly.proofs.Horner.{horner_fold, horner, folded}
 use Rattle.poly.proofs.evaluate.Goals as goal
-
-pub loop-i-init : goal.loop-i-init
-loop-i-init c = (search rules, horner_end c.args.coefficients.now c.args.x.0)
-
-pub loop-i-preserved : goal.loop-i-preserved
-loop-i-preserved c =
-    let a = c.args in
-    let l = c.loop-i in (
-      search rules,
-      c.sum-value.ensures ∙ ap (sum (get_or a.coefficients.now (l.i - 1) 0)) c.product.ensures.value
-          ∙ horner_step a.coefficients.now l.i a.x.0 l.value.0 (omega arith) l.invariant.0 l.invariant.1,
-    )
 
 pub returns : goal.returns
 returns c =
-    let a = c.args in
-    horner_start a.coefficients.now c.loop-i.i a.x.0 c.loop-i.value.0 c.loop-i-test.false
-    c.loop-i.invariant.1
+    let p = c.args.coefficients.now in
+    let x = c.args.x.0 in
+    let run = c.fold.ensures.runs in
+    let items : map (λ (y : Bor ℕ). y.now) run.0.items ≡ reverse p = grind (arith, common_steps) in
+    ap (λ (v : Element). v.0) (run.3 (horner x) (λ v b r f h. search rules))
+    ∙ folded x run.0.items (reverse p) _ items ∙ sym (horner_fold p x)
