@@ -2,7 +2,7 @@
 -- Assumes nothing.
 use mathlib.Core.Path.{◌≡◌, refl, sym, ap, ap₂, ◌∙◌, subst}
 use mathlib.Core.Logic.{◌≢◌, ◌⊎◌, inl, inr}
-use mathlib.Core.List.{List, [], ◌∷◌, map}
+use mathlib.Core.List.{List, map}
 use Prim.Native.Nat.{ℕ, suc, ◌^◌, ◌≤◌, ◌<◌}
 use native.Mathlib.Nat.{eq-or-lt_of_le}
 use native.Mathlib.Omega.{arith}
@@ -14,14 +14,6 @@ use Rattle.gf64.proofs.Inverse.{inverse-zero}
 use Rattle.poly.proofs.Filling.{get_d_map}
 use Rattle.list_inverse.specs.Products.{nonzero_product}
 use Rattle.list_inverse.proofs.Products.{past_zero, past_nonzero, product_element, product_not_zero, divided}
-
--- ---- one element
-
-pub single : (block : List ℕ) (value : ℕ) → length block ≡ 1 → value ≡ inverse (get_or block 0 0)
-    → set block 0 value ≡ map inverse block
-single [] value h e = absurd (omega arith)
-single (x ∷ []) value h e = ap {B = List ℕ} (λ y. y ∷ []) e
-single (x ∷ y ∷ block) value h e = absurd (omega arith)
 
 -- ---- from the first place
 

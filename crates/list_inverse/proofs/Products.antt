@@ -4,7 +4,8 @@ use mathlib.Core.Path.{◌≡◌, refl, ap, ◌∙◌}
 use mathlib.Core.Logic.{◌≢◌}
 use mathlib.Core.Bool.{Bool, true, false, cond}
 use mathlib.Core.List.{List}
-use Prim.Native.Nat.{ℕ, zero, suc, ◌^◌, ◌<◌}
+use Prim.Native.Nat.{ℕ, zero, suc, ◌+◌, ◌^◌, ◌<◌}
+use native.Mathlib.Numerals.{add-one}
 use native.Mathlib.Omega.{arith}
 use lib.Dec.{eqb}
 use lib.ListN.{get_or}
@@ -27,6 +28,15 @@ unfolding nonzero_product
 past_nonzero elements n ne =
     ap (λ (b : Bool). cond b (nonzero_product elements n) (product (nonzero_product elements n) (get_or elements n 0)))
     (ne_eqb (get_or elements n 0) 0 ne)
+
+-- the same, as a loop counts
+pub past_zero_next : (elements : List ℕ) (n : ℕ) → get_or elements n 0 ≡ 0
+    → nonzero_product elements (n + 1) ≡ nonzero_product elements n
+past_zero_next elements n e = ap (nonzero_product elements) (add-one n) ∙ past_zero elements n e
+
+pub past_nonzero_next : (elements : List ℕ) (n : ℕ) → get_or elements n 0 ≢ 0
+    → nonzero_product elements (n + 1) ≡ product (nonzero_product elements n) (get_or elements n 0)
+past_nonzero_next elements n e = ap (nonzero_product elements) (add-one n) ∙ past_nonzero elements n e
 
 pub product_element : (elements : List ℕ) (n : ℕ) → nonzero_product elements n < 2 ^ 64
 unfolding nonzero_product

@@ -13,11 +13,9 @@ use field::{Element, reduction};
 pub fn invert(list: &mut [u64])
     ensures { list.new ≡ map inverse list.old }
 {
-    let mut at: usize = 0;
-    while at < list.len() {
-        let end = at + poly::lesser(64, list.len() - at);
+    for at in (0..list.len()).step_by(64) {
+        let end = list.len().min(at + 64);
         invert_block(&mut list[at..end]);
-        at = end;
     }
 }
 
@@ -28,9 +26,9 @@ pub fn inverses_of_nonzero(elements: &[u64], inverses: &mut [u64])
     ensures { inverses.new
         ≡ map inverse elements.now ++ drop (length elements.now) inverses.old }
 {
-    let count = elements.len();
-    poly::copy(elements, inverses);
-    invert(&mut inverses[..count]);
+    let inverses = &mut inverses[..elements.len()];
+    inverses.copy_from_slice(elements);
+    invert(inverses);
 }
 
 // Each element of a block becomes its inverse. An element by itself needs no products beside its inverse.
@@ -56,29 +54,23 @@ fn products_before(block: &[u64], before: &mut [u64]) -> u64
     ensures each { ProductsBefore block.now before.new }
 {
     let mut product: u64 = 1;
-    let mut i: usize = 0;
-    while i < block.len() {
+    for (i, factor) in block.iter().enumerate() {
         before[i] = product;
-        let factor = block[i];
-        if factor != 0 {
-            product = reduction::product(product, factor);
+        if *factor != 0 {
+            product = reduction::product(product, *factor);
         }
-        i += 1;
     }
     product
 }
 
 // From the last element to the first, where `rest` is the inverse of the product up to the element: without that of
 // the elements before it, it is the inverse of this one.
-fn divide_back(rest: u64, before: &[u64], block: &mut [u64])
+fn divide_back(mut rest: u64, before: &[u64], block: &mut [u64])
     requires { (length block.old ≤ length before.now) × ProductsBefore block.old before.now
         × (rest ≡ inverse (nonzero_product block.old (length block.old))) }
     ensures { block.new ≡ map inverse block.old }
 {
-    let mut rest = rest;
-    let mut i = block.len();
-    while i > 0 {
-        i -= 1;
+    for i in (0..block.len()).rev() {
         let x = block[i];
         if x != 0 {
             block[i] = reduction::product(rest, before[i]);

@@ -3,7 +3,7 @@
 use mathlib.Core.Path.{◌≡◌, refl, sym, ap, ap₂, ◌∙◌}
 use mathlib.Core.List.{List, [], ◌∷◌, ◌++◌, map, append-nil, append_assoc}
 use mathlib.Core.Logic.{◌⊎◌, inl, inr, ⊎_elim}
-use Prim.Native.Nat.{ℕ, zero, suc, ◌+◌, ◌-◌, ◌≤◌, ◌<◌}
+use Prim.Native.Nat.{ℕ, zero, suc, ◌+◌, ◌-◌, ◌≤◌, ◌<◌, min}
 use native.Mathlib.Nat.{le_trans}
 use native.Mathlib.Numerals.{add-one}
 use native.Mathlib.Omega.{arith}
@@ -105,6 +105,15 @@ pub filled_all : (target held : List ℕ) (j : ℕ) → length held ≤ j → le
 filled_all target held j h e =
     filled_done target held j e
     (λ i l. get_or-eq_default target 0 (omega arith) ∙ sym (get_or-eq_default held 0 (le_trans h l)))
+
+-- it is filled as far as its end where more is asked
+pub filled_within : (target held : List ℕ) (j k : ℕ) → length target ≡ length held → j ≡ min (length held) k
+    → filled target held j ≡ filled target held k
+filled_within target held j k e h = by (le_or_lt (length held) k)
+  where
+    by : (length held ≤ k) ⊎ (k < length held) → filled target held j ≡ filled target held k
+    by (inl l) = filled_all target held j (omega arith) e ∙ sym (filled_all target held k l e)
+    by (inr l) = ap (filled target held) (omega arith)
 
 -- a part of a list that is being filled, and the list with the target's part in its place
 module _ (target held : List ℕ) (p n : ℕ) (same : length target ≡ length held) (inside : p + n ≤ length held) where
