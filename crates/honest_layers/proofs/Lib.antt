@@ -1,3 +1,1 @@
-pub mod Rounds
-mod Stored
-mod Folds
+mod Rounds

@@ -1,185 +1,204 @@
--- The rounds of a prover over the honest layers. Assumes nothing.
+-- The rounds of a prover, from each honest layer to the next one. Assumes nothing.
 use mathlib.Core.Path.{◌≡◌, refl, sym, ap, ap₂, ◌∙◌, subst}
-use mathlib.Core.List.{List, ◌++◌}
-use Prim.Native.Nat.{ℕ, zero, suc, ◌-◌, ◌^◌, ◌≤◌, ◌<◌}
-use native.Mathlib.Nat.{le_of_eq}
+use mathlib.Core.List.{List, [], ◌∷◌, ◌++◌, append-nil, append_assoc}
+use Prim.Native.Nat.{ℕ, suc, ◌+◌, ◌-◌, ◌/◌, ◌^◌, ◌≤◌, ◌<◌}
+use native.Mathlib.Nat.{le_of_eq, le_trans, sub-add_cancel}
+use native.Mathlib.Numerals.{add-one}
 use native.Mathlib.Omega.{arith}
-use lib.ListN.{length, get_or, take, drop}
-use lib.Seq.{length-take-le, take-add, take_all, drop_at}
-use Rattle.gf64.specs.Field.{IsElement}
-use Rattle.poly.specs.Polynomial.{All}
+use Rattle.std.proofs.Math.Nat.{mul-div_cancel}
+use lib.Pow.{pow-add, pow_pos}
+use lib.ListN.{length, get_or}
 use Rattle.coset.proofs.Points.{all_elements}
+use Rattle.coset.proofs.Subspace.{next_independent}
 use Rattle.coset.specs.Span.{Independent}
 use Rattle.coset.specs.Subspace.{next_offset, next_basis}
+use Rattle.field.specs.declared.Element.{Element}
 use Rattle.fold.specs.Fold.{folded}
-use Rattle.fri.specs.Layout.{dimension, layer_start, store_length, stored_layer, joined_layers}
-use Rattle.fri.specs.Run.{Run, steps_in, rounds_in, challenge_in, layer_in}
-use Rattle.fri.specs.Layers.{basis_in, offset_in, honest_layer, honest_store}
-use Rattle.fri.specs.Demand.{ValidCoset}
-use Rattle.fri.proofs.Cosets.{first_coset, some_rounds, length-layer_basis, layer_basis_independent, length_joined}
-use Rattle.fri.proofs.Layouts.{start_next}
+use Rattle.fri.specs.Layout.{dimension, layer_start, joined_layers}
+use Rattle.fri.specs.Run.{Run, steps_in, rounds_in, challenge_in}
+use Rattle.fri.specs.Layers.{honest_layer, honest_store}
+use Rattle.fri.proofs.Cosets.{first_coset, length_basis}
+use Rattle.fri.proofs.Layouts.{start_next, layer_before, step_of_round}
 use Rattle.fri.proofs.Layers.{honest_run}
-use Rattle.layout.specs.declared.Parameters.{Parameters}
+use Rattle.layout.specs.declared.Claim.{Claim}
+use Rattle.layout.proofs.Sizes.{start_of_first, store_length_is, one_round, step_within}
 use Rattle.layer_cosets.specs.declared.LayerCoset.{LayerCoset}
-use Rattle.layer_cosets.specs.Cosets.{layer_coset_of, basis_of}
-use Rattle.layout.proofs.Sizes.{start_of_first, store_length_is}
-use Rattle.layer_cosets.proofs.LayerCosets.{basis_of_coset}
+use Rattle.layer_cosets.specs.Cosets.{layer_coset_of}
 use Rattle.layer_cosets.proofs.NextLayers.{basis_next, offset_next}
-use Rattle.honest_layers.specs.Folds.{fold_over, LayerAt}
-use Rattle.honest_layers.specs.Input.{input_of, Passed, coset_in, layer_from}
+use Rattle.honest_layers.specs.Input.{input_of, Passed, coset_in, LayerAt}
 
--- any offset and a basis that passed are a coset
-pub valid_input : (p : Parameters) (offset offset' : ℕ) (basis challenges word : List ℕ) (stored : ℕ)
-    → Passed (input_of p offset basis challenges word) stored
-    → IsElement offset' → All IsElement basis → ValidCoset (input_of p offset' basis challenges word)
-valid_input p offset offset' basis challenges word stored passed o b =
-    record {
-      parameters = passed.parameters;
-      offset_element = o;
-      basis_elements = b;
-      basis_count = passed.basis;
-      independent = passed.independent;
-    }
+none : (xs : List ℕ) → length xs ≡ 0 → xs ≡ []
+none [] e = refl
+none (x ∷ xs) e = absurd (omega (arith, e))
 
--- what is known of the input, by the run that it is
-module _ (p : Parameters) (offset : ℕ) (basis challenges word : List ℕ) (run : Run) (stored : ℕ)
-    (is : input_of p offset basis challenges word ≡ run) (known : Passed run stored) where
-  abbrev input : Run
-  input = input_of p offset basis challenges word
+-- 2^n entries are the cosets of 2^s entries that 2^(n - s) values are folded from
+shifted : (n s : ℕ) → s ≤ n → 2 ^ n / 2 ^ s ≡ 2 ^ (n - s)
+shifted n s h =
+    ap (λ (m : ℕ). 2 ^ m / 2 ^ s) (sym (sub-add_cancel h))
+    ∙ ap (λ (m : ℕ). m / 2 ^ s) (pow-add 2 (n - s) s)
+    ∙ mul-div_cancel (2 ^ (n - s)) (pow_pos s)
 
-  pub passed_input : Passed input stored
-  passed_input = subst (λ (r : Run). Passed r stored) (sym is) known
+-- where the layers of a claim begin, and their dimensions
+module _ (claim : Claim) where
+  abbrev run : Run
+  run = input_of claim
 
-  pub input_valid : offset < 2 ^ 64 → ((j : ℕ) → get_or basis j 0 < 2 ^ 64) → ValidCoset input
-  input_valid o b =
-      valid_input p offset offset basis challenges word stored passed_input o (all_elements basis b)
+  abbrev r : ℕ
+  r = rounds_in run
 
-module _ (run : Run) where
-  abbrev p : Parameters
-  p = record { k = run.k; rate = run.rate; step = run.step }
+  abbrev step : ℕ
+  step = run.step
 
   abbrev start : ℕ → ℕ
   start i = layer_start run.k (steps_in run) i
 
-  -- what holds before round i: layers 1 to i are in the store
-  pub record Filled (rounds : ℕ) (store : List ℕ) (coset : LayerCoset) (i : ℕ) : Type 0 where
-    pub count : rounds ≡ rounds_in run
-    pub within : suc i ≤ rounds
-    pub coset_is : coset ≡ coset_in run i
-    pub joined_so_far : take (layer_start run.k (steps_in run) (suc i)) store ≡ joined_layers (honest_layer run) i
-    pub kept : length store ≡ store_length run.k (steps_in run)
+  abbrev size : ℕ → ℕ
+  size i = 2 ^ dimension run.k (steps_in run) i
 
-  -- ---- the cosets
+  dimension_next : (i : ℕ) → i < r
+      → dimension run.k (steps_in run) (suc i) ≡ dimension run.k (steps_in run) i - run.step
+  unfolding dimension
+  dimension_next i h =
+      ap (λ (s : ℕ). dimension run.k (steps_in run) i - s) (step_of_round run.k run.rate run.step i h)
 
-  pub coset_first : layer_coset_of run.offset run.basis ≡ coset_in run 0
-  coset_first = sym (ap₂ (λ (o : ℕ) (l : List ℕ). layer_coset_of o l) (first_coset run).0 (first_coset run).1)
+  -- layer 0 is the word, and nothing is stored yet
+  pub first_layer : {stored last : ℕ} {coset : LayerCoset} → Passed claim stored last
+      → coset ≡ layer_coset_of run.offset run.basis → LayerAt claim 0 coset run.word stored last
+  unfolding dimension
+  first_layer {stored} known is =
+      record {
+        claim_fits = known.claim_fits;
+        round = one_round claim.parameters known.claim_fits.parameters;
+        coset_is =
+            is ∙ sym (ap₂ (λ (o : ℕ) (l : List ℕ). layer_coset_of o l) (first_coset run).0 (first_coset run).1);
+        independent = subst (λ (c : LayerCoset). Independent c.basis) (sym is) known.independent;
+        layer_is = sym (honest_run.word run);
+        layer_fits = known.word;
+        rest_fits = omega (arith, start_of_first run.k (steps_in run), known.store);
+        last_fits = known.last_fits;
+      }
 
-  module _ (i : ℕ) (coset : LayerCoset) (is : coset ≡ coset_in run i) where
-    pub coset_offset : coset.offset.0 ≡ offset_in run i
-    coset_offset = ap (λ (c : LayerCoset). c.offset.0) is
-
-    pub coset_basis : basis_of coset ≡ basis_in run i
-    coset_basis = ap basis_of is ∙ basis_of_coset (offset_in run i) (basis_in run i)
-
-    pub coset_next : i < rounds_in run
-        → layer_coset_of (next_offset run.step coset.offset.0 (basis_of coset))
-        (next_basis run.step (basis_of coset))
-        ≡ coset_in run (suc i)
-    coset_next h =
-        ap₂ (λ (o : ℕ) (l : List ℕ). layer_coset_of (next_offset run.step o l) (next_basis run.step l))
-        coset_offset coset_basis
-        ∙ ap₂ (λ (o : ℕ) (l : List ℕ). layer_coset_of o l) (offset_next p run.offset run.basis i h)
-        (basis_next p run.offset run.basis i h)
-
-    -- the fold of an honest layer is the next one
-    pub honest-folded : i < rounds_in run
-        → fold_over run.step coset (honest_layer run i) (challenge_in run i) ≡ honest_layer run (suc i)
-    honest-folded h =
-        ap₂ (λ (o : ℕ) (l : List ℕ). folded run.step o l (honest_layer run i) (challenge_in run i))
-        coset_offset coset_basis
-        ∙ sym (honest_run.folds run i (honest_layer run i) h) ∙ sym (honest_run.next run i)
-
-    module _ (v : ValidCoset run) where
-      pub coset_dimension : coset.dimension ≡ dimension run.k (steps_in run) i
-      coset_dimension = ap (λ (c : LayerCoset). c.dimension) is ∙ length-layer_basis run v i
-
-      pub coset_independent : Independent (basis_of coset)
-      coset_independent = subst Independent (sym coset_basis) (layer_basis_independent run v i)
-
-      -- the coset is that of layer i, and word and store have their lengths
-      pub layer_at : (stored : ℕ) → Passed run stored → (store : List ℕ)
-          → length store ≡ store_length run.k (steps_in run) → LayerAt p coset i run.word store
-      layer_at stored known store kept =
-          record {
-            parameters = known.parameters;
-            dimension_is = coset_dimension;
-            independent = coset_independent;
-            word_fits = known.word;
-            store_fits = kept;
-          }
-
-  -- ---- the layers in the store
-
-  pub joined_first : (store : List ℕ) → take (start 1) store ≡ joined_layers (honest_layer run) 0
+  pub from_first : {stored : List ℕ} → joined_layers (honest_layer run) 0 ++ stored ≡ honest_store run
+      → stored ≡ honest_store run
   unfolding joined_layers
-  joined_first store = ap (λ (n : ℕ). take n store) (sym (start_of_first run.k (steps_in run)))
+  from_first e = e
 
-  joined_next : (i : ℕ)
-      → joined_layers (honest_layer run) i ++ honest_layer run (suc i) ≡ joined_layers (honest_layer run) (suc i)
-  unfolding joined_layers
-  joined_next i = refl
+  -- what is known at layer i
+  module _ {i : ℕ} {coset : LayerCoset} {layer : List ℕ} {rest last : ℕ} (at : LayerAt claim i coset layer rest last)
+    where
+      inside : i < r
+      inside = omega (arith, at.round)
 
-  store_is : joined_layers (honest_layer run) (rounds_in run - 1) ≡ honest_store run
-  unfolding honest_store
-  store_is = refl
+      count : length coset.basis ≡ dimension run.k (steps_in run) i
+      count =
+          ap (λ (c : LayerCoset). length c.basis) at.coset_is
+          ∙ length_basis run.k (steps_in run) run.basis at.claim_fits.basis i
 
-  -- the store is whole when layer r - 1 is joined_layers
-  pub store_whole : (store : List ℕ) (i : ℕ) → suc i ≡ rounds_in run → length store ≡ store_length run.k (steps_in run)
-      → take (start (suc i)) store ≡ joined_layers (honest_layer run) i → store ≡ honest_store run
-  store_whole store i e fits so_far =
-      let ends : start (suc i) ≡ length store = ap start e ∙ store_length_is run.k (steps_in run) ∙ sym fits in
-      let last : i ≡ rounds_in run - 1 = omega (arith, e) in
-      sym (take_all (start (suc i)) store (le_of_eq (sym ends))) ∙ so_far ∙ ap (joined_layers (honest_layer run)) last
-      ∙ store_is
+      pub step_fits : step ≤ length coset.basis
+      step_fits =
+          le_trans (step_within claim.parameters at.claim_fits.parameters i inside) (le_of_eq (sym count))
 
-  module _ (v : ValidCoset run) (whole : length run.word ≡ 2 ^ run.k) where
-    -- a layer that is joined_layers is the one that word and store have
-    layer_found : (i : ℕ) (store : List ℕ) → start (suc i) ≤ length store
-        → take (start (suc i)) store ≡ joined_layers (honest_layer run) i
-        → layer_from p run.word store i ≡ honest_layer run i
-    unfolding layer_in honest_layer stored_layer
-    layer_found zero store h e = refl
-    layer_found (suc i) store h e =
-        let size = 2 ^ dimension run.k (steps_in run) (suc i) in
-        let after = start_next run.k (steps_in run) (suc i) (omega arith) in
-        sym (drop_at (take (start (suc i)) store) (take size (drop (start (suc i)) store)) (start (suc i))
-        (length-take-le (start (suc i)) store (omega (arith, h, after))))
-        ∙ ap (drop (start (suc i)))
-        (sym (take-add (start (suc i)) size store) ∙ ap (λ (n : ℕ). take n store) (sym after) ∙ e ∙ sym (joined_next i))
-        ∙ drop_at (joined_layers (honest_layer run) i) (honest_layer run (suc i)) (start (suc i))
-        (length_joined run v whole i)
+      pub layer_counted : length layer ≡ 2 ^ length coset.basis
+      layer_counted = at.layer_fits ∙ ap (λ (n : ℕ). 2 ^ n) (sym count)
 
-    -- layer r - 1 is the word or in the honest store
-    pub last_found : (store : List ℕ) → store ≡ honest_store run → length store ≡ store_length run.k (steps_in run)
-        → layer_from p run.word store (rounds_in run - 1) ≡ honest_layer run (rounds_in run - 1)
-    last_found store e fits =
-        let rounds : suc (rounds_in run - 1) ≡ rounds_in run = omega (arith, some_rounds run v) in
-        let ends : start (suc (rounds_in run - 1)) ≡ length store =
-        ap start rounds ∙ store_length_is run.k (steps_in run) ∙ sym fits
-        in
-        layer_found (rounds_in run - 1) store (le_of_eq ends)
-        (take_all (start (suc (rounds_in run - 1))) store (le_of_eq (sym ends)) ∙ e ∙ sym store_is)
+      -- how many values it is folded into
+      pub next_counted : 2 ^ (length coset.basis - step) ≡ size (suc i)
+      next_counted =
+          ap (λ (n : ℕ). 2 ^ (n - step)) count ∙ ap (λ (n : ℕ). 2 ^ n) (sym (dimension_next i inside))
 
-    -- one more layer in the store
-    pub round_joined : (i : ℕ) (coset : LayerCoset) → coset ≡ coset_in run i → i < rounds_in run → (store store' : List ℕ)
-        → start (suc i) ≤ length store → take (start (suc i)) store ≡ joined_layers (honest_layer run) i
-        → take (start (suc (suc i))) store'
-        ≡ take (start (suc i)) store
-        ++ fold_over run.step coset (layer_from p run.word store i) (challenge_in run i)
-        → take (start (suc (suc i))) store' ≡ joined_layers (honest_layer run) (suc i)
-    round_joined i coset is h store store' fits so_far written =
-        written
-        ∙ ap₂ {B = List ℕ}
-        (λ (front layer : List ℕ). front ++ fold_over run.step coset layer (challenge_in run i))
-        so_far (layer_found i store fits so_far)
-        ∙ ap (λ (l : List ℕ). joined_layers (honest_layer run) i ++ l) (honest-folded i coset is h) ∙ joined_next i
+      pub next_shifted : length layer / 2 ^ step ≡ 2 ^ (length coset.basis - step)
+      next_shifted =
+          ap (λ (n : ℕ). n / 2 ^ step) layer_counted ∙ shifted (length coset.basis) step step_fits
+
+      -- what `fold_layer` asks
+      pub foldable : (basis : List ℕ) → basis ≡ coset.basis → (next : ℕ) → next ≡ 2 ^ (length coset.basis - step)
+          → (1 ≤ step) × (step ≤ 3) × (step ≤ length basis) × (length layer ≡ 2 ^ length basis)
+          × (next ≡ 2 ^ (length basis - step))
+      foldable basis is next e =
+          let v = at.claim_fits.parameters in
+          subst
+          (λ (b : List ℕ). (1 ≤ step) × (step ≤ 3) × (step ≤ length b) × (length layer ≡ 2 ^ length b)
+          × (next ≡ 2 ^ (length b - step))) (sym is)
+          (v.step_least, v.step_most, step_fits, layer_counted, e)
+
+      -- what `fold_layer` leaves
+      pub next_folded : (offset : Element) (basis : List ℕ) → (offset ≡ coset.offset) × (basis ≡ coset.basis)
+          → folded step offset.0 basis layer (challenge_in run i) ≡ honest_layer run (suc i)
+      next_folded offset basis is =
+          ap₂ (λ (o : Element) (b : List ℕ). folded step o.0 b layer (challenge_in run i)) is.0 is.1
+          ∙ ap₂ (λ (c : LayerCoset) (l : List ℕ). folded step c.offset.0 c.basis l (challenge_in run i)) at.coset_is
+          at.layer_is
+          ∙ sym (honest_run.folds run i (honest_layer run i) inside) ∙ sym (honest_run.next run i)
+
+      pub coset_next : layer_coset_of (next_offset step coset.offset.0 coset.basis) (next_basis step coset.basis)
+          ≡ coset_in run (suc i)
+      coset_next =
+          ap (λ (c : LayerCoset). layer_coset_of (next_offset step c.offset.0 c.basis) (next_basis step c.basis)) at.coset_is
+          ∙ ap₂ (λ (o : ℕ) (l : List ℕ). layer_coset_of o l)
+          (offset_next claim.parameters run.offset run.basis i inside)
+          (basis_next claim.parameters run.offset run.basis i inside)
+
+      -- ---- the last round
+
+      module _ (ends : suc i ≡ r) where
+        pub last_counted : last ≡ 2 ^ (length coset.basis - step)
+        last_counted = at.last_fits ∙ ap size (sym ends) ∙ sym next_counted
+
+        -- the store is whole
+        pub store_whole : (stored : List ℕ) → length stored ≡ rest
+            → joined_layers (honest_layer run) i ++ stored ≡ honest_store run
+        unfolding honest_store
+        store_whole stored e =
+            let nothing : length stored ≡ 0 =
+            omega (arith, e, at.rest_fits, ap start ends ∙ store_length_is run.k (steps_in run))
+            in
+            let before : i ≡ r - 1 = omega (arith, ends) in
+            ap (λ (l : List ℕ). joined_layers (honest_layer run) i ++ l) (none stored nothing)
+            ∙ append-nil (joined_layers (honest_layer run) i) ∙ ap (joined_layers (honest_layer run)) before
+
+      -- ---- another round
+
+      module _ (more : suc (suc i) ≤ r) where
+        pub next_within : length layer / 2 ^ step ≤ rest
+        next_within =
+            let stored = layer_before run.k (steps_in run) (suc i) r (omega arith) (omega (arith, more)) in
+            omega (arith, next_shifted, next_counted, stored, at.rest_fits, store_length_is run.k (steps_in run))
+
+        pub layer_next : (following : LayerCoset) (next : List ℕ) (after : ℕ)
+            → ((j : ℕ) → get_or coset.basis j 0 < 2 ^ 64)
+            → following ≡ layer_coset_of (next_offset step coset.offset.0 coset.basis) (next_basis step coset.basis)
+            → next ≡ honest_layer run (suc i) → length next ≡ length layer / 2 ^ step
+            → after + length layer / 2 ^ step ≡ rest
+            → LayerAt claim (i + 1) following next after last
+        layer_next following next after elements is made many e =
+            subst (λ (n : ℕ). LayerAt claim n following next after last) (sym (add-one i))
+            (record {
+              claim_fits = at.claim_fits;
+              round = more;
+              coset_is = is ∙ coset_next;
+              independent =
+                  subst (λ (c : LayerCoset). Independent c.basis) (sym is)
+                  (next_independent step coset.basis (all_elements coset.basis elements) at.independent);
+              layer_is = made;
+              layer_fits = many ∙ next_shifted ∙ next_counted;
+              rest_fits =
+                  omega (
+                    arith,
+                    e,
+                    next_shifted,
+                    next_counted,
+                    at.rest_fits,
+                    start_next run.k (steps_in run) (suc i) (omega arith),
+                  );
+              last_fits = at.last_fits;
+            })
+
+      -- one more layer in the store
+      pub store_next : (next stored : List ℕ) → next ≡ honest_layer run (suc i)
+          → joined_layers (honest_layer run) (i + 1) ++ stored ≡ honest_store run
+          → joined_layers (honest_layer run) i ++ (next ++ stored) ≡ honest_store run
+      unfolding joined_layers
+      store_next next stored made e =
+          ap (λ (l : List ℕ). joined_layers (honest_layer run) i ++ (l ++ stored)) made
+          ∙ sym (append_assoc (joined_layers (honest_layer run) i) (honest_layer run (suc i)) stored)
+          ∙ ap (λ (n : ℕ). joined_layers (honest_layer run) n ++ stored) (sym (add-one i)) ∙ e

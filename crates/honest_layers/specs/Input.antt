@@ -1,33 +1,49 @@
--- What the prover works on after the checks: the run without what the two lent lists held, since honest layers do not
--- depend on that.
-use Rattle.std.specs.Prelude.{◌≡◌, List, [], ℕ, ◌^◌, length}
+-- What the prover works on after the checks: the run of a claim without what the two lent lists held, since honest
+-- layers do not depend on that.
+use Rattle.std.specs.Prelude.{◌≡◌, List, [], ℕ, suc, ◌+◌, ◌^◌, ◌≤◌, length}
 use Rattle.coset.specs.Span.{Independent}
-use Rattle.fri.specs.Layout.{store_length}
-use Rattle.fri.specs.Run.{Run, steps_in, rounds_in, layer_in}
-use Rattle.fri.specs.Layers.{basis_in, offset_in}
+use Rattle.fri.specs.Layout.{dimension, layer_start, store_length}
+use Rattle.fri.specs.Run.{Run, steps_in, rounds_in}
+use Rattle.fri.specs.Layers.{basis_in, offset_in, honest_layer}
 use Rattle.fri.specs.Demand.{ValidParameters}
-use Rattle.layout.specs.declared.Parameters.{Parameters}
+use Rattle.layout.specs.declared.Claim.{Claim}
+use Rattle.layout.specs.Parameters.{run_claimed}
 use Rattle.layer_cosets.specs.declared.LayerCoset.{LayerCoset}
-use Rattle.layout.specs.Parameters.{run_of}
 use Rattle.layer_cosets.specs.Cosets.{layer_coset_of}
 
 -- the run of a prover, with empty lists in the place of the lent ones
-abbrev pub input_of : (p : Parameters) (offset : ℕ) (basis challenges word : List ℕ) → Run
-input_of p offset basis challenges word = run_of p offset basis challenges word [] []
-
--- what is known of it, and of the number of entries in the store, after the checks
-pub record Passed (run : Run) (stored : ℕ) : Type 0 where
-  pub parameters : ValidParameters run.k run.rate run.step
-  pub basis : length run.basis ≡ run.k
-  pub challenges : length run.challenges ≡ rounds_in run
-  pub word : length run.word ≡ 2 ^ run.k
-  pub store : stored ≡ store_length run.k (steps_in run)
-  pub independent : Independent run.basis
+abbrev pub input_of : (claim : Claim) → Run
+input_of claim = run_claimed claim [] []
 
 -- the coset of layer i, by value
 abbrev pub coset_in : (run : Run) (i : ℕ) → LayerCoset
 coset_in run i = layer_coset_of (offset_in run i) (basis_in run i)
 
--- layer i, i < r, as word and store have it
-abbrev pub layer_from : (p : Parameters) (word store : List ℕ) (i : ℕ) → List ℕ
-layer_from p word store i = layer_in (run_of p 0 [] [] word store []) i
+module _ (claim : Claim) where
+  abbrev run : Run
+  run = input_of claim
+
+  -- what is known of a claim after the checks
+  pub record Sound : Type 0 where
+    pub parameters : ValidParameters run.k run.rate run.step
+    pub basis : length run.basis ≡ run.k
+    pub challenges : length run.challenges ≡ rounds_in run
+
+  -- and of the number of entries in the store, and in the list for layer r
+  pub record Passed (stored last : ℕ) : Type 0 where
+    pub claim_fits : Sound
+    pub word : length run.word ≡ 2 ^ run.k
+    pub store : stored ≡ store_length run.k (steps_in run)
+    pub last_fits : last ≡ 2 ^ dimension run.k (steps_in run) (rounds_in run)
+    pub independent : Independent run.basis
+
+  -- layer i with its coset, i < r, and as many entries in the rest of the store as come behind it
+  pub record LayerAt (i : ℕ) (coset : LayerCoset) (layer : List ℕ) (rest last : ℕ) : Type 0 where
+    pub claim_fits : Sound
+    pub round : suc i ≤ rounds_in run
+    pub coset_is : coset ≡ coset_in run i
+    pub independent : Independent coset.basis
+    pub layer_is : layer ≡ honest_layer run i
+    pub layer_fits : length layer ≡ 2 ^ dimension run.k (steps_in run) i
+    pub rest_fits : layer_start run.k (steps_in run) (suc i) + rest ≡ store_length run.k (steps_in run)
+    pub last_fits : last ≡ 2 ^ dimension run.k (steps_in run) (rounds_in run)

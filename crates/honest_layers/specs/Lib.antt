@@ -1,2 +1,1 @@
 pub mod Input
-pub mod Folds

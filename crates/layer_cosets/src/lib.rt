@@ -2,11 +2,13 @@
 #![tactic(auto)]
 
 ghost use Rattle.std.specs.Prelude.{◌≡◌, ◌≤◌, length};
+ghost use Rattle.coset.specs.Span.{Independent};
 ghost use Rattle.coset.specs.Steps.{step_elements};
 ghost use Rattle.coset.specs.Subspace.{next_offset, next_basis};
 ghost use Rattle.layer_cosets.specs.Cosets.{layer_coset_of};
 
 use field::Element;
+use points::Coset;
 use short_list::ShortList;
 
 // Offset and basis.
@@ -26,6 +28,14 @@ impl LayerCoset {
             offset,
             basis: ShortList::of(basis),
         }
+    }
+
+    // The coset that it is, where the basis is independent.
+    pub fn as_coset(&self) -> Coset<'_>
+        requires { Independent self.now.basis }
+        ensures { (result.offset ≡ self.now.offset) × (result.basis.now ≡ self.now.basis) }
+    {
+        Coset::new(self.offset, self.basis.as_slice())
     }
 
     // That of the next layer.

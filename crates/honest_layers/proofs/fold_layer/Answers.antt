@@ -1,33 +1,29 @@
 -- `honest_layers::fold_layer` meets its contract. Assumes nothing.
-use mathlib.Core.Path.{◌≡◌, sym, ap, ap₂, ◌∙◌}
+use mathlib.Core.Path.{sym, ap, ◌∙◌}
 use Prim.Native.Nat.{ℕ, ◌-◌, ◌^◌}
+use native.Mathlib.Omega.{arith}
 use lib.ListN.{length}
-use Rattle.honest_layers.specs.Folds.{fold_over}
-use Rattle.honest_layers.proofs.Folds.{basis_whole, elements_counted, elements_fit}
-use borrow.Author.Rules.{rules}
+use Rattle.coset.specs.Steps.{step_elements}
+use Rattle.coset.proofs.Steps.{length-elements}
+use Rattle.coset.proofs.Subspace.{elements_taken}
 use Rattle.honest_layers.proofs.fold_layer.Goals as goal
 
 pub fill_values-requires : goal.fill_values-requires
 fill_values-requires c =
-    let a = c.args in
-    let f = c.requires.foldable in
-    let elements = c.step_elements-elements in
-    let twenty : length a.coset.basis ≡ 20 = search rules in
-    let three : length elements.result ≡ 3 = search rules in
-    let count = elements_counted a.step a.coset f twenty elements.result three elements.ensures in
-    let all = basis_whole a.coset twenty f.dimension_most in
+    let step = c.args.step in
+    let basis = c.args.coset.basis.now in
+    let fits = c.requires.2 in
+    let are = elements_taken step basis c.step_elements-elements.result fits c.step_elements-elements.ensures in
+    let count = ap length are ∙ length-elements step basis fits in
     record {
-      step = elements_fit a.step a.coset f twenty elements.result three elements.ensures;
-      word_fits = c.requires.layer_fits ∙ ap (λ (n : ℕ). 2 ^ n) (sym all);
-      values_fit = c.requires.next_fits ∙ ap₂ (λ (m n : ℕ). 2 ^ (m - n)) (sym all) (sym count);
+      step = record {
+        some = omega (arith, count, c.requires.0);
+        few = omega (arith, count, c.requires.1);
+        fits = omega (arith, count, fits);
+        basis_fits = c.args.coset.few;
+        elements_are = are ∙ sym (ap (λ (n : ℕ). step_elements n basis) count);
+        independent = c.args.coset.independent;
+      };
+      word_fits = c.requires.3;
+      values_fit = c.requires.4 ∙ ap (λ (n : ℕ). 2 ^ (length basis - n)) (sym count);
     }
-
-pub returns : goal.returns
-returns c =
-    let a = c.args in
-    let elements = c.step_elements-elements in
-    let twenty : length a.coset.basis ≡ 20 = search rules in
-    let three : length elements.result ≡ 3 = search rules in
-    c.fill_values.ensures
-    ∙ ap (λ (n : ℕ). fold_over n a.coset a.layer.now a.challenge.0)
-    (elements_counted a.step a.coset c.requires.foldable twenty elements.result three elements.ensures)
