@@ -1,87 +1,88 @@
--- The entries of the table: an entry from that of the higher of its bits and that of the others. Assumes nothing.
+-- The entries of the table: a multiple from that of the higher of its bits and that of the others, and the blocks.
+-- Assumes nothing.
 use mathlib.Core.Path.{◌≡◌, sym, ap, ap₂, ◌∙◌, subst}
-use mathlib.Core.List.{List}
-use Prim.Native.Nat.{ℕ, ◌+◌, ◌*◌, ◌/◌, ◌%◌, ◌^◌, ◌≤◌, ◌<◌}
-use native.Mathlib.Nat.{one-mul, zero-mul, mul_comm, mul-add}
+use mathlib.Core.List.{List, ◌++◌}
+use Prim.Native.Nat.{ℕ, ◌+◌, ◌-◌, ◌*◌, ◌%◌, ◌^◌, ◌≤◌, ◌<◌}
+use native.Mathlib.Nat.{one-mul, mul-add}
 use native.Mathlib.Omega.{arith}
-use lib.ListN.{length, get_or, set}
-use lib.Seq.{get_or-set_same, get_or-set_other}
-use lib.Pow.{pow-add}
+use lib.Arith.{lt-one}
+use lib.ListN.{length, get_or, set, take, drop, get_or-append}
+use lib.Seq.{get_or-set_same, get_or-set_other, get_or-append-add, length-take-le}
+use lib.Pow.{pow-add, pow_mono}
 use lib.Bits.{bit_xor, xor_shifted, xor_comm}
 use borrow.Author.Count.{below_more}
+use borrow.Rule.Slice.PartMut.{put_mid}
 use Rattle.gf64.specs.Field.{product}
-use Rattle.gf64.proofs.Xor.{xor_shift}
-use Rattle.gf64.proofs.Ring.{product-add_r, product-zero_r, product_one_r}
-use Rattle.multiplier.specs.Table.{placed, Filled, Multiples}
+use Rattle.gf64.proofs.Ring.{product-add_r, product-zero_r, product_one_r, product_assoc, product_comm}
+use Rattle.multiplier.specs.Table.{Filled, Multiples}
+use Rattle.std.proofs.lemmas.List.{get_or-take}
 use Rattle.multiplier.proofs.Places.{product_shifted}
 
--- ---- the polynomial of an entry
+-- ---- a block
 
-place_of : (m n v : ℕ) → v < 16 → m ≡ 16 * n + v → m / 16 ≡ n
-place_of m n v h e = omega arith
+-- its longest row ends where it does
+pub row_within : (k : ℕ) → k < 4 → 1 * 2 ^ k % 2 ^ 64 + 1 * 2 ^ k % 2 ^ 64 ≤ 16
+row_within k h = omega (arith, pow_mono {i = k} {j = 3} (omega arith))
 
-digit_of : (m n v : ℕ) → v < 16 → m ≡ 16 * n + v → m % 16 ≡ v
-digit_of m n v h e = omega arith
+pub filled_zero : (b : ℕ) (t : List ℕ) → 0 < length t → Filled b (set t 0 0) 1
+filled_zero b t h v l =
+    subst (λ (m : ℕ). get_or (set t 0 0) m 0 ≡ product b m) (sym (lt-one l))
+    (get_or-set_same t 0 0 0 h ∙ sym (product-zero_r b))
 
-placed_at : (m n v : ℕ) → v < 16 → m ≡ 16 * n + v → placed m ≡ v * 2 ^ (4 * n)
-placed_at m n v h e = ap₂ (λ (u q : ℕ). u * 2 ^ (4 * q)) (digit_of m n v h e) (place_of m n v h e)
-
--- the sum of the entry of bit k and that of the bits below it
-placed-sum : (at count n k j : ℕ) → at ≡ 16 * n → count ≡ 2 ^ k → count ≤ 8 → j < count
-    → bit_xor (placed (at + j)) (placed (at + count)) ≡ placed (at + count + j)
-placed-sum at count n k j ea ec h l =
-    ap₂ bit_xor (placed_at (at + j) n j (omega arith) (omega arith))
-    (placed_at (at + count) n count (omega arith) (omega arith))
-    ∙ xor_shift (4 * n) j count
-    ∙ ap (λ (v : ℕ). v * 2 ^ (4 * n)) (xor_comm j count ∙ joined)
-    ∙ sym (placed_at (at + count + j) n (count + j) (omega arith) (omega arith))
+-- the sum of the multiple by t^k and that by j, of fewer than k + 1 bits
+pub filled_next : (b k count j step : ℕ) (t : List ℕ) → count ≡ 2 ^ k → step ≡ product b (2 ^ k) → j < count
+    → count + j < length t → Filled b t (count + j)
+    → Filled b (set t (count + j) (bit_xor (get_or t j 0) step)) (count + (j + 1))
+filled_next b k count j step t ec es h inside filled v l =
+    below_more (λ m. get_or (set t (count + j) (bit_xor (get_or t j 0) step)) m 0 ≡ product b m) (count + j)
+    (λ m i. get_or-set_other t (count + j) m (bit_xor (get_or t j 0) step) 0 (omega arith) ∙ filled m i)
+    (get_or-set_same t (count + j) (bit_xor (get_or t j 0) step) 0 inside ∙ sum) v (omega arith)
   where
-    one_power : count ≡ 1 * 2 ^ k
-    one_power = ec ∙ sym (one-mul (2 ^ k))
-
-    joined : bit_xor count j ≡ count + j
+    joined : bit_xor j count ≡ count + j
     joined =
-        ap (λ (v : ℕ). bit_xor v j) one_power ∙ xor_shifted 1 k j (rw ec at l)
-        ∙ ap (λ (v : ℕ). v + j) (sym one_power)
+        xor_comm j count ∙ ap (λ (u : ℕ). bit_xor u j) (ec ∙ sym (one-mul (2 ^ k))) ∙ xor_shifted 1 k j (rw ec at h)
+        ∙ ap (λ (u : ℕ). u + j) (one-mul (2 ^ k) ∙ sym ec)
 
--- ---- one entry more
+    sum : bit_xor (get_or t j 0) step ≡ product b (count + j)
+    sum =
+        ap₂ bit_xor (filled j (omega arith)) (es ∙ ap (product b) (sym ec)) ∙ sym (product-add_r b j count)
+        ∙ ap (product b) joined
 
-pub filled_next : (c : ℕ) (t : List ℕ) (m v : ℕ) → m < length t → Filled c t m → v ≡ product c (placed m)
-    → Filled c (set t m v) (m + 1)
-filled_next c t m v inside filled e =
-    below_more (λ k. get_or (set t m v) k 0 ≡ product c (placed k)) m
-    (λ k l. get_or-set_other t m k v 0 (omega arith) ∙ filled k l) (get_or-set_same t m v 0 inside ∙ e)
+-- ---- the blocks of c
 
--- entry 16 · n is zero
-pub filled_zero : (c : ℕ) (t : List ℕ) (at n : ℕ) → at < length t → at ≡ 16 * n → Filled c t at
-    → Filled c (set t at 0) (at + 1)
-filled_zero c t at n inside e filled =
-    filled_next c t at 0 inside filled
-    (sym (product-zero_r c) ∙ ap (product c)
-    (sym (zero-mul (2 ^ (4 * n))) ∙ sym (placed_at at n 0 (omega arith) (omega arith))))
+-- the first n blocks are those of the table of c
+abbrev pub Blocks : (c : ℕ) (table : List ℕ) (n : ℕ) → Type 0
+Blocks c table n = (i v : ℕ) → i < n → v < 2 ^ 4 → get_or table (16 * i + v) 0 ≡ product c (v * 2 ^ (4 * i))
 
-pub from_sum : (c at count n k j x step : ℕ) → at ≡ 16 * n → count ≡ 2 ^ k → count ≤ 8 → j < count
-    → x ≡ product c (placed (at + j)) → step ≡ product c (placed (at + count))
-    → bit_xor x step ≡ product c (placed (at + count + j))
-from_sum c at count n k j x step ea ec h l ex es =
-    ap₂ bit_xor ex es ∙ sym (product-add_r c (placed (at + j)) (placed (at + count)))
-    ∙ ap (product c) (placed-sum at count n k j ea ec h l)
+placed : (c n b v : ℕ) → b ≡ product c (2 ^ (4 * n)) → product b v ≡ product c (v * 2 ^ (4 * n))
+placed c n b v e =
+    ap (λ (x : ℕ). product x v) e ∙ product_assoc c (2 ^ (4 * n)) v ∙ ap (product c) (product_comm (2 ^ (4 * n)) v)
+    ∙ sym (product_assoc c v (2 ^ (4 * n))) ∙ product_shifted c v (4 * n)
 
--- ---- the rows of a block
+-- entry i of a list in whose place from p on n entries are put
+below_put : (p n i : ℕ) (table block : List ℕ) → i < p → p ≤ length table
+    → get_or (put_mid p n table block) i 0 ≡ get_or table i 0
+below_put p n i table block h l =
+    get_or-append (take p table) (block ++ drop n (drop p table)) 0 i (omega (arith, length-take-le p table l))
+    ∙ get_or-take p table i 0 h
 
--- the step b · t^k is entry at + 2^k
-pub step_at : (c at n k b step : ℕ) → at ≡ 16 * n → 2 ^ k < 16 → b ≡ product c (2 ^ (4 * n))
-    → step ≡ product b (2 ^ k) → step ≡ product c (placed (at + 2 ^ k))
-step_at c at n k b step ea h eb es =
-    es ∙ ap (λ (x : ℕ). product x (2 ^ k)) eb ∙ product_shifted c (2 ^ (4 * n)) k
-    ∙ ap (product c)
-    (mul_comm (2 ^ (4 * n)) (2 ^ k) ∙ sym (placed_at (at + 2 ^ k) n (2 ^ k) h (ap (λ (x : ℕ). x + 2 ^ k) ea)))
+put_at : (p n v : ℕ) (table block : List ℕ) → v < length block → p ≤ length table
+    → get_or (put_mid p n table block) (p + v) 0 ≡ get_or block v 0
+put_at p n v table block h l =
+    ap (λ (m : ℕ). get_or (put_mid p n table block) (m + v) 0) (sym (length-take-le p table l))
+    ∙ get_or-append-add (take p table) (block ++ drop n (drop p table)) v 0
+    ∙ get_or-append block (drop n (drop p table)) 0 v h
 
-pub next_step : (b k step next : ℕ) → step ≡ product b (2 ^ k) → next ≡ product step (2 ^ 1)
-    → next ≡ product b (2 ^ k * 2 ^ 1)
-next_step b k step next es en = en ∙ ap (λ (x : ℕ). product x (2 ^ 1)) es ∙ product_shifted b (2 ^ k) 1
-
--- ---- all entries
+pub blocks_next : (c n b : ℕ) (table block : List ℕ) → b ≡ product c (2 ^ (4 * n)) → 16 * n + 16 ≤ length table
+    → length block ≡ 16 → Blocks c table n → Filled b block 16
+    → Blocks c (put_mid (16 * n) (16 * n + 16 - 16 * n) table block) (n + 1)
+blocks_next c n b table block eb inside sixteen blocks filled i v h l =
+    below_more (λ m. get_or (put_mid (16 * n) (16 * n + 16 - 16 * n) table block) (16 * m + v) 0 ≡ product c (v * 2 ^ (4 * m)))
+    n
+    (λ m k. below_put (16 * n) (16 * n + 16 - 16 * n) (16 * m + v) table block (omega arith) (omega arith) ∙ blocks m v k l)
+    (put_at (16 * n) (16 * n + 16 - 16 * n) v table block (omega arith) (omega arith) ∙ filled v (omega arith)
+    ∙ placed c n b v eb)
+    i h
 
 pub next_place : (c n b next : ℕ) → b ≡ product c (2 ^ (4 * n)) → next ≡ product b (2 ^ 4)
     → next ≡ product c (2 ^ (4 * (n + 1)))
@@ -89,19 +90,14 @@ next_place c n b next eb en =
     en ∙ ap (λ (x : ℕ). product x (2 ^ 4)) eb ∙ product_shifted c (2 ^ (4 * n)) 4
     ∙ ap (product c) (sym (pow-add 2 (4 * n) 4) ∙ ap (λ (k : ℕ). 2 ^ k) (sym (mul-add 4 n 1)))
 
-pub filled_all : (c : ℕ) (t : List ℕ) → Filled c t 64 → Multiples c t
-filled_all c t filled =
-    record {
-      at = λ n v hn hv.
-          filled (16 * n + v) (omega arith)
-          ∙ ap (product c) (placed_at (16 * n + v) n v hv (omega arith));
-    }
-
 -- ---- the element whose table it is
 
 -- entry 1 is the element itself
-pub entry_one : (c : ℕ) (t : List ℕ) → c < 2 ^ 64 → Multiples c t → get_or t 1 0 ≡ c
-entry_one c t h m = m.at 0 1 (omega arith) (omega arith) ∙ product_one_r c h
+pub entry_one : (c : ℕ) (table : List ℕ) (n : ℕ) → c < 2 ^ 64 → 4 ≤ n → Blocks c table n → get_or table 1 0 ≡ c
+entry_one c table n h l blocks = blocks 0 1 (omega arith) (omega arith) ∙ product_one_r c h
 
-pub of_entry_one : (c : ℕ) (t : List ℕ) → c < 2 ^ 64 → Multiples c t → Multiples (get_or t 1 0) t
-of_entry_one c t h m = subst (λ (x : ℕ). Multiples x t) (sym (entry_one c t h m)) m
+pub all_blocks : (c : ℕ) (table : List ℕ) (n : ℕ) → c < 2 ^ 64 → 4 ≤ n → Blocks c table n
+    → Multiples (get_or table 1 0) table
+all_blocks c table n h l blocks =
+    subst (λ (x : ℕ). Multiples x table) (sym (entry_one c table n h l blocks))
+    (record { at = λ i v k u. blocks i v (omega arith) u })

@@ -1,7 +1,7 @@
 -- Products by t^k, and a product from those of the factor's parts. Assumes nothing.
 use mathlib.Core.Path.{◌≡◌, sym, ap, ap₂, ◌∙◌}
-use Prim.Native.Nat.{ℕ, ◌+◌, ◌*◌, ◌/◌, ◌%◌, ◌^◌, ◌<◌}
-use native.Mathlib.Nat.{mod-lt, mod-one, mod-eq_of_lt, one-mul, mul-one, mul-add, add_comm}
+use Prim.Native.Nat.{ℕ, ◌+◌, ◌*◌, ◌/◌, ◌%◌, ◌^◌}
+use native.Mathlib.Nat.{mod-lt, mod-one, one-mul, mul-one, mul-add, add_comm}
 use lib.Pow.{pow_pos, mod-pow-add}
 use lib.Bits.{bit_xor, xor_shifted, xor_comm}
 use Rattle.gf64.specs.Polynomial.{carryless, remainder}
@@ -62,7 +62,3 @@ more_bits_unreduced c x j n w part ew ep =
     (sym (product-power part (j * n)) ∙ ap (λ (p : ℕ). product p (2 ^ (j * n))) ep
     ∙ product_shifted c (x / 2 ^ (j * n) % 2 ^ j) (j * n))
     ∙ more_bits c x j n
-
--- four parts of j bits are all bits of a number of 4 · j bits
-pub all_bits : (c x j n : ℕ) → x < 2 ^ (j * 4) → n ≡ 4 → product c (x % 2 ^ (j * n)) ≡ product c x
-all_bits c x j n h e = ap (λ (m : ℕ). product c (x % 2 ^ (j * m))) e ∙ ap (product c) (mod-eq_of_lt h)

@@ -1,9 +1,9 @@
 // The product by a fixed element, by a table of its multiples: for a run of products by one element.
 #![tactic(auto)]
 
-ghost use Rattle.std.specs.Prelude.{◌≡◌, ◌+◌, ◌*◌, ◌^◌, ◌≤◌, ◌<◌, length};
+ghost use Rattle.std.specs.Prelude.{◌≡◌, ◌+◌, ℕ, ◌^◌, ◌≤◌, ◌<◌, length};
 ghost use Rattle.gf64.specs.Field.{product};
-ghost use Rattle.multiplier.specs.Table.{RowFilled, BlockFilled, Multiples, ProductBy};
+ghost use Rattle.multiplier.specs.Table.{Filled};
 
 use carryless::Wide;
 use field::Element;
@@ -32,14 +32,37 @@ impl Multiplier {
     pub fn of(c: Element) -> Multiplier
         ensures { result ≡ c.0 }
     {
-        let entries = multiples(c);
+        let mut entries = [0u64; 64];
+        let mut b = c.0;
+        for n in 0..4 {
+            fill_block(&mut entries[16 * n..16 * n + 16], b);
+            b = shifted(b, 4);
+        }
         Multiplier { entries }
     }
 
+    // Four products by 16 bits, reduced together.
     pub fn times(&self, x: u64) -> u64
         ensures { result ≡ product self.now x }
     {
-        times(&self.entries, x)
+        let mut w = Wide { high: 0, low: 0 };
+        for n in 0..4 {
+            let part = self.times16(((x >> (16 * n)) % 65536) as usize);
+            w = carryless::plus_shifted(w, part, 16 * n);
+        }
+        field::reduction::reduced(w)
+    }
+
+    // The product by 16 bits: a sum of four entries.
+    fn times16(&self, x: usize) -> u64
+        requires { x < 2 ^ 16 }
+        ensures { result ≡ product self.now x }
+    {
+        let mut sum: u64 = 0;
+        for n in 0..4 {
+            sum ^= self.entries[16 * n + (x >> (4 * n)) % 16];
+        }
+        sum
     }
 }
 
@@ -51,75 +74,37 @@ fn shifted(v: u64, k: u64) -> u64
     field::reduction::reduced(carryless::plus_shifted(Wide { high: 0, low: 0 }, v, k))
 }
 
-// The entries from at + count on, as many again: entry at + j and the step make entry at + count + j.
-fn row(t: &mut [u64], at: usize, count: usize, step: u64)
-    requires { at + 2 * count ≤ length t.old }
-    ensures { RowFilled at count step t.old t.new (at + count + count) }
+// The multiples of b by the polynomials of four bits.
+fn fill_block(block: &mut [u64], b: u64)
+    requires { length block.old ≡ 16 }
+    ensures { Filled b block.new 16 }
 {
-    let mut j: usize = 0;
-    while j < count {
-        t[at + count + j] = t[at + j] ^ step;
-        j += 1;
+    block[0] = 0;
+    for k in 0..4 {
+        fill_row(block, 1 << k, shifted(b, k));
     }
 }
 
-// The sixteen entries from at on, which are multiples of b by the polynomials of four bits.
-fn block(t: &mut [u64], at: usize, b: u64)
-    requires { at + 16 ≤ length t.old }
-    ensures { BlockFilled at b t.old t.new }
+// As many multiples again, each of them one that is there and the step.
+fn fill_row(block: &mut [u64], count: usize, step: u64)
+    requires { count + count ≤ length block.old }
+    ensures { (b k : ℕ) → count ≡ 2 ^ k → step ≡ product b (2 ^ k) → Filled b block.old count
+        → Filled b block.new (count + count) }
 {
-    let b1 = shifted(b, 1);
-    let b2 = shifted(b1, 1);
-    let b3 = shifted(b2, 1);
-    t[at] = 0;
-    row(t, at, 1, b);
-    row(t, at, 2, b1);
-    row(t, at, 4, b2);
-    row(t, at, 8, b3);
+    for j in 0..count {
+        block[count + j] = block[j] ^ step;
+    }
 }
 
-// The table of c: sixteen shifts, and a sum for each entry. It pays from the third product on.
-pub fn multiples(c: Element) -> [u64; 64]
-    ensures { Multiples c.0 result }
+// The same two by functions.
+pub fn multiples(c: Element) -> Multiplier
+    ensures { result ≡ c.0 }
 {
-    let mut t = [0u64; 64];
-    let mut b = c.0;
-    let mut n: usize = 0;
-    while n < 4 {
-        block(&mut t, 16 * n, b);
-        b = shifted(b, 4);
-        n += 1;
-    }
-    t
+    Multiplier::of(c)
 }
 
-// The product of x, of 16 bits, by the element whose table it is: a sum of four entries.
-fn times16(table: &[u64; 64], x: usize) -> u64
-    requires { x < 2 ^ 16 }
-    ensures { ProductBy table.now x result }
+pub fn times(by: &Multiplier, x: u64) -> u64
+    ensures { result ≡ product by.now x }
 {
-    let mut sum: u64 = 0;
-    let mut n: usize = 0;
-    while n < 4 {
-        sum = sum ^ table[16 * n + (x >> (4 * n)) % 16];
-        n += 1;
-    }
-    sum
-}
-
-// The product of x by the element whose table it is: four products by 16 bits, reduced together.
-pub fn times(table: &[u64; 64], x: u64) -> u64
-    ensures { ProductBy table.now x result }
-{
-    let mut w = Wide { high: 0, low: 0 };
-    let mut n: u64 = 0;
-    while n < 4 {
-        w = carryless::plus_shifted(
-            w,
-            times16(table, ((x >> (16 * n)) % 65536) as usize),
-            16 * n,
-        );
-        n += 1;
-    }
-    field::reduction::reduced(w)
+    by.times(x)
 }

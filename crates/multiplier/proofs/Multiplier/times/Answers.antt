@@ -1,8 +1,16 @@
 -- `multiplier::Multiplier::times` meets its contract. Assumes nothing.
 use mathlib.Core.Path.{ap, ◌∙◌}
-use Prim.Native.Nat.{ℕ}
-use Rattle.gf64.specs.Field.{product}
+use Rattle.gf64.specs.Polynomial.{remainder}
+use Rattle.gf64.proofs.Remainder.{remainder-zero}
+use Rattle.carryless.specs.Window.{wide_of}
+use Rattle.multiplier.proofs.Places.{no_bits, more_bits_unreduced}
 use Rattle.multiplier.proofs.Multiplier.times.Goals as goal
 
-pub returns : goal.returns
-returns c = c.times.ensures _ c.self.invariant ∙ ap (λ (e : ℕ). product e c.args.x) c.self.view_is
+pub loop-n-init : goal.loop-n-init
+loop-n-init c = remainder-zero ∙ no_bits c.args.self.now c.args.x
+
+pub loop-n-preserved : goal.loop-n-preserved
+loop-n-preserved c =
+    ap remainder c.plus_shifted-w.ensures
+    ∙ more_bits_unreduced c.args.self.now c.args.x 16 c.loop-n.n (wide_of c.loop-n.w) _ c.loop-n.invariant
+    c.times16-part.ensures
