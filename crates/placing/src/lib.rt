@@ -1,17 +1,24 @@
-// Puts a text into a lent list of bytes and answers where it ends, so that texts can stand one behind the other.
+// Texts put into a lent list of bytes, one behind the other.
 #![tactic(auto)]
 
-ghost use Rattle.std.specs.Prelude.{◌+◌, ◌≤◌, length};
-ghost use Rattle.placing.specs.Put.{Put};
+ghost use Rattle.std.specs.Prelude.{length};
+ghost use Rattle.placing.specs.Put.{Puts, HasRoom};
 
-pub fn put(text: &[u8], at: usize, out: &mut [u8]) -> usize
-    requires { at + length text.now ≤ length out.old }
-    ensures { Put out.old at text.now result out.new }
-{
-    let mut i: usize = 0;
-    while i < text.len() {
-        out[at + i] = text[i];
-        i += 1;
+// A lent list of bytes, and the place in it where the next text is put.
+#[derive(Drop)]
+pub struct Cursor<'a> {
+    pub out: &'a mut [u8],
+    pub at: usize,
+}
+
+impl<'a> Cursor<'a> {
+    // Puts a text at the place, which moves to its end.
+    pub fn put(&mut self, text: &[u8])
+        requires { HasRoom self.old (length text.now) }
+        ensures { Puts self.old text.now self.new }
+    {
+        let end = self.at + text.len();
+        self.out[self.at..end].copy_from_slice(text);
+        self.at = end;
     }
-    at + text.len()
 }

@@ -1,63 +1,55 @@
--- The digits of a number in a base, filled in from the back. Assumes nothing.
-use mathlib.Core.Path.{◌≡◌, sym, ap, ap₂, subst, ◌∙◌}
-use mathlib.Core.List.{List, [], ◌∷◌}
-use Prim.Native.Nat.{ℕ, zero, suc, ◌+◌, ◌-◌, ◌/◌, ◌%◌, ◌≤◌, ◌<◌}
+-- The digits of a number in a base, filled in from the back: what is still to come stands before what is filled in.
+-- Assumes nothing.
+use mathlib.Core.Path.{◌≡◌, sym, ap, ap₂, ◌∙◌}
+use mathlib.Core.List.{List, [], ◌∷◌, ◌++◌, append_assoc}
+use Prim.Native.Nat.{ℕ, suc, ◌+◌, ◌-◌, ◌/◌, ◌%◌, ◌≤◌, ◌<◌}
 use native.Mathlib.Omega.{arith}
-use lib.ListN.{length, get_or, take, set}
-use lib.Seq.{take_all, take-take, get_or-take, take_at, get_or_at}
+use lib.ListN.{length, take, drop, set}
+use lib.Seq.{take-add}
+use Rattle.std.proofs.lemmas.List.{drop-set}
 use Rattle.line_text.specs.Digits.{digit, digits}
-use Rattle.line_text.proofs.Decimals.{length_digits}
-use Rattle.placing.specs.Put.{Put}
-use Rattle.placing.proofs.Placing.{filled, filled_start, filled_next, filled_end}
 
--- the first i + 1 bytes of a text are the digits of what is left of a number: the last of them, and those before it
-module _ (text : List ℕ) (base i rest : ℕ) (same : take (suc i) text ≡ digits base (suc i) rest) where
-  last-digit : get_or text i 0 ≡ digit (rest % base)
-  unfolding digits
-  last-digit =
-      sym (get_or-take (suc i) text i 0 (omega arith)) ∙ ap (λ (s : List ℕ). get_or s i 0) same
-      ∙ get_or_at (digits base i (rest / base)) (digit (rest % base)) [] 0 i (length_digits base i (rest / base))
+-- the last digit of what is still to come
+digits_next : (base at place rest : ℕ) → at < place
+    → digits base (place - at) rest ≡ digits base (place - 1 - at) (rest / base) ++ (digit (rest % base) ∷ [])
+unfolding digits
+digits_next base at place rest h =
+    let more : place - at ≡ suc (place - 1 - at) = omega arith in ap (λ (width : ℕ). digits base width rest) more
 
-  earlier_digits : take i text ≡ digits base i (rest / base)
-  unfolding digits
-  earlier_digits =
-      sym (take-take i (suc i) text (omega arith)) ∙ ap (take i) same
-      ∙ take_at (digits base i (rest / base)) (digit (rest % base) ∷ []) i (length_digits base i (rest / base))
+-- what is filled in, with a byte before it
+byte_set : (out : List ℕ) (place end v : ℕ) → 0 < place → place ≤ end → end ≤ length out
+    → take (end - (place - 1)) (drop (place - 1) (set out (place - 1) v)) ≡ v ∷ take (end - place) (drop place out)
+byte_set out place end v h within room =
+    let more : end - (place - 1) ≡ suc (end - place) = omega arith in
+    let same : place - 1 + 1 ≡ place = omega arith in
+    ap (take (end - (place - 1))) (drop-set out (place - 1) v (omega arith))
+    ∙ ap₂ (λ (n m : ℕ). take n (v ∷ drop m out)) more same
 
--- a text is filled in from the back: `left` of its bytes are to come, the digits of what is left of the number
-pub record Filling (held text : List ℕ) (base at : ℕ) (out : List ℕ) (rest left : ℕ) : Type 0 where
-  pub list : out ≡ filled held text at left
-  pub digits : take left text ≡ digits base left rest
+module _ (out whole : List ℕ) (base at place end rest : ℕ) where
+  pub filled_next : (v : ℕ) → at < place → place ≤ end → end ≤ length out → v ≡ digit (rest % base)
+      → digits base (place - at) rest ++ take (end - place) (drop place out) ≡ whole
+      → digits base (place - 1 - at) (rest / base) ++ take (end - (place - 1)) (drop (place - 1) (set out (place - 1) v))
+      ≡ whole
+  filled_next v h within room is filled =
+      let tail = take (end - place) (drop place out) in
+      let before = digits base (place - 1 - at) (rest / base) in
+      ap (λ (l : List ℕ). before ++ l) (byte_set out place end v (omega arith) within room)
+      ∙ ap (λ (d : ℕ). before ++ (d ∷ tail)) is
+      ∙ sym (append_assoc before (digit (rest % base) ∷ []) tail)
+      ∙ ap (λ (l : List ℕ). l ++ tail) (sym (digits_next base at place rest h))
+      ∙ filled
 
-module _ (held : List ℕ) (base width n at : ℕ) (room : at + width ≤ length held) where
-  abbrev text : List ℕ
-  text = digits base width n
-
-  pub filling_start : Filling held text base at held n width
-  filling_start =
-      record {
-        list = filled_start held text at width (length_digits base width n);
-        digits = take_all width text (omega (arith, length_digits base width n));
-      }
-
-  pub filling_next : (out : List ℕ) (rest left v : ℕ) → 0 < left → left ≤ width → v ≡ digit (rest % base)
-      → Filling held text base at out rest left
-      → Filling held text base at (set out (at + left - 1) v) (rest / base) (left - 1)
-  filling_next out rest zero v h l e f = absurd (omega arith)
-  filling_next out rest (suc i) v h l e f =
-      let place : at + suc i - 1 ≡ at + i = omega arith in
-      let less : i ≡ suc i - 1 = omega arith in
-      subst (Filling held text base at (set out (at + suc i - 1) v) (rest / base)) less
-      (record {
-        list =
-            ap₂ (λ (o : List ℕ) (m : ℕ). set o m v) f.list place
-            ∙ filled_next held text at i v
-            (omega (arith, length_digits base width n))
-            (omega (arith, length_digits base width n))
-            (e ∙ sym (last-digit text base i rest f.digits));
-        digits = earlier_digits text base i rest f.digits;
-      })
-
-  pub filling_end : (out : List ℕ) (rest left : ℕ) → left ≡ 0 → Filling held text base at out rest left
-      → Put held at text (at + width) out
-  filling_end out rest left none f = filled_end held text at width left f.list none (length_digits base width n) room
+-- nothing is still to come
+pub filled_end : (out whole : List ℕ) (base at place width rest : ℕ) → place ≤ at → at ≤ place
+    → digits base (place - at) rest ++ take (at + width - place) (drop place out) ≡ whole
+    → take (at + width) out ≡ take at out ++ whole
+unfolding digits
+filled_end out whole base at place width rest less more filled =
+    let none : 0 ≡ place - at = omega arith in
+    let all : width ≡ at + width - place = omega arith in
+    let same : at ≡ place = omega arith in
+    take-add at width out
+    ∙ ap (λ (l : List ℕ). take at out ++ l)
+    (ap₂ (λ (n m : ℕ). take n (drop m out)) all same
+    ∙ ap (λ (n : ℕ). digits base n rest ++ take (at + width - place) (drop place out)) none
+    ∙ filled)

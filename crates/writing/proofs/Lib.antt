@@ -1,1 +1,2 @@
+mod Powers
 mod Filling
