@@ -1,3 +1,2 @@
-pub mod Pieces
 mod Numbers
 mod Entries

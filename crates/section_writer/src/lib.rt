@@ -1,52 +1,46 @@
-// Counts, entries and sections put into a lent list of bytes, little-endian. Each function answers where it ends, so
-// that the next can stand behind it.
+// Counts, entries and sections of a transcript put at a cursor, little-endian.
 #![tactic(auto)]
 
-ghost use Rattle.std.specs.Prelude.{◌+◌, ◌*◌, ◌≤◌, length};
-ghost use Rattle.placing.specs.Put.{Put};
+ghost use Rattle.std.specs.Prelude.{◌+◌, ◌*◌, length};
+ghost use Rattle.placing.specs.Put.{Puts, HasRoom};
 ghost use Rattle.written.specs.Bytes.{count_bytes, entry_bytes, entries_bytes, section_bytes};
 
-// A count, in 4 bytes: of a larger number the lowest four. The stores stand one by one, since the compiler then makes
-// one of them, and one of an entry's eight.
-pub fn put_count(count: u64, at: usize, out: &mut [u8]) -> usize
-    requires { at + 4 ≤ length out.old }
-    ensures { Put out.old at (count_bytes count) result out.new }
+use placing::Cursor;
+
+// A count, in 4 bytes: of a larger number the lowest four.
+#[tactic(auto, using(crate::proofs::Numbers::count_is))]
+pub fn put_count(count: u64, cursor: &mut Cursor)
+    requires { HasRoom cursor.old 4 }
+    ensures { Puts cursor.old (count_bytes count) cursor.new }
 {
-    out[at] = (count % 256) as u8;
-    out[at + 1] = (count / 256 % 256) as u8;
-    out[at + 2] = (count / 65536 % 256) as u8;
-    out[at + 3] = (count / 16777216 % 256) as u8;
-    at + 4
+    cursor.put(&count.to_le_bytes()[..4]);
 }
 
-// An entry, in 8 bytes: its low half and its high half.
-pub fn put_entry(entry: u64, at: usize, out: &mut [u8]) -> usize
-    requires { at + 8 ≤ length out.old }
-    ensures { Put out.old at (entry_bytes entry) result out.new }
+// An entry, in 8 bytes.
+#[tactic(auto, using(crate::proofs::Numbers::entry_is))]
+pub fn put_entry(entry: u64, cursor: &mut Cursor)
+    requires { HasRoom cursor.old 8 }
+    ensures { Puts cursor.old (entry_bytes entry) cursor.new }
 {
-    let high = put_count(entry, at, out);
-    put_count(entry / 4294967296, high, out)
+    cursor.put(&entry.to_le_bytes());
 }
 
 // Entries one after the other.
-pub fn put_entries(entries: &[u64], at: usize, out: &mut [u8]) -> usize
-    requires { at + 8 * length entries.now ≤ length out.old }
-    ensures { Put out.old at (entries_bytes entries.now) result out.new }
+pub fn put_entries(entries: &[u64], cursor: &mut Cursor)
+    requires { HasRoom cursor.old (8 * length entries.now) }
+    ensures { Puts cursor.old (entries_bytes entries.now) cursor.new }
 {
-    let mut place = at;
-    let mut i: usize = 0;
-    while i < entries.len() {
-        place = put_entry(entries[i], place, out);
-        i += 1;
+    for entry in entries {
+        put_entry(*entry, cursor);
     }
-    place
 }
 
 // A section: its count and its entries.
-pub fn put_section(entries: &[u64], at: usize, out: &mut [u8]) -> usize
-    requires { at + 4 + 8 * length entries.now ≤ length out.old }
-    ensures { Put out.old at (section_bytes entries.now) result out.new }
+#[tactic(auto, using(placing::proofs::Puts::puts_append, written::proofs::Bytes::length_number), unfolding(written::specs::Bytes::section_bytes))]
+pub fn put_section(entries: &[u64], cursor: &mut Cursor)
+    requires { HasRoom cursor.old (4 + 8 * length entries.now) }
+    ensures { Puts cursor.old (section_bytes entries.now) cursor.new }
 {
-    let first = put_count(entries.len() as u64, at, out);
-    put_entries(entries, first, out)
+    put_count(entries.len() as u64, cursor);
+    put_entries(entries, cursor);
 }

@@ -1,50 +1,18 @@
--- `section_writer::put_entries` meets its contract. The loop's invariant: the entries before the i-th are put, and
--- the others are to come. Assumes nothing.
-use mathlib.Core.Path.{sym, ap, ◌∙◌}
-use mathlib.Core.List.{◌++◌}
-use Prim.Native.Nat.{ℕ, ◌<◌}
-use native.Mathlib.Numerals.{add-one}
+-- `section_writer::put_entries` meets its contract: an entry stands behind those so far. Assumes nothing.
 use native.Mathlib.Omega.{arith}
-use lib.ListN.{length, get_or, drop}
-use borrow.Author.Rules.{rules}
-use Rattle.written.specs.Bytes.{entry_bytes, entries_bytes}
-use Rattle.written.proofs.Bytes.{length-entries_bytes}
-use Rattle.section_writer.proofs.Pieces.{nothing_put, next_piece, all_put, rest_fits}
-use Rattle.section_writer.proofs.Entries.{entries_from, entries_none, entry_left}
+use Rattle.placing.proofs.Puts.{puts_append, puts_same, puts_nothing, ends, same_size}
+use Rattle.section_writer.proofs.Entries.{entries_none, entries_next, length_so_far}
 use Rattle.section_writer.proofs.put_entries.Goals as goal
 
-pub loop-i-init : goal.loop-i-init
-loop-i-init c =
-    let a = c.args in
-    (search rules, nothing_put a.out.now (entries_bytes a.entries.now) a.at (omega arith))
+pub loop-entry-init : goal.loop-entry-init
+loop-entry-init c = puts_same (puts_nothing c.args.cursor.now (omega (arith, c.requires))) entries_none
 
-pub put_entry-place-requires : goal.put_entry-place-requires
-put_entry-place-requires c =
-    let start = c in
-    let l = c.loop-i in
-    let entries = start.args.entries.now in
-    let inside : l.i < length entries = search rules in
-    omega (
-      arith,
-      rest_fits l.invariant.1 (omega (arith, length-entries_bytes entries, start.requires)),
-      entry_left entries l.i inside,
-    )
+pub put_entry-requires : goal.put_entry-requires
+put_entry-requires c =
+    let l = c.loop-entry in
+    omega (arith, ends l.invariant, same_size l.invariant, length_so_far c.args.entries.now l.entry-index c.loop-entry-test.true)
 
-pub loop-i-preserved : goal.loop-i-preserved
-loop-i-preserved c =
-    let start = c in
-    let l = c.loop-i in
-    let entries = start.args.entries.now in
-    let inside : l.i < length entries = search rules in (
-      search rules,
-      next_piece l.invariant.1
-          (entries_from entries l.i inside
-          ∙ ap (λ (n : ℕ). entry_bytes (get_or entries l.i 0) ++ entries_bytes (drop n entries)) (sym (add-one l.i)))
-          c.put_entry-place.ensures,
-    )
-
-pub returns : goal.returns
-returns c =
-    let a = c.args in
-    let l = c.loop-i in
-    all_put l.invariant.1 (entries_none a.entries.now l.i (omega arith))
+pub loop-entry-preserved : goal.loop-entry-preserved
+loop-entry-preserved c =
+    puts_same (puts_append c.loop-entry.invariant c.put_entry.ensures)
+    (entries_next c.args.entries.now c.loop-entry.entry-index c.loop-entry-test.true)
