@@ -1,62 +1,87 @@
 // What the program `judge` prints of a verdict: a header and a line.
 #![tactic(auto)]
 
-ghost use Rattle.std.specs.Prelude.{◌≡◌, ◌++◌, ◌+◌, ◌-◌, ◌≤◌, length, take, drop, replicate};
+ghost use Rattle.std.specs.Prelude.{◌≡◌, ◌++◌, ◌+◌, ◌≤◌, []};
 ghost use Rattle.line_text.specs.Digits.{bytes};
-ghost use Rattle.placing.specs.Put.{Put};
+ghost use Rattle.placing.specs.Put.{Puts, HasRoom};
 ghost use Rattle.line_text.specs.Lines.{or_hyphen, numbers_text, line_of, lines_of};
 
 use fri::Verdict;
-use placing::put;
+use placing::Cursor;
+use std::marker::Model;
 use writing::put_number;
 
-// `length` bytes at the front of the array, and zeros after them: at most 32 of the header and 93 of the line.
+// A text of at most 128 bytes: at most 32 of the header and 93 of the line. It stands at the front of the array, and
+// zeros after it.
 #[derive(Drop)]
 pub struct Text {
-    pub bytes: [u8; 128],
-    pub length: usize,
+    bytes: [u8; 128],
+    length: usize,
 }
 
-// The header and the line. The clause `fits` is what a caller needs for `&bytes[..length]`.
+impl Model for Text {
+    ghost use Rattle.std.specs.Prelude.{◌≡◌, List, ℕ, ◌-◌, ◌≤◌, take, drop, replicate};
+
+    ghost Value = { List ℕ };
+
+    ghost view = { λ t. take t.length t.bytes };
+
+    ghost invariant = { λ t. (t.length ≤ 128) × (drop t.length t.bytes ≡ replicate (128 - t.length) 0) };
+}
+
+impl Text {
+    // No byte.
+    pub fn new() -> Text
+        ensures { result ≡ [] }
+    {
+        Text {
+            bytes: [0; 128],
+            length: 0,
+        }
+    }
+
+    pub fn as_bytes(&self) -> &[u8]
+        ensures { result.now ≡ self.now }
+    {
+        &self.bytes[..self.length]
+    }
+}
+
+// The header and the line.
 pub fn lines(verdict: Verdict) -> Text
-    ensures text { take result.length result.bytes ≡ lines_of verdict }
-    ensures rest { drop result.length result.bytes ≡ replicate (128 - result.length) 0 }
-    ensures fits { (result.length ≤ 128) × (result.length ≤ length result.bytes) × (result.length ≡ length (take result.length result.bytes)) }
+    ensures { result ≡ lines_of verdict }
 {
     let mut bytes = [0u8; 128];
-    let start = put(b"answer number place round reads\n", 0, &mut bytes);
-    let length = put_line(verdict, start, &mut bytes);
+    let mut cursor = Cursor {
+        out: &mut bytes,
+        at: 0,
+    };
+    cursor.put(b"answer number place round reads\n");
+    put_line(verdict, &mut cursor);
+    let length = cursor.at;
     Text { bytes, length }
 }
 
 // `accepted` or `refused`, at most 8 bytes, and what follows it, at most 85.
-fn put_line(verdict: Verdict, at: usize, out: &mut [u8]) -> usize
-    requires { at + 93 ≤ length out.old }
-    ensures { Put out.old at (line_of verdict) result out.new }
+#[tactic(auto, using(placing::proofs::Puts::puts_append), unfolding(line_text::specs::Digits::bytes, line_text::specs::Lines::answer_text, line_text::specs::Lines::line_of))]
+fn put_line(verdict: Verdict, cursor: &mut Cursor)
+    requires { HasRoom cursor.old 93 }
+    ensures { Puts cursor.old (line_of verdict) cursor.new }
 {
-    let answer = verdict.answer;
-    match answer {
+    match verdict.answer {
         Ok(()) => {
-            let end = put(b"accepted", at, out);
-            put_numbers(
-                0,
-                None,
-                None,
-                verdict.reads,
-                end,
-                out,
-            )
+            cursor.put(b"accepted");
+            put_numbers(0, None, None, verdict.reads, cursor);
         }
         Err(cause) => {
-            let end = put(b"refused", at, out);
+            cursor.put(b"refused");
             put_numbers(
                 cause.number(),
                 cause.place(),
                 cause.round(),
                 verdict.reads,
-                end,
-                out,
-            )
+                cursor,
+            );
         }
     }
 }
@@ -67,27 +92,27 @@ fn put_numbers(
     place: Option<usize>,
     round: Option<usize>,
     reads: u64,
-    at: usize,
-    out: &mut [u8],
-) -> usize
-    requires { at + 85 ≤ length out.old }
-    ensures { Put out.old at (numbers_text number place round reads) result out.new }
+    cursor: &mut Cursor,
+)
+    requires { HasRoom cursor.old 85 }
+    ensures { Puts cursor.old (numbers_text number place round reads) cursor.new }
 {
-    let number_end = put_number(number, at, out);
-    let place_end = put_position(place, number_end, out);
-    let round_end = put_position(round, place_end, out);
-    let reads_end = put_number(reads, round_end, out);
-    put(b"\n", reads_end, out)
+    put_number(number, cursor);
+    put_position(place, cursor);
+    put_position(round, cursor);
+    put_number(reads, cursor);
+    cursor.put(b"\n");
 }
 
 // A space, and a place or a round or a hyphen.
-fn put_position(position: Option<usize>, at: usize, out: &mut [u8]) -> usize
-    requires { at + 21 ≤ length out.old }
-    ensures text { Put out.old at (bytes " " ++ or_hyphen position) result out.new }
-    ensures short { result ≤ at + 21 }
+#[tactic(auto, unfolding(line_text::specs::Digits::bytes, line_text::specs::Lines::or_hyphen))]
+fn put_position(position: Option<usize>, cursor: &mut Cursor)
+    requires { HasRoom cursor.old 21 }
+    ensures text { Puts cursor.old (bytes " " ++ or_hyphen position) cursor.new }
+    ensures short { cursor.new.at ≤ cursor.old.at + 21 }
 {
     match position {
-        Some(n) => put_number(n as u64, at, out),
-        None => put(b" -", at, out),
+        Some(n) => put_number(n as u64, cursor),
+        None => cursor.put(b" -"),
     }
 }
