@@ -1,65 +1,36 @@
--- `run_writer::put_stored_layers` meets its contract. The loop's invariant: the layers before the i-th are put, and
--- the others are to come. Assumes nothing.
-use mathlib.Core.Path.{◌≡◌, sym, ap, ◌∙◌}
-use mathlib.Core.List.{List, ◌++◌}
-use Prim.Native.Nat.{ℕ, ◌+◌, ◌-◌, ◌<◌}
+-- `run_writer::put_stored_layers` meets its contract: a layer stands behind those so far. Assumes nothing.
 use native.Mathlib.Omega.{arith}
-use lib.ListN.{length}
 use borrow.Author.Rules.{rules}
-use Rattle.fri.specs.Lookup.{layer_part}
-use Rattle.layout.specs.declared.Parameters.{Parameters}
+use lib.ListN.{length}
 use Rattle.layout.specs.Parameters.{steps_by}
-use Rattle.layout.proofs.Sizes.{one_round}
-use Rattle.section_writer.proofs.Pieces.{nothing_put, next_piece, all_put}
-use Rattle.written.specs.Bytes.{section_bytes, sections_bytes}
-use Rattle.run_writer.specs.Layers.{stored_layers}
-use Rattle.run_writer.proofs.Sections.{section_fits, layers_from, layers_none}
+use Rattle.placing.proofs.Puts.{puts_append, puts_same, puts_nothing, ends, same_size}
+use Rattle.run_writer.proofs.Sections.{no_layers, layer_next, layer_room}
 use Rattle.run_writer.proofs.put_stored_layers.Goals as goal
-
--- layer i is one of those that are to come, and the next piece
-next_is : (p : Parameters) (store layer : List ℕ) (i n : ℕ)
-    → i < n → layer ≡ layer_part p.k p.rate p.step store i
-    → sections_bytes (stored_layers p store i (n - i))
-    ≡ section_bytes layer ++ sections_bytes (stored_layers p store (i + 1) (n - (i + 1)))
-next_is p store layer i n h e =
-    layers_from p store i n h
-    ∙ ap (λ (l : List ℕ). section_bytes l ++ sections_bytes (stored_layers p store (i + 1) (n - (i + 1)))) (sym e)
 
 pub loop-i-init : goal.loop-i-init
 loop-i-init c =
     let a = c.args in
-    let p = a.parameters in
-    let whole = sections_bytes (stored_layers p a.store.now 1 (length (steps_by p) - 1)) in
-    (search rules, one_round p c.requires.valid, nothing_put a.out.now whole a.at (omega (arith, c.requires.room)))
+    (search rules, puts_same (puts_nothing a.cursor.now (omega (arith, c.requires))) (no_layers a.shape.parameters a.store.now))
 
-pub put_section-place-requires : goal.put_section-place-requires
-put_section-place-requires c =
+pub put_section-requires : goal.put_section-requires
+put_section-requires c =
     let a = c.args in
-    let n = length (steps_by a.parameters) in
-    let i = c.loop-i.i in
-    section_fits c.layer.result.now
-    (sections_bytes (stored_layers a.parameters a.store.now (i + 1) (n - (i + 1))))
-    (next_is a.parameters a.store.now c.layer.result.now i n (omega (arith, c.rounds-rounds.ensures))
-    c.layer.ensures.layer)
-    c.loop-i.invariant.2 c.requires.room
+    let l = c.loop-i in
+    let so_far = l.invariant.1 in
+    omega (
+      arith,
+      c.requires,
+      ends so_far,
+      same_size so_far,
+      layer_room a.shape.parameters a.store.now c.layer.result.now l.i (length (steps_by a.shape.parameters))
+          l.invariant.0 (omega (arith, c.rounds-i-end.ensures, c.loop-i-test.true)) c.layer.ensures.layer,
+    )
 
 pub loop-i-preserved : goal.loop-i-preserved
 loop-i-preserved c =
     let a = c.args in
-    let l = c.loop-i in
-    let n = length (steps_by a.parameters) in
-    let inside : l.i < n = omega (arith, c.rounds-rounds.ensures) in (
+    let l = c.loop-i in (
       search rules,
-      omega (arith, inside),
-      next_piece l.invariant.2
-          (next_is a.parameters a.store.now c.layer.result.now l.i n inside c.layer.ensures.layer)
-          c.put_section-place.ensures,
+      puts_same (puts_append l.invariant.1 c.put_section.ensures)
+          (layer_next a.shape.parameters a.store.now c.layer.result.now l.i l.invariant.0 c.layer.ensures.layer),
     )
-
-pub returns : goal.returns
-returns c =
-    let l = c.loop-i in
-    let a = c.args in
-    all_put l.invariant.2
-    (layers_none a.parameters a.store.now l.i (length (steps_by a.parameters))
-    (omega (arith, c.rounds-rounds.ensures)))
