@@ -1,2 +1,1 @@
-mod Arrays
 pub mod Cosets

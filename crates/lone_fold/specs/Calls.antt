@@ -4,7 +4,6 @@ use Rattle.std.specs.Prelude.{Result}
 use Rattle.refusal.specs.Outcome.{Outcome}
 use Rattle.refusal.specs.declared.Cause.{Cause}
 use Rattle.field.specs.declared.Element.{Element}
-use Rattle.coset.specs.Span.{Independent}
 use Rattle.fold.specs.Answers.{fold_outcome, fold_answer, fold_values_after, next_basis_after}
 
 -- what a call is given
@@ -46,13 +45,11 @@ pub record FoldedBy (call : FoldCall) (folded : Result Element Cause) (filled ba
   pub output : filled ≡ values_after_call call
   pub next : basis ≡ next_after_call call
 
--- what holds after the checks
+-- what holds after the checks, besides the coset's own facts
 pub record CallFits (step : ℕ) (basis word values next : List ℕ) : Type 0 where
   pub step_least : 1 ≤ step
   pub step_most : step ≤ 3
   pub step_fits : step ≤ length basis
-  pub basis_most : length basis ≤ 20
-  pub independent : Independent basis
   pub word_fits : length word ≡ 2 ^ length basis
   pub values_fit : length values ≡ 2 ^ (length basis - step)
   pub next_fits : length next ≡ length basis - step

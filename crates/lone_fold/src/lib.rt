@@ -10,6 +10,7 @@ ghost use Rattle.fold.specs.Answers.{fold_ranges_outcome, fold_lengths_outcome};
 ghost use Rattle.lone_fold.specs.Calls.{FoldCall, FoldedBy, CallFits};
 
 use field::Element;
+use points::Coset;
 use refusal::Cause;
 
 // The fold of a word at the challenge, with the step, into `values`; the basis of the next coset into `next_basis`;
@@ -38,34 +39,29 @@ pub fn fold(
     } in
         FoldedBy call result values.new next_basis.new }
 {
-    let outcome = checked(k, step, basis, word.len(), values.len(), next_basis.len());
-    match outcome {
-        Ok(()) => Ok(fold_checked(
-            step, offset, basis, word, challenge, values, next_basis,
-        )),
-        Err(cause) => Err(cause),
-    }
+    checked(k, step, basis, word.len(), values.len(), next_basis.len())?;
+    let coset = Coset::new(offset, basis);
+    Ok(fold_checked(step, coset, word, challenge, values, next_basis))
 }
 
 // The fold after the checks: values and next basis are filled in, and the next offset is the answer.
 fn fold_checked(
     step: usize,
-    offset: Element,
-    basis: &[u64],
+    coset: Coset<'_>,
     word: &[u64],
     challenge: Element,
     values: &mut [u64],
     next: &mut [u64],
 ) -> Element
-    requires { CallFits step basis.now word.now values.old next.old }
-    ensures answer { result.0 ≡ next_offset step offset.0 basis.now }
-    ensures output { values.new ≡ folded step offset.0 basis.now word.now challenge.0 }
-    ensures next { next.new ≡ next_basis step basis.now }
+    requires { CallFits step coset.basis.now word.now values.old next.old }
+    ensures answer { result.0 ≡ next_offset step coset.entry.offset.0 coset.entry.basis.now }
+    ensures output { values.new ≡ folded step coset.entry.offset.0 coset.entry.basis.now word.now challenge.0 }
+    ensures next { next.new ≡ next_basis step coset.entry.basis.now }
 {
-    let elements = next_coset::step_elements(basis, step);
-    word_fold::fill_values(&elements[..step], offset, basis, word, challenge, values);
-    next_coset::fill_images(&elements[..step], &basis[step..], next);
-    next_coset::composed_maps(&elements[..step], offset)
+    let elements = next_coset::step_elements(coset.basis, step);
+    word_fold::fill_values(&elements[..step], coset, word, challenge, values);
+    next_coset::fill_images(&elements[..step], &coset.basis[step..], next);
+    next_coset::composed_maps(&elements[..step], coset.offset)
 }
 
 fn checked(
@@ -79,17 +75,9 @@ fn checked(
     ensures { let lengths = fold_lengths_outcome k step (length basis.now) length3 length6 length7 in
         result ≡ and_then (fold_ranges_outcome k step) (and_then lengths (basis_outcome basis.now)) }
 {
-    let ranges = checked_ranges(k, step);
-    match ranges {
-        Ok(()) => {
-            let lengths = checked_lengths(k, step, basis.len(), length3, length6, length7);
-            match lengths {
-                Ok(()) => independence::checked_basis(basis),
-                Err(cause) => Err(cause),
-            }
-        }
-        Err(cause) => Err(cause),
-    }
+    checked_ranges(k, step)?;
+    checked_lengths(k, step, basis.len(), length3, length6, length7)?;
+    independence::checked_basis(basis)
 }
 
 fn checked_ranges(k: usize, step: usize) -> Result<(), Cause>

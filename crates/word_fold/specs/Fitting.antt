@@ -1,6 +1,5 @@
--- What the fold of a word asks of its lists.
+-- What the fold of a word asks of its lists, besides the coset's own facts.
 use Rattle.std.specs.Prelude.{◌≡◌, List, ℕ, ◌+◌, ◌-◌, ◌^◌, ◌≤◌, length}
-use Rattle.coset.specs.Span.{Independent}
 use Rattle.coset.specs.Steps.{step_elements}
 
 -- the elements are those of one, two or three maps of a step over this basis
@@ -8,9 +7,7 @@ pub record StepFits (elements basis : List ℕ) : Type 0 where
   pub some : 1 ≤ length elements
   pub few : length elements ≤ 3
   pub fits : length elements ≤ length basis
-  pub basis_fits : length basis ≤ 20
   pub elements_are : elements ≡ step_elements (length elements) basis
-  pub independent : Independent basis
 
 -- with a word over the basis, and a place for each value of its fold
 pub record WordFits (elements basis word values : List ℕ) : Type 0 where

@@ -11,7 +11,6 @@ use Rattle.poly.proofs.Filling.{filled_start, padded_next, filled_padded}
 use Rattle.coset.specs.Coset.{points}
 use Rattle.coset.proofs.Points.{length-points, get_or-points}
 use Rattle.coset.proofs.Sizes.{size_shifted}
-use borrow.Author.Rules.{rules}
 use native.Mathlib.Omega.{arith}
 use Rattle.coset_value.proofs.span_of.Goals as goal
 
@@ -20,7 +19,6 @@ loop-i-init c =
     let start = c in
     let basis = start.args.basis.now in
     let shifted = size_shifted (length basis) (omega (arith, start.requires)) in (
-      search rules,
       omega (arith, shifted, pow_mono {i = length basis} {j = 3} start.requires),
       shifted,
       filled_start (padded gf64 8 (points 0 basis)) (replicate 8 0),
@@ -33,13 +31,12 @@ loop-i-preserved c =
     let l = c.loop-i in
     let value = c.point.result.0 in
     let count = length-points 0 basis in (
-      search rules,
+      l.invariant.0,
       l.invariant.1,
-      l.invariant.2,
-      ap (λ (held : List ℕ). set held l.i value) l.invariant.3
-          ∙ padded_next 8 (points 0 basis) l.i value (omega (arith, count, l.invariant.2))
+      ap (λ (held : List ℕ). set held l.i value) l.invariant.2
+          ∙ padded_next 8 (points 0 basis) l.i value (omega (arith, count, l.invariant.1))
           (omega (arith, count, pow_mono {i = length basis} {j = 3} start.requires))
-          (c.point.ensures ∙ sym (get_or-points 0 basis l.i (omega (arith, l.invariant.2)))),
+          (c.point.ensures ∙ sym (get_or-points 0 basis l.i (omega (arith, l.invariant.1)))),
     )
 
 pub returns : goal.returns
@@ -48,6 +45,6 @@ returns c =
     let basis = start.args.basis.now in
     let l = c.loop-i in
     let count = length-points 0 basis in
-    l.invariant.3
-    ∙ filled_padded 8 (points 0 basis) l.i (omega (arith, count, l.invariant.2))
+    l.invariant.2
+    ∙ filled_padded 8 (points 0 basis) l.i (omega (arith, count, l.invariant.1))
     (omega (arith, count, pow_mono {i = length basis} {j = 3} start.requires))

@@ -10,9 +10,10 @@ use Rattle.coset.proofs.Points.{all_elements}
 use Rattle.coset.proofs.Steps.{listed_not_zero}
 use Rattle.coset.proofs.Sizes.{size_shifted}
 use Rattle.fold.specs.Theorems.{IsWord}
-use Rattle.fold.proofs.AllCosets.{Ready, length_inverses_taken, length_span_taken, length_upper, cosets_fit}
+use Rattle.fold.proofs.AllCosets.{Ready, length_span_taken, length_upper, cosets_fit}
 use Rattle.fold.proofs.AllCosets.{entries_fit}
-use Rattle.fold.proofs.AllCosets.{all_cosets}
+use Rattle.fold.proofs.AllCosets.{upper_of, all_cosets}
+use Rattle.fold.specs.Halving.{coset_values}
 use borrow.Author.Rules.{rules}
 use native.Mathlib.Omega.{arith}
 use Rattle.word_fold.proofs.fill_values.Goals as goal
@@ -23,7 +24,7 @@ abbrev ReadyAt : After-span_of-span → Type 0
 ReadyAt c =
     let a = c.args in
     let size = 1 * 2 ^ length a.elements.now % 2 ^ 64 in
-    Ready a.elements.now a.basis.now c.inverses_of-inverses.result c.span_of-span.result size
+    Ready a.elements.now a.coset.basis.now c.inverses_of-inverses.result c.span_of-span.result size
 
 ready : (c : After-span_of-span) → ReadyAt c
 ready c =
@@ -32,7 +33,7 @@ ready c =
       some = fits.some;
       few = fits.few;
       fits = fits.fits;
-      basis_fits = fits.basis_fits;
+      basis_fits = c.args.coset.few;
       elements_are = fits.elements_are;
       inverted = c.inverses_of-inverses.ensures;
       spanned = c.span_of-span.ensures;
@@ -51,27 +52,13 @@ lent step basis fits = length-take-le step basis fits
 
 pub inverses_of-inverses-requires : goal.inverses_of-inverses-requires
 inverses_of-inverses-requires c =
-    let basis = c.args.basis.now in
+    let basis = c.args.coset.basis.now in
     let fits = c.requires.step in (
       fits.few,
       listed_not_zero (length c.args.elements.now) basis c.args.elements.now
-          (all_elements basis (λ i. omega (arith, c.type_inv.basis i))) fits.independent
+          (all_elements basis c.args.coset.elements) c.args.coset.independent
           fits.elements_are,
     )
-
-pub span_of-span-requires : goal.span_of-span-requires
-span_of-span-requires c =
-    omega (arith, c.requires.step.few, lent (length c.args.elements.now) c.args.basis.now c.requires.step.fits)
-
-pub slice_bounds-inverses-end : goal.slice_bounds-inverses-end
-slice_bounds-inverses-end c =
-    let at = (goal.at.slice_bounds-inverses-end c).After-span_of-span in
-    omega (arith, three at, c.requires.step.few)
-
-pub slice_bounds-fill_cosets-end : goal.slice_bounds-fill_cosets-end
-slice_bounds-fill_cosets-end c =
-    let at = (goal.at.slice_bounds-fill_cosets-end c).After-span_of-span in
-    sym (length_inverses_taken (ready at))
 
 pub slice_bounds-span-end : goal.slice_bounds-span-end
 slice_bounds-span-end c =
@@ -79,34 +66,44 @@ slice_bounds-span-end c =
     let few = pow_mono {i = length c.args.elements.now} {j = 3} c.requires.step.few in
     omega (arith, eight at, (ready at).sized, few)
 
-pub slice_bounds-fill_cosets-end-2 : goal.slice_bounds-fill_cosets-end-2
-slice_bounds-fill_cosets-end-2 c =
-    let at = (goal.at.slice_bounds-fill_cosets-end-2 c).After-span_of-span in
+pub slice_bounds-halvings-end-2 : goal.slice_bounds-halvings-end-2
+slice_bounds-halvings-end-2 c =
+    let at = (goal.at.slice_bounds-halvings-end-2 c).After-span_of-span in
     let r = ready at in
     r.sized ∙ sym (length_span_taken r)
+
+pub invariant_of-halvings : goal.invariant_of-halvings
+invariant_of-halvings c =
+    let at = (goal.at.invariant_of-halvings c).After-span_of-span in
+    let fit = cosets_fit (ready at) in record { some = fit.some; few = fit.few; span_fits = fit.span_fits }
 
 pub fill_cosets-requires : goal.fill_cosets-requires
 fill_cosets-requires c =
     let at = (goal.at.fill_cosets-requires c).After-span_of-span in
-    let r = ready at in
-    let pre = c.requires in
-    (cosets_fit r, pre.values_fit ∙ ap (λ (n : ℕ). 2 ^ n) (sym (length_upper r)), pre.word_fits ∙ sym (entries_fit r))
+    let r = ready at in (
+      (cosets_fit r).upper_fits,
+      c.requires.values_fit ∙ ap (λ (n : ℕ). 2 ^ n) (sym (length_upper r)),
+      c.requires.word_fits ∙ sym (entries_fit r),
+    )
 
 pub returns : goal.returns
 returns c =
     let at = (goal.at.returns c).After-span_of-span in
     let challenged : IsElement c.args.challenge.0 = search rules in
-    let is_word : IsWord c.args.offset.0 c.args.basis.now c.args.word.now =
+    let is_word : IsWord c.args.coset.offset.0 c.args.coset.basis.now c.args.word.now =
     record {
       offset_element = search rules;
-      basis_elements = all_elements c.args.basis.now
-          (λ i. omega (arith, c.type_inv.basis i));
+      basis_elements = all_elements c.args.coset.basis.now
+          c.args.coset.elements;
       word_elements = all_elements c.args.word.now (λ i. omega (arith, c.type_inv.word i));
-      independent = c.requires.step.independent;
+      independent = c.args.coset.independent;
       count = c.requires.word_fits;
     }
     in
     let a = c.args in
     c.fill_cosets.ensures
-    ∙ all_cosets (ready at) a.offset.0 a.word.now a.challenge.0 is_word
+    ∙ ap (λ (moved : ℕ). coset_values (take (length a.elements.now) c.inverses_of-inverses.result)
+    (take (1 * 2 ^ length a.elements.now % 2 ^ 64) c.span_of-span.result) moved
+    (upper_of a.elements.now a.coset.basis.now) a.word.now) c.sum-moved.ensures
+    ∙ all_cosets (ready at) a.coset.offset.0 a.word.now a.challenge.0 is_word
     challenged
