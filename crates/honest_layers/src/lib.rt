@@ -62,12 +62,5 @@ fn fold_layer(coset: Coset, step: usize, challenge: Element, layer: &[u64], next
     ensures { next.new ≡ folded step coset.entry.offset.0 coset.entry.basis.now layer.now challenge.0 }
 {
     let elements = next_coset::step_elements(coset.basis, step);
-    word_fold::fill_values(
-        &elements[..step],
-        coset.offset,
-        coset.basis,
-        layer,
-        challenge,
-        next,
-    );
+    word_fold::fill_values(&elements[..step], coset, layer, challenge, next);
 }

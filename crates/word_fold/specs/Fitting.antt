@@ -1,5 +1,5 @@
 -- What the fold of a word asks of its lists, besides the coset's own facts.
-use Rattle.std.specs.Prelude.{◌≡◌, List, ℕ, ◌+◌, ◌-◌, ◌^◌, ◌≤◌, length}
+use Rattle.std.specs.Prelude.{◌≡◌, List, ℕ, ◌-◌, ◌^◌, ◌≤◌, length}
 use Rattle.coset.specs.Steps.{step_elements}
 
 -- the elements are those of one, two or three maps of a step over this basis
@@ -14,8 +14,3 @@ pub record WordFits (elements basis word values : List ℕ) : Type 0 where
   pub step : StepFits elements basis
   pub word_fits : length word ≡ 2 ^ length basis
   pub values_fit : length values ≡ 2 ^ (length basis - length elements)
-
--- the same where the places lie behind the word, in one list with it
-pub record JoinedFits (elements basis joined : List ℕ) : Type 0 where
-  pub step : StepFits elements basis
-  pub both_fit : length joined ≡ 2 ^ length basis + 2 ^ (length basis - length elements)

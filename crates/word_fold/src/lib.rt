@@ -1,10 +1,10 @@
-// The fold of a word whose lists fit, into a list of its own or behind the word.
+// The fold of a word whose lists fit.
 #![tactic(auto)]
 
-ghost use Rattle.std.specs.Prelude.{◌≡◌, ◌++◌, ◌*◌, ◌^◌, ◌≤◌, length, take};
+ghost use Rattle.std.specs.Prelude.{◌≡◌, ◌*◌, ◌^◌, ◌≤◌, length};
 ghost use Rattle.fold.specs.Fold.{folded};
 ghost use Rattle.fold.specs.Halving.{coset_values};
-ghost use Rattle.word_fold.specs.Fitting.{WordFits, JoinedFits};
+ghost use Rattle.word_fold.specs.Fitting.{WordFits};
 
 use coset_value::Halvings;
 use field::Element;
@@ -57,15 +57,4 @@ fn fill_cosets(
         values[j] = halvings.value_at(first, &word[start..start + size]).0;
         first = points::stepped(&sums, first, j + 1);
     }
-}
-
-// Folds the layer in the front of a list into what is behind it.
-pub fn fill_behind(elements: &[u64], coset: Coset<'_>, challenge: Element, joined: &mut [u64])
-    requires { JoinedFits elements.now coset.basis.now joined.old }
-    ensures { let step = length elements.now in
-        let layer = take (2 ^ length coset.entry.basis.now) joined.old in
-        joined.new ≡ layer ++ folded step coset.entry.offset.0 coset.entry.basis.now layer challenge.0 }
-{
-    let (layer, behind) = joined.split_at_mut(1 << coset.basis.len());
-    fill_values(elements, coset, layer, challenge, behind);
 }

@@ -20,9 +20,7 @@ fill_values-requires c =
         some = omega (arith, count, c.requires.0);
         few = omega (arith, count, c.requires.1);
         fits = omega (arith, count, fits);
-        basis_fits = c.args.coset.few;
         elements_are = are ∙ sym (ap (λ (n : ℕ). step_elements n basis) count);
-        independent = c.args.coset.independent;
       };
       word_fits = c.requires.3;
       values_fit = c.requires.4 ∙ ap (λ (n : ℕ). 2 ^ (length basis - n)) (sym count);
