@@ -3,7 +3,7 @@
 // nothing is printed.
 #![tactic(auto)]
 
-ghost use Rattle.std.specs.Prelude.{◌≡◌, ◌+◌, ◌≤◌, length, take};
+ghost use Rattle.std.specs.Prelude.{◌≡◌, ◌+◌, length};
 ghost use Rattle.transcript.specs.Judge.{input_limit};
 ghost use Rattle.input.specs.Reading.{Over, Prints};
 ghost use Rattle.judge.specs.Printed.{verdict_lines};
@@ -14,14 +14,10 @@ use report::Text;
 fn answer(input: &[u8], reading: Option<usize>) -> Text
     requires size { length input.now ≡ input_limit + 1 }
     requires over { Over (length input.now) reading }
-    ensures text { Prints verdict_lines reading input.now (take result.length result.bytes) }
-    ensures fits { (result.length ≤ length result.bytes) × (result.length ≡ length (take result.length result.bytes)) }
+    ensures { Prints verdict_lines reading input.now result }
 {
     let Some(count) = reading else {
-        return Text {
-            bytes: [0; 128],
-            length: 0,
-        };
+        return Text::new();
     };
     report::lines(reader::judge_input(&input[..count]))
 }
@@ -31,7 +27,5 @@ fn main(rt: HostRuntime) {
     let mut input = [0u8; 65537];
     let reading = input::read(rt.stdin(), &mut input);
     let text = answer(&input, reading);
-    let bytes = text.bytes;
-    let length = text.length;
-    input::print(rt.stdout(), &bytes[..length], &input, reading);
+    input::print(rt.stdout(), text.as_bytes(), &input, reading);
 }

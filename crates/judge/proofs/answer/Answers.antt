@@ -7,9 +7,9 @@ use Rattle.input.proofs.Printed.{prints_whole}
 use Rattle.judge.specs.Printed.{verdict_lines}
 use Rattle.judge.proofs.answer.Goals as goal
 
-pub returns-clause-text : goal.returns-clause-text
-returns-clause-text c =
+pub returns : goal.returns
+returns c =
     let first : (whole : List ℕ) → verdict_lines (take (length c.args.input.now) whole) ≡ verdict_lines whole =
     λ whole. ap lines_of (long_inputs.first whole (length c.args.input.now) (omega (arith, c.requires.size))) in
     prints_whole verdict_lines _ _ c.args.input.now _ first c.in-Some.is
-    (c.lines.ensures.text ∙ ap lines_of c.judge_input.ensures)
+    (c.lines.ensures ∙ ap lines_of c.judge_input.ensures)
