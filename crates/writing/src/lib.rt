@@ -20,7 +20,6 @@ pub fn put_number(n: u64, cursor: &mut Cursor)
 }
 
 // The last `width` digits of n in a base, filled in from the right.
-#[tactic(auto, using(crate::proofs::Filling::filled_next))]
 pub fn put_digits(n: u64, base: u64, width: usize, cursor: &mut Cursor)
     requires base { (0 < base) × (base ≤ 16) }
     requires room { HasRoom cursor.old width }
