@@ -21,6 +21,7 @@ use Rattle.fri.proofs.Cosets.{first_coset, length_basis}
 use Rattle.fri.proofs.Layouts.{start_next, layer_before, step_of_round}
 use Rattle.fri.proofs.Layers.{honest_run}
 use Rattle.layout.specs.declared.Claim.{Claim}
+use Rattle.points.specs.declared.Coset.{Coset}
 use Rattle.layout.proofs.Sizes.{start_of_first, store_length_is, one_round, step_within}
 use Rattle.layer_cosets.specs.declared.LayerCoset.{LayerCoset}
 use Rattle.layer_cosets.specs.Cosets.{layer_coset_of}
@@ -84,121 +85,126 @@ module _ (claim : Claim) where
   from_first e = e
 
   -- what is known at layer i
-  module _ {i : ℕ} {coset : LayerCoset} {layer : List ℕ} {rest last : ℕ} (at : LayerAt claim i coset layer rest last)
-    where
-      inside : i < r
-      inside = omega (arith, at.round)
+  module _ {i rest last : ℕ} {coset : LayerCoset} {layer : List ℕ} (at : LayerAt claim i coset layer rest last) where
+    inside : i < r
+    inside = omega (arith, at.round)
 
-      count : length coset.basis ≡ dimension run.k (steps_in run) i
-      count =
-          ap (λ (c : LayerCoset). length c.basis) at.coset_is
-          ∙ length_basis run.k (steps_in run) run.basis at.claim_fits.basis i
+    count : length coset.basis ≡ dimension run.k (steps_in run) i
+    count =
+        ap (λ (c : LayerCoset). length c.basis) at.coset_is
+        ∙ length_basis run.k (steps_in run) run.basis at.claim_fits.basis i
 
-      pub step_fits : step ≤ length coset.basis
-      step_fits =
-          le_trans (step_within claim.parameters at.claim_fits.parameters i inside) (le_of_eq (sym count))
+    pub step_fits : step ≤ length coset.basis
+    step_fits =
+        le_trans (step_within claim.parameters at.claim_fits.parameters i inside) (le_of_eq (sym count))
 
-      pub layer_counted : length layer ≡ 2 ^ length coset.basis
-      layer_counted = at.layer_fits ∙ ap (λ (n : ℕ). 2 ^ n) (sym count)
+    pub layer_counted : length layer ≡ 2 ^ length coset.basis
+    layer_counted = at.layer_fits ∙ ap (λ (n : ℕ). 2 ^ n) (sym count)
 
-      -- how many values it is folded into
-      pub next_counted : 2 ^ (length coset.basis - step) ≡ size (suc i)
-      next_counted =
-          ap (λ (n : ℕ). 2 ^ (n - step)) count ∙ ap (λ (n : ℕ). 2 ^ n) (sym (dimension_next i inside))
+    -- how many values it is folded into
+    pub next_counted : 2 ^ (length coset.basis - step) ≡ size (suc i)
+    next_counted =
+        ap (λ (n : ℕ). 2 ^ (n - step)) count ∙ ap (λ (n : ℕ). 2 ^ n) (sym (dimension_next i inside))
 
-      pub next_shifted : length layer / 2 ^ step ≡ 2 ^ (length coset.basis - step)
-      next_shifted =
-          ap (λ (n : ℕ). n / 2 ^ step) layer_counted ∙ shifted (length coset.basis) step step_fits
+    pub next_shifted : length layer / 2 ^ step ≡ 2 ^ (length coset.basis - step)
+    next_shifted =
+        ap (λ (n : ℕ). n / 2 ^ step) layer_counted ∙ shifted (length coset.basis) step step_fits
 
-      -- what `fold_layer` asks
-      pub foldable : (basis : List ℕ) → basis ≡ coset.basis → (next : ℕ) → next ≡ 2 ^ (length coset.basis - step)
-          → (1 ≤ step) × (step ≤ 3) × (step ≤ length basis) × (length layer ≡ 2 ^ length basis)
-          × (next ≡ 2 ^ (length basis - step))
-      foldable basis is next e =
-          let v = at.claim_fits.parameters in
-          subst
-          (λ (b : List ℕ). (1 ≤ step) × (step ≤ 3) × (step ≤ length b) × (length layer ≡ 2 ^ length b)
-          × (next ≡ 2 ^ (length b - step))) (sym is)
-          (v.step_least, v.step_most, step_fits, layer_counted, e)
+    -- what `fold_layer` asks
+    pub foldable : (basis : List ℕ) → basis ≡ coset.basis → (next : ℕ) → next ≡ 2 ^ (length coset.basis - step)
+        → (1 ≤ step) × (step ≤ 3) × (step ≤ length basis) × (length layer ≡ 2 ^ length basis)
+        × (next ≡ 2 ^ (length basis - step))
+    foldable basis is next e =
+        let v = at.claim_fits.parameters in
+        subst
+        (λ (b : List ℕ). (1 ≤ step) × (step ≤ 3) × (step ≤ length b) × (length layer ≡ 2 ^ length b)
+        × (next ≡ 2 ^ (length b - step))) (sym is)
+        (v.step_least, v.step_most, step_fits, layer_counted, e)
 
-      -- what `fold_layer` leaves
-      pub next_folded : (offset : Element) (basis : List ℕ) → (offset ≡ coset.offset) × (basis ≡ coset.basis)
-          → folded step offset.0 basis layer (challenge_in run i) ≡ honest_layer run (suc i)
-      next_folded offset basis is =
-          ap₂ (λ (o : Element) (b : List ℕ). folded step o.0 b layer (challenge_in run i)) is.0 is.1
-          ∙ ap₂ (λ (c : LayerCoset) (l : List ℕ). folded step c.offset.0 c.basis l (challenge_in run i)) at.coset_is
-          at.layer_is
-          ∙ sym (honest_run.folds run i (honest_layer run i) inside) ∙ sym (honest_run.next run i)
+    -- what `fold_layer` leaves
+    pub next_folded : (here : Coset) → (here.offset ≡ coset.offset) × (here.basis.now ≡ coset.basis)
+        → folded step here.offset.0 here.basis.now layer (challenge_in run i) ≡ honest_layer run (suc i)
+    next_folded here is =
+        ap₂ (λ (o : Element) (b : List ℕ). folded step o.0 b layer (challenge_in run i)) is.0 is.1
+        ∙ ap₂ (λ (c : LayerCoset) (l : List ℕ). folded step c.offset.0 c.basis l (challenge_in run i)) at.coset_is
+        at.layer_is
+        ∙ sym (honest_run.folds run i (honest_layer run i) inside) ∙ sym (honest_run.next run i)
 
-      pub coset_next : layer_coset_of (next_offset step coset.offset.0 coset.basis) (next_basis step coset.basis)
-          ≡ coset_in run (suc i)
-      coset_next =
-          ap (λ (c : LayerCoset). layer_coset_of (next_offset step c.offset.0 c.basis) (next_basis step c.basis)) at.coset_is
-          ∙ ap₂ (λ (o : ℕ) (l : List ℕ). layer_coset_of o l)
-          (offset_next claim.parameters run.offset run.basis i inside)
-          (basis_next claim.parameters run.offset run.basis i inside)
+    pub coset_next : layer_coset_of (next_offset step coset.offset.0 coset.basis) (next_basis step coset.basis)
+        ≡ coset_in run (suc i)
+    coset_next =
+        ap (λ (c : LayerCoset). layer_coset_of (next_offset step c.offset.0 c.basis) (next_basis step c.basis)) at.coset_is
+        ∙ ap₂ (λ (o : ℕ) (l : List ℕ). layer_coset_of o l)
+        (offset_next claim.parameters run.offset run.basis i inside)
+        (basis_next claim.parameters run.offset run.basis i inside)
 
-      -- ---- the last round
+    pub coset_independent : (here : Coset) → here.basis.now ≡ coset.basis → (following : LayerCoset)
+        → following ≡ layer_coset_of (next_offset step coset.offset.0 coset.basis) (next_basis step coset.basis)
+        → Independent following.basis
+    coset_independent here same following is =
+        let below = subst (λ (b : List ℕ). (j : ℕ) → get_or b j 0 < 2 ^ 64) same here.elements in
+        subst (λ (c : LayerCoset). Independent c.basis) (sym is)
+        (next_independent step coset.basis (all_elements coset.basis below) at.independent)
 
-      module _ (ends : suc i ≡ r) where
-        pub last_counted : last ≡ 2 ^ (length coset.basis - step)
-        last_counted = at.last_fits ∙ ap size (sym ends) ∙ sym next_counted
+    -- ---- the last round
 
-        -- the store is whole
-        pub store_whole : (stored : List ℕ) → length stored ≡ rest
-            → joined_layers (honest_layer run) i ++ stored ≡ honest_store run
-        unfolding honest_store
-        store_whole stored e =
-            let nothing : length stored ≡ 0 =
-            omega (arith, e, at.rest_fits, ap start ends ∙ store_length_is run.k (steps_in run))
-            in
-            let before : i ≡ r - 1 = omega (arith, ends) in
-            ap (λ (l : List ℕ). joined_layers (honest_layer run) i ++ l) (none stored nothing)
-            ∙ append-nil (joined_layers (honest_layer run) i) ∙ ap (joined_layers (honest_layer run)) before
+    module _ (ends : suc i ≡ r) where
+      pub last_counted : last ≡ 2 ^ (length coset.basis - step)
+      last_counted = at.last_fits ∙ ap size (sym ends) ∙ sym next_counted
 
-      -- ---- another round
+      -- the store is whole
+      pub store_whole : (stored : List ℕ) → length stored ≡ rest
+          → joined_layers (honest_layer run) i ++ stored ≡ honest_store run
+      unfolding honest_store
+      store_whole stored e =
+          let nothing : length stored ≡ 0 =
+          omega (arith, e, at.rest_fits, ap start ends ∙ store_length_is run.k (steps_in run))
+          in
+          let before : i ≡ r - 1 = omega (arith, ends) in
+          ap (λ (l : List ℕ). joined_layers (honest_layer run) i ++ l) (none stored nothing)
+          ∙ append-nil (joined_layers (honest_layer run) i) ∙ ap (joined_layers (honest_layer run)) before
 
-      module _ (more : suc (suc i) ≤ r) where
-        pub next_within : length layer / 2 ^ step ≤ rest
-        next_within =
-            let stored = layer_before run.k (steps_in run) (suc i) r (omega arith) (omega (arith, more)) in
-            omega (arith, next_shifted, next_counted, stored, at.rest_fits, store_length_is run.k (steps_in run))
+    -- ---- another round
 
-        pub layer_next : (following : LayerCoset) (next : List ℕ) (after : ℕ)
-            → ((j : ℕ) → get_or coset.basis j 0 < 2 ^ 64)
-            → following ≡ layer_coset_of (next_offset step coset.offset.0 coset.basis) (next_basis step coset.basis)
-            → next ≡ honest_layer run (suc i) → length next ≡ length layer / 2 ^ step
-            → after + length layer / 2 ^ step ≡ rest
-            → LayerAt claim (i + 1) following next after last
-        layer_next following next after elements is made many e =
-            subst (λ (n : ℕ). LayerAt claim n following next after last) (sym (add-one i))
-            (record {
-              claim_fits = at.claim_fits;
-              round = more;
-              coset_is = is ∙ coset_next;
-              independent =
-                  subst (λ (c : LayerCoset). Independent c.basis) (sym is)
-                  (next_independent step coset.basis (all_elements coset.basis elements) at.independent);
-              layer_is = made;
-              layer_fits = many ∙ next_shifted ∙ next_counted;
-              rest_fits =
-                  omega (
-                    arith,
-                    e,
-                    next_shifted,
-                    next_counted,
-                    at.rest_fits,
-                    start_next run.k (steps_in run) (suc i) (omega arith),
-                  );
-              last_fits = at.last_fits;
-            })
+    module _ (more : suc (suc i) ≤ r) where
+      pub next_within : length layer / 2 ^ step ≤ rest
+      next_within =
+          let stored = layer_before run.k (steps_in run) (suc i) r (omega arith) (omega (arith, more)) in
+          omega (arith, next_shifted, next_counted, stored, at.rest_fits, store_length_is run.k (steps_in run))
 
-      -- one more layer in the store
-      pub store_next : (next stored : List ℕ) → next ≡ honest_layer run (suc i)
-          → joined_layers (honest_layer run) (i + 1) ++ stored ≡ honest_store run
-          → joined_layers (honest_layer run) i ++ (next ++ stored) ≡ honest_store run
-      unfolding joined_layers
-      store_next next stored made e =
-          ap (λ (l : List ℕ). joined_layers (honest_layer run) i ++ (l ++ stored)) made
-          ∙ sym (append_assoc (joined_layers (honest_layer run) i) (honest_layer run (suc i)) stored)
-          ∙ ap (λ (n : ℕ). joined_layers (honest_layer run) n ++ stored) (sym (add-one i)) ∙ e
+      pub layer_next : (following : LayerCoset) (next : List ℕ) (after : ℕ)
+          → Independent following.basis
+          → following ≡ layer_coset_of (next_offset step coset.offset.0 coset.basis) (next_basis step coset.basis)
+          → next ≡ honest_layer run (suc i) → length next ≡ length layer / 2 ^ step
+          → after + length layer / 2 ^ step ≡ rest
+          → LayerAt claim (i + 1) following next after last
+      layer_next following next after independent is made many e =
+          subst (λ (n : ℕ). LayerAt claim n following next after last) (sym (add-one i))
+          (record {
+            claim_fits = at.claim_fits;
+            round = more;
+            coset_is = is ∙ coset_next;
+            independent = independent;
+            layer_is = made;
+            layer_fits = many ∙ next_shifted ∙ next_counted;
+            rest_fits =
+                omega (
+                  arith,
+                  e,
+                  next_shifted,
+                  next_counted,
+                  at.rest_fits,
+                  start_next run.k (steps_in run) (suc i) (omega arith),
+                );
+            last_fits = at.last_fits;
+          })
+
+    -- one more layer in the store
+    pub store_next : (next stored : List ℕ) → next ≡ honest_layer run (suc i)
+        → joined_layers (honest_layer run) (i + 1) ++ stored ≡ honest_store run
+        → joined_layers (honest_layer run) i ++ (next ++ stored) ≡ honest_store run
+    unfolding joined_layers
+    store_next next stored made e =
+        ap (λ (l : List ℕ). joined_layers (honest_layer run) i ++ (l ++ stored)) made
+        ∙ sym (append_assoc (joined_layers (honest_layer run) i) (honest_layer run (suc i)) stored)
+        ∙ ap (λ (n : ℕ). joined_layers (honest_layer run) n ++ stored) (sym (add-one i)) ∙ e

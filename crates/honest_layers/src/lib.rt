@@ -2,6 +2,7 @@
 #![tactic(auto)]
 
 ghost use Rattle.std.specs.Prelude.{◌≡◌, ◌++◌, ◌-◌, ◌^◌, ◌≤◌, length};
+ghost use Rattle.coset.specs.Span.{Independent};
 ghost use Rattle.fold.specs.Fold.{folded};
 ghost use Rattle.fri.specs.Layout.{joined_layers};
 ghost use Rattle.fri.specs.Run.{rounds_in};
@@ -18,6 +19,7 @@ pub fn fold_layers(claim: &Claim, store: &mut [u64], last: &mut [u64]) -> LayerC
     requires { Passed claim.now (length store.old) (length last.old) }
     ensures answer { let run = input_of claim.now in
         result ≡ coset_in run (rounds_in run) }
+    ensures independent { Independent result.basis }
     ensures store { store.new ≡ honest_store (input_of claim.now) }
     ensures last { let run = input_of claim.now in
         last.new ≡ honest_layer run (rounds_in run) }
@@ -38,6 +40,7 @@ fn fold_from(
     requires { LayerAt claim.now i coset layer.now (length store.old) (length last.old) }
     ensures answer { let run = input_of claim.now in
         result ≡ coset_in run (rounds_in run) }
+    ensures independent { Independent result.basis }
     ensures store { let run = input_of claim.now in
         joined_layers (honest_layer run) i ++ store.new ≡ honest_store run }
     ensures last { let run = input_of claim.now in

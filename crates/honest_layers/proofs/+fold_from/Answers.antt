@@ -1,13 +1,12 @@
 -- `honest_layers::fold_from` meets its contract. Assumes nothing.
-use mathlib.Core.Path.{◌≡◌, refl, ap, ◌∙◌, subst}
-use mathlib.Core.List.{List}
-use Prim.Native.Nat.{ℕ, suc, ◌≤◌, ◌<◌, ◌^◌}
+use mathlib.Core.Path.{◌≡◌, refl, ap, ◌∙◌}
+use Prim.Native.Nat.{suc, ◌≤◌}
 use native.Mathlib.Omega.{arith}
-use lib.ListN.{length, get_or}
+use lib.ListN.{length}
 use Rattle.fri.specs.Run.{rounds_in}
 use Rattle.fri.specs.Layers.{honest_layer}
 use Rattle.honest_layers.specs.Input.{input_of, coset_in}
-use Rattle.honest_layers.proofs.Rounds.{step_fits, next_shifted, foldable, next_folded, coset_next}
+use Rattle.honest_layers.proofs.Rounds.{step_fits, next_shifted, foldable, next_folded, coset_next, coset_independent}
 use Rattle.honest_layers.proofs.Rounds.{last_counted, store_whole, next_within, layer_next, store_next}
 use Rattle.honest_layers.proofs.+fold_from.Goals as goal
 
@@ -30,6 +29,10 @@ returns-then-i-claim-clause-answer t c =
     let ends : suc c.args.i ≡ rounds_in run = omega (arith, c.if-i-claim.true, c.requires.claim_fits.challenges) in
     c.next.ensures ∙ coset_next c.args.claim.now c.requires ∙ ap (coset_in run) ends
 
+pub returns-then-i-claim-clause-independent : goal.returns-then-i-claim-clause-independent
+returns-then-i-claim-clause-independent t c =
+    coset_independent c.args.claim.now c.requires c.as_coset.result c.as_coset.ensures.1 c.next.result c.next.ensures
+
 pub returns-then-i-claim-clause-store : goal.returns-then-i-claim-clause-store
 returns-then-i-claim-clause-store t c =
     let ends : suc c.args.i ≡ rounds_in (input_of c.args.claim.now) =
@@ -42,7 +45,7 @@ returns-then-i-claim-clause-last t c =
     let run = input_of c.args.claim.now in
     let ends : suc c.args.i ≡ rounds_in run = omega (arith, c.if-i-claim.true, c.requires.claim_fits.challenges) in
     c.fold_layer.ensures
-    ∙ next_folded c.args.claim.now c.requires c.as_coset.result.offset c.as_coset.result.basis.now c.as_coset.ensures
+    ∙ next_folded c.args.claim.now c.requires c.as_coset.result c.as_coset.ensures
     ∙ ap (honest_layer run) ends
 
 -- ---- another round
@@ -67,20 +70,18 @@ fold_from-requires t c =
     let more : suc (suc c.args.i) ≤ rounds_in (input_of c.args.claim.now) =
     omega (arith, c.if-i-claim.false, c.requires.claim_fits.challenges, c.requires.round)
     in
-    let same = c.as_coset-2.ensures in
-    let made =
-    c.fold_layer-2.ensures ∙ next_folded c.args.claim.now c.requires c.as_coset-2.result.offset c.as_coset-2.result.basis.now same
-    in (
+    let here = c.as_coset-2 in (
       omega (arith, c.if-i-claim.false, c.requires.claim_fits.challenges, c.requires.round),
-      layer_next c.args.claim.now c.requires more c.next-2.result c.fold_layer-2.new.next (length c.split_at_mut-next.result.1.now)
-          (subst (λ (b : List ℕ). (j : ℕ) → get_or b j 0 < 2 ^ 64) same.1 c.as_coset-2.result.elements)
-          c.next-2.ensures made (c.fold_layer-2.auto.next ∙ c.split_at_mut-next.ensures.front_len)
-          c.split_at_mut-next.ensures.back_len,
+      layer_next c.args.claim.now c.requires more c.next-2.result c.fold_layer-2.new.next
+          (length c.split_at_mut-next.result.1.now)
+          (coset_independent c.args.claim.now c.requires here.result here.ensures.1 c.next-2.result c.next-2.ensures)
+          c.next-2.ensures
+          (c.fold_layer-2.ensures ∙ next_folded c.args.claim.now c.requires here.result here.ensures)
+          (c.fold_layer-2.auto.next ∙ c.split_at_mut-next.ensures.front_len) c.split_at_mut-next.ensures.back_len,
     )
 
 pub returns-clause-store : goal.returns-clause-store
 returns-clause-store t c =
     store_next c.args.claim.now c.requires c.fold_layer-2.new.next c.fold_from.new.store
-    (c.fold_layer-2.ensures
-    ∙ next_folded c.args.claim.now c.requires c.as_coset-2.result.offset c.as_coset-2.result.basis.now c.as_coset-2.ensures)
+    (c.fold_layer-2.ensures ∙ next_folded c.args.claim.now c.requires c.as_coset-2.result c.as_coset-2.ensures)
     c.fold_from.ensures.store
