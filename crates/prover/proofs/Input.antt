@@ -1,19 +1,15 @@
 -- The run of a call and the prover's input: the checks of the one are what is known of the other, and their honest
 -- layers are the same. Assumes nothing.
-use mathlib.Core.Path.{◌≡◌, refl, sym, ap, ap₂, subst}
-use mathlib.Core.Bool.{Bool, true, false}
+use mathlib.Core.Path.{◌≡◌, refl, sym, ap, ap₂, ◌∙◌, subst}
 use mathlib.Core.List.{List, ◌++◌}
-use Prim.Native.Nat.{ℕ, zero, suc, ◌-◌, ◌^◌, ◌≤◌}
+use Prim.Native.Nat.{ℕ, zero, suc, ◌*◌, ◌-◌, ◌%◌, ◌^◌, ◌≤◌, ◌<◌}
 use native.Mathlib.Nat.{le_trans, le_of_eq}
 use native.Mathlib.Omega.{arith}
-use lib.Dec.{leb}
 use lib.Pow.{pow_mono}
 use lib.ListN.{length, take}
-use borrow.Author.Tests.{leb-false}
 use Rattle.std.specs.Prelude.{Ok}
 use Rattle.refusal.specs.Outcome.{Outcome}
 use Rattle.refusal.specs.Checks.{afterwards}
-use Rattle.refusal.proofs.Checks.{le_of_test}
 use Rattle.reed_solomon.specs.Codes.{interpolated}
 use Rattle.fri.specs.Layout.{dimension, last_count, joined_layers}
 use Rattle.fri.specs.Run.{Run, steps_in, rounds_in}
@@ -24,10 +20,16 @@ use Rattle.fri.proofs.Checks.{run_valid}
 use Rattle.fri.proofs.Layouts.{length_steps}
 use Rattle.fri.proofs.Layers.{layouts}
 use Rattle.layout.specs.declared.Parameters.{Parameters}
-use Rattle.layout.specs.Parameters.{steps_by, Valid}
-use Rattle.layout.proofs.Sizes.{last_count_is}
+use Rattle.layout.specs.declared.Claim.{Claim}
+use Rattle.layout.specs.Parameters.{steps_by, Valid, run_claimed}
+use Rattle.layout.proofs.Sizes.{last_count_is, dimension_most}
 use Rattle.prover.specs.Last.{last_outcome, last_coefficients}
-use Rattle.honest_layers.specs.Input.{input_of, Passed}
+use Rattle.layer_cosets.specs.declared.LayerCoset.{LayerCoset}
+use Rattle.points.specs.declared.Coset.{Coset}
+use Rattle.field.specs.declared.Element.{Element}
+use Rattle.fri.proofs.Cosets.{length_basis}
+use Rattle.coset.proofs.Sizes.{size_shifted}
+use Rattle.honest_layers.specs.Input.{input_of, Passed, coset_in}
 
 -- ---- layer r is small
 
@@ -36,13 +38,17 @@ last_size p v =
     subst (λ (r : ℕ). 2 ^ dimension p.k (steps_by p) r ≤ 256) (sym (length_steps p.k p.rate p.step))
     (layouts.few_points p.k p.rate p.step v)
 
-small_of_size : (n : ℕ) (test : Bool) → leb n 12 ≡ test → 2 ^ n ≤ 256 → n ≤ 12
-small_of_size n true e h = le_of_test n 12 e
-small_of_size n false e h = absurd (omega (arith, h, pow_mono {i = 13} {j = n} (leb-false n 12 e)))
+-- the room for it, as the code computes its size
+module _ (p : Parameters) (v : Valid p) (dim : ℕ)
+    (is : dim ≡ dimension p.k (steps_by p) (length (steps_by p))) where
+  pub small : dim < 64
+  small = omega (arith, is, dimension_most p v (length (steps_by p)))
 
-pub last-small : (p : Parameters) → Valid p → dimension p.k (steps_by p) (length (steps_by p)) ≤ 12
-last-small p v =
-    let n = dimension p.k (steps_by p) (length (steps_by p)) in small_of_size n (leb n 12) refl (last_size p v)
+  pub room_size : 1 * 2 ^ dim % 2 ^ 64 ≡ 2 ^ dimension p.k (steps_by p) (length (steps_by p))
+  room_size = size_shifted dim small ∙ ap (λ (n : ℕ). 2 ^ n) is
+
+  pub room_fits : 1 * 2 ^ dim % 2 ^ 64 ≤ 256
+  room_fits = le_trans (le_of_eq room_size) (last_size p v)
 
 -- there are no more last coefficients than layer r has entries
 pub coefficients_fit : (p : Parameters)
@@ -54,15 +60,12 @@ coefficients_fit p =
 
 -- ---- the two runs
 
--- the prover's input
-abbrev pub input_in : Run → Run
-input_in run =
-    input_of (record { k = run.k; rate = run.rate; step = run.step }) run.offset run.basis run.challenges
-    run.word
+module _ (claim : Claim) (store last : List ℕ) where
+  abbrev called : Run
+  called = run_claimed claim store last
 
-module _ (called : Run) where
   abbrev given : Run
-  given = input_in called
+  given = input_of claim
 
   abbrev d : ℕ
   d = last_count called.k called.rate (steps_in called)
@@ -71,20 +74,26 @@ module _ (called : Run) where
   r = rounds_in called
 
   module _ (done : run_outcome called ≡ Ok tt) where
-    pub input_passed : Passed given (length called.store)
-    input_passed =
+    pub input_passed : (room : ℕ) → room ≡ 2 ^ dimension given.k (steps_in given) (rounds_in given)
+        → Passed claim (length store) room
+    input_passed room e =
         let facts = run_valid called done in
         record {
-          parameters = facts.0;
-          basis = facts.1.basis;
-          challenges = facts.1.challenges;
+          claim_fits = record { parameters = facts.0; basis = facts.1.basis; challenges = facts.1.challenges };
           word = facts.1.word;
           store = facts.1.store;
+          last_fits = e;
           independent = facts.2;
         }
 
     pub last_counted : length called.last ≡ d
     last_counted = (run_valid called done).1.last
+
+    pub coset_counted : (coset : LayerCoset) → coset ≡ coset_in given r
+        → length coset.basis ≡ dimension called.k (steps_in called) r
+    coset_counted coset is =
+        ap (λ (c : LayerCoset). length c.basis) is
+        ∙ length_basis called.k (steps_in called) called.basis (run_valid called done).1.basis r
 
   same_layer : (i : ℕ) → honest_layer given i ≡ honest_layer called i
   unfolding honest_layer fold_of
@@ -100,10 +109,15 @@ module _ (called : Run) where
   unfolding honest_store
   same_store = same_joined (r - 1)
 
-  pub same-interpolant : interpolated (offset_in given r) (basis_in given r) (honest_layer given r)
-      ≡ last_interpolant called
+  -- what is interpolated is layer r, over its coset
+  pub interpolant_is : (here : Coset) (coset : LayerCoset) → (here.offset ≡ coset.offset) × (here.basis.now ≡ coset.basis)
+      → coset ≡ coset_in given r → (layer : List ℕ) → layer ≡ honest_layer given r
+      → interpolated here.offset.0 here.basis.now layer ≡ last_interpolant called
   unfolding last_interpolant
-  same-interpolant = ap (interpolated (offset_in called r) (basis_in called r)) (same_layer r)
+  interpolant_is here coset same is layer l =
+      ap₂ (λ (o : Element) (b : List ℕ). interpolated o.0 b layer) same.0 same.1
+      ∙ ap (λ (c : LayerCoset). interpolated c.offset.0 c.basis layer) is
+      ∙ ap (interpolated (offset_in called r) (basis_in called r)) (l ∙ same_layer r)
 
   -- the degree check of a run is that of its interpolant
   module _ (interpolant : List ℕ) (is : interpolant ≡ last_interpolant called)

@@ -1,2 +1,1 @@
-mod Last
 mod Input

@@ -2,19 +2,18 @@
 // own, the first d coefficients of layer r's interpolant.
 #![tactic(auto)]
 
-ghost use Rattle.std.specs.Prelude.{◌≡◌, ◌^◌, ◌≤◌, length};
+ghost use Rattle.std.specs.Prelude.{◌≡◌, ◌^◌, ◌≤◌, Ok, length};
 ghost use Rattle.fri.specs.Layout.{dimension};
 ghost use Rattle.refusal.specs.Checks.{afterwards};
 ghost use Rattle.fri.specs.Layers.{honest_store, honest_last};
 ghost use Rattle.fri.specs.Checks.{run_outcome};
-ghost use Rattle.fri.specs.Run.{Run, steps_in, rounds_in};
+ghost use Rattle.fri.specs.Run.{steps_in, rounds_in};
 ghost use Rattle.fri.specs.Prover.{degree_outcome};
-ghost use Rattle.layout.specs.Parameters.{run_of};
+ghost use Rattle.layout.specs.Parameters.{run_claimed};
 ghost use Rattle.prover.specs.Last.{last_outcome, last_coefficients};
 ghost use Rattle.prover.specs.Proved.{Proved};
 
-use field::Element;
-use layout::Parameters;
+use layout::Claim;
 use refusal::Cause;
 
 // The honest proof of a word at its challenges: layers 1 to r - 1, joined, into the store, and the first d
@@ -22,91 +21,33 @@ use refusal::Cause;
 // for them (4, 5, 6, 7); a list whose length is not the one due, the lowest of 1 to 5 (13); a dependent basis (8).
 // These refusals leave both lists as they were. Then a layer r whose degree is not below the number of last
 // coefficients (12), with that degree: the store holds the layers, and `last` what it held.
-pub fn prove(
-    parameters: Parameters,
-    offset: Element,
-    basis: &[u64],
-    challenges: &[u64],
-    word: &[u64],
-    store: &mut [u64],
-    last: &mut [u64],
-) -> Result<(), Cause>
-    ensures { let run = run_of parameters offset.0 basis.now challenges.now word.now
-        store.old last.old in
-        Proved run result store.new last.new }
+pub fn prove(claim: &Claim, store: &mut [u64], last: &mut [u64]) -> Result<(), Cause>
+    ensures { Proved (run_claimed claim.now store.old last.old) result store.new last.new }
 {
-    let outcome = run_checks::checked(
-        parameters,
-        offset,
-        basis,
-        challenges,
-        word,
-        &store[..],
-        &last[..],
-    );
-    match outcome {
-        Ok(()) => prove_checked(parameters, offset, basis, challenges, word, store, last),
-        Err(cause) => Err(cause),
-    }
-}
-
-// The prover after the checks.
-fn prove_checked(
-    parameters: Parameters,
-    offset: Element,
-    basis: &[u64],
-    challenges: &[u64],
-    word: &[u64],
-    store: &mut [u64],
-    last: &mut [u64],
-) -> Result<(), Cause>
-    ghost run: { Run }
-    requires last_value { run_of parameters offset.0 basis.now challenges.now word.now store.old last.old ≡ run }
-    requires run_value { run_outcome run ≡ Ok tt }
-    ensures answer { result ≡ degree_outcome run }
-    ensures store { store.new ≡ honest_store run }
-    ensures last { last.new ≡ afterwards (degree_outcome run) (honest_last run) run.last }
-{
+    let shape = run_checks::checked(claim, store, last)?;
     let mut room = [0u64; 256];
-    let size: usize = 1 << parameters.dimension(parameters.rounds());
-    prove_in(
-        parameters,
-        offset,
-        basis,
-        challenges,
-        word,
-        store,
-        last,
-        &mut room[..size],
-    )
+    let size: usize = 1 << shape.dimension(shape.rounds());
+    prove_in(claim, store, last, &mut room[..size])
 }
 
-// The same with room for layer r, whose coefficients take the place of its values.
+// The prover after the checks, with room for layer r, whose coefficients take the place of its values.
 fn prove_in(
-    parameters: Parameters,
-    offset: Element,
-    basis: &[u64],
-    challenges: &[u64],
-    word: &[u64],
+    claim: &Claim,
     store: &mut [u64],
     last: &mut [u64],
     room: &mut [u64],
 ) -> Result<(), Cause>
-    ghost run: { Run }
-    requires last_value { run_of parameters offset.0 basis.now challenges.now word.now store.old last.old ≡ run }
-    requires run_value { run_outcome run ≡ Ok tt }
-    requires room_len { length room.old ≡ 2 ^ dimension run.k (steps_in run) (rounds_in run) }
-    ensures answer { result ≡ degree_outcome run }
-    ensures store { store.new ≡ honest_store run }
-    ensures last { last.new ≡ afterwards (degree_outcome run) (honest_last run) run.last }
+    requires passed { run_outcome (run_claimed claim.now store.old last.old) ≡ Ok tt }
+    requires room_len { let run = run_claimed claim.now store.old last.old in
+        length room.old ≡ 2 ^ dimension run.k (steps_in run) (rounds_in run) }
+    ensures answer { result ≡ degree_outcome (run_claimed claim.now store.old last.old) }
+    ensures store { store.new ≡ honest_store (run_claimed claim.now store.old last.old) }
+    ensures last { let run = run_claimed claim.now store.old last.old in
+        last.new ≡ afterwards (degree_outcome run) (honest_last run) run.last }
 {
-    let coset = honest_layers::fold_layers(
-        parameters, offset, basis, challenges, word, store, room,
-    );
-    let elements = coset.basis;
-    let dimension = coset.dimension;
-    newton::interpolate_in_place(coset.offset, &elements[..dimension], room);
-    last_coefficients(&room[..], last)
+    let coset = honest_layers::fold_layers(claim, store, room);
+    newton::interpolate_in_place(coset.as_coset(), room);
+    last_coefficients(room, last)
 }
 
 // The first coefficients of the interpolant, unless its degree is their number or more (12).
@@ -118,9 +59,8 @@ fn last_coefficients(interpolant: &[u64], last: &mut [u64]) -> Result<(), Cause>
     let count = last.len();
     let bound = poly::degree_bound(interpolant);
     if bound > count {
-        let degree = bound - 1;
-        return Err(Cause::DegreeTooLarge { degree });
+        return Err(Cause::DegreeTooLarge { degree: bound - 1 });
     }
-    poly::copy(&interpolant[..count], last);
+    last.copy_from_slice(&interpolant[..count]);
     Ok(())
 }
