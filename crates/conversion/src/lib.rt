@@ -7,48 +7,46 @@ ghost use Rattle.std.specs.Prelude.{◌≡◌, ◌+◌, ◌/◌, ◌%◌, ◌^�
 ghost use Rattle.transform.specs.Transform.{quarters, quarters_back, regrouped, regrouped_back, scaled_runs};
 ghost use Rattle.transform.specs.Transform.{converted, converted_back, ratio_of};
 
+use coset_halves::Maps;
 use field::Element;
 
 // One level after the other.
-pub fn convert(levels: usize, elements: &[u64], inverses: &[u64], slice: &mut [u64])
-    requires { (levels ≤ length elements.now) × (levels ≤ length inverses.now) × (levels ≤ 20)
-        × (length slice.old ≡ 2 ^ levels) }
-    ensures { let ratio = ratio_of elements.now inverses.now in
+pub fn convert(levels: usize, maps: Maps<'_>, slice: &mut [u64])
+    requires { (levels ≤ length maps.elements.now) × (levels ≤ 20) × (length slice.old ≡ 2 ^ levels) }
+    ensures { let ratio = ratio_of maps.entry.elements.now maps.entry.inverses.now in
         slice.new ≡ converted ratio 0 levels slice.old }
 {
-    let mut j: usize = 0;
-    while j < levels {
-        scale_runs(j, levels - j, ratio(elements, inverses, j), slice);
+    for j in 0..levels {
+        let r = ratio(maps.elements, maps.inverses, j);
+        scale_runs(j, levels - j, r, slice);
         regroup(j, levels - j, slice);
-        j += 1;
     }
 }
 
-pub fn convert_back(levels: usize, elements: &[u64], inverses: &[u64], slice: &mut [u64])
-    requires { (levels ≤ length elements.now) × (levels ≤ length inverses.now) × (levels ≤ 20)
-        × (length slice.old ≡ 2 ^ levels) }
-    ensures { let ratio = ratio_of inverses.now elements.now in
+pub fn convert_back(levels: usize, maps: Maps<'_>, slice: &mut [u64])
+    requires { (levels ≤ length maps.elements.now) × (levels ≤ 20) × (length slice.old ≡ 2 ^ levels) }
+    ensures { let ratio = ratio_of maps.entry.inverses.now maps.entry.elements.now in
         slice.new ≡ converted_back ratio 0 levels slice.old }
 {
-    let mut j = levels;
-    while j > 0 {
-        j -= 1;
+    for j in (0..levels).rev() {
+        let r = ratio(maps.inverses, maps.elements, j);
         regroup_back(j, levels - j, slice);
-        scale_runs(j, levels - j, ratio(inverses, elements, j), slice);
+        scale_runs(j, levels - j, r, slice);
     }
 }
 
 // e_j / e_(j-1)^2, or e_0; with the lists exchanged the inverse of that.
+#[tactic(auto, using(transform::proofs::InPlace::ratio_first, transform::proofs::InPlace::ratio_later))]
 fn ratio(elements: &[u64], inverses: &[u64], j: usize) -> Element
     requires { (j < length elements.now) × (j < length inverses.now) }
     ensures { result.0 ≡ ratio_of elements.now inverses.now j }
 {
-    let e = elements[j];
+    let e = Element(elements[j]);
     if j == 0 {
-        return Element(e);
+        return e;
     }
-    let d = inverses[j - 1];
-    Element(e).product(Element(d).product(Element(d)))
+    let d = Element(inverses[j - 1]);
+    e.product(d.product(d))
 }
 
 // Run i of the 2^upper runs of 2^lower entries times r^i.
@@ -56,20 +54,18 @@ fn scale_runs(lower: usize, upper: usize, r: Element, slice: &mut [u64])
     requires { (upper + lower ≤ 20) × (length slice.old ≡ 2 ^ (upper + lower)) }
     ensures { slice.new ≡ scaled_runs lower r.0 slice.old }
 {
-    let run = power_of_two(lower);
+    let run = usize::pow(2, lower as u32);
     let mut power = Element::ONE;
-    let mut at: usize = 0;
-    while at < slice.len() {
-        let end = at + run;
-        transform_steps::scale(power, &mut slice[at..end]);
+    for i in 0..slice.len() / run {
+        let at = i * run;
+        transform_steps::scale(power, &mut slice[at..at + run]);
         power = power.product(r);
-        at = end;
     }
 }
 
 // Exchanges quarters in the slice of 2^upper runs of 2^lower entries, and then in its halves, as long as they have four
 // runs or more.
-#[tactic(auto, using(transform::proofs::Recursion::regrouped_few))]
+#[tactic(auto, using(crate::proofs::Halving::halving))]
 fn regroup(lower: usize, upper: usize, slice: &mut [u64])
     requires { length slice.old ≡ 2 ^ (upper + lower) }
     ensures { slice.new ≡ regrouped lower upper slice.old }
@@ -77,12 +73,13 @@ fn regroup(lower: usize, upper: usize, slice: &mut [u64])
     if upper < 2 {
         return;
     }
-    let half = slice.len() / 2;
     quarters(slice);
-    regroup(lower, upper - 1, &mut slice[..half]);
-    regroup(lower, upper - 1, &mut slice[half..]);
+    let (first, second) = slice.split_at_mut(slice.len() / 2);
+    regroup(lower, upper - 1, first);
+    regroup(lower, upper - 1, second);
 }
 
+#[tactic(auto, using(crate::proofs::Halving::halving))]
 fn regroup_back(lower: usize, upper: usize, slice: &mut [u64])
     requires { length slice.old ≡ 2 ^ (upper + lower) }
     ensures { slice.new ≡ regrouped_back lower upper slice.old }
@@ -90,9 +87,9 @@ fn regroup_back(lower: usize, upper: usize, slice: &mut [u64])
     if upper <= 1 {
         return;
     }
-    let half = slice.len() / 2;
-    regroup_back(lower, upper - 1, &mut slice[..half]);
-    regroup_back(lower, upper - 1, &mut slice[half..]);
+    let (first, second) = slice.split_at_mut(slice.len() / 2);
+    regroup_back(lower, upper - 1, first);
+    regroup_back(lower, upper - 1, second);
     quarters_back(slice);
 }
 
@@ -117,12 +114,4 @@ fn quarters_back(slice: &mut [u64])
     let end = quarter + half;
     transform_steps::add_second(&mut slice[quarter..end]);
     transform_steps::add_second(&mut slice[half..]);
-}
-
-// 2^k.
-pub fn power_of_two(k: usize) -> usize
-    requires { k ≤ 20 }
-    ensures { result ≡ 2 ^ k }
-{
-    1 << k
 }

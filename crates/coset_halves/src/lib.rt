@@ -11,128 +11,87 @@ ghost use Rattle.transform.specs.Transform.{split_in_halves, joined_from_halves}
 
 use field::Element;
 
+// What the z_j are made of: the elements e_j, and their inverses.
+#[derive(Clone, Copy)]
+pub struct Maps<'a> {
+    pub elements: &'a [u64],
+    pub inverses: &'a [u64],
+    pub ghost same: { length inverses.now ≡ length elements.now },
+}
+
+impl<'a> Maps<'a> {
+    // z_n at x.
+    #[tactic(auto, unfolding(transform::specs::Transform::normalised_at))]
+    fn value(self, n: usize, x: Element) -> Element
+        requires { n < length self.elements.now }
+        ensures { result.0 ≡ normalised_at self.entry.elements.now self.entry.inverses.now n x.0 }
+    {
+        next_coset::composed_maps(&self.elements[..n], x).product(Element(self.inverses[n]))
+    }
+}
+
 // From the products of the z_j to values. Entries from 2^used on are zero: above that dimension nothing is multiplied.
+#[tactic(auto, using(crate::proofs::Halving::halving))]
 pub fn split(
     used: usize,
     n: usize,
     offset: Element,
     basis: &[u64],
-    elements: &[u64],
-    inverses: &[u64],
+    maps: Maps<'_>,
     slice: &mut [u64],
 )
-    requires { (n ≤ length basis.now) × (length elements.now ≡ length basis.now)
-        × (length inverses.now ≡ length basis.now) × (length slice.old ≡ 2 ^ n)
+    requires { (n ≤ length basis.now) × (n ≤ length maps.elements.now) × (length slice.old ≡ 2 ^ n)
         × DegreeBelow gf64 (2 ^ used) slice.old }
-    ensures { let z = normalised_at elements.now inverses.now in
+    ensures { let z = normalised_at maps.entry.elements.now maps.entry.inverses.now in
         slice.new ≡ split_in_halves z basis.now n offset.0 slice.old }
 {
     if n == 0 {
         return;
     }
     let last = n - 1;
-    let half = slice.len() / 2;
-    step(used, last, offset, elements, inverses, slice);
-    let b = basis[last];
-    let first = offset;
-    let second = offset.sum(Element(b));
-    split(
-        used,
-        last,
-        first,
-        basis,
-        elements,
-        inverses,
-        &mut slice[..half],
-    );
-    split(
-        used,
-        last,
-        second,
-        basis,
-        elements,
-        inverses,
-        &mut slice[half..],
-    );
+    step(used, last, offset, maps, slice);
+    let (first, second) = slice.split_at_mut(slice.len() / 2);
+    split(used, last, offset, basis, maps, first);
+    let behind = offset.sum(Element(basis[last]));
+    split(used, last, behind, basis, maps, second);
 }
 
 // Halves a, b become a + c b, a + c b + b, where c is z_n at the offset. Above the dimension in use b is zero.
-fn step(
-    used: usize,
-    n: usize,
-    offset: Element,
-    elements: &[u64],
-    inverses: &[u64],
-    slice: &mut [u64],
-)
-    requires { (n < length elements.now) × (n < length inverses.now) × (length slice.old ≡ 2 ^ n + 2 ^ n)
+#[tactic(auto, using(transform::proofs::Recursion::second_none))]
+fn step(used: usize, n: usize, offset: Element, maps: Maps<'_>, slice: &mut [u64])
+    requires { (n < length maps.elements.now) × (length slice.old ≡ 2 ^ n + 2 ^ n)
         × DegreeBelow gf64 (2 ^ used) slice.old }
-    ensures { let c = normalised_at elements.now inverses.now n offset.0 in
+    ensures { let c = normalised_at maps.entry.elements.now maps.entry.inverses.now n offset.0 in
         slice.new ≡ first_added (2 ^ n) (second_added c (2 ^ n) slice.old) }
 {
-    if n >= used {
-        transform_steps::add_first(slice);
-        return;
+    if n < used {
+        transform_steps::add_multiples(maps.value(n, offset), slice);
     }
-    let c = multiplier(elements, inverses, n, offset);
-    transform_steps::add_multiples(c, slice);
     transform_steps::add_first(slice);
 }
 
 // From values to the products of the z_j.
-pub fn join(
-    n: usize,
-    offset: Element,
-    basis: &[u64],
-    elements: &[u64],
-    inverses: &[u64],
-    slice: &mut [u64],
-)
-    requires { (n ≤ length basis.now) × (length elements.now ≡ length basis.now)
-        × (length inverses.now ≡ length basis.now) × (length slice.old ≡ 2 ^ n) }
-    ensures { let z = normalised_at elements.now inverses.now in
+#[tactic(auto, using(crate::proofs::Halving::halving))]
+pub fn join(n: usize, offset: Element, basis: &[u64], maps: Maps<'_>, slice: &mut [u64])
+    requires { (n ≤ length basis.now) × (n ≤ length maps.elements.now) × (length slice.old ≡ 2 ^ n) }
+    ensures { let z = normalised_at maps.entry.elements.now maps.entry.inverses.now in
         slice.new ≡ joined_from_halves z basis.now n offset.0 slice.old }
 {
     if n == 0 {
         return;
     }
     let last = n - 1;
-    let middle = slice.len() / 2;
-    let added = basis[last];
-    join(
-        last,
-        offset,
-        basis,
-        elements,
-        inverses,
-        &mut slice[..middle],
-    );
-    join(
-        last,
-        offset.sum(Element(added)),
-        basis,
-        elements,
-        inverses,
-        &mut slice[middle..],
-    );
-    step_back(last, offset, elements, inverses, slice);
+    let (first, second) = slice.split_at_mut(slice.len() / 2);
+    join(last, offset, basis, maps, first);
+    join(last, offset.sum(Element(basis[last])), basis, maps, second);
+    step_back(last, offset, maps, slice);
 }
 
-fn step_back(n: usize, offset: Element, elements: &[u64], inverses: &[u64], slice: &mut [u64])
-    requires { (n < length elements.now) × (n < length inverses.now) × (length slice.old ≡ 2 ^ n + 2 ^ n) }
-    ensures { let c = normalised_at elements.now inverses.now n offset.0 in
+fn step_back(n: usize, offset: Element, maps: Maps<'_>, slice: &mut [u64])
+    requires { (n < length maps.elements.now) × (length slice.old ≡ 2 ^ n + 2 ^ n) }
+    ensures { let c = normalised_at maps.entry.elements.now maps.entry.inverses.now n offset.0 in
         slice.new ≡ second_added c (2 ^ n) (first_added (2 ^ n) slice.old) }
 {
-    let c = multiplier(elements, inverses, n, offset);
     transform_steps::add_first(slice);
-    transform_steps::add_multiples(c, slice);
-}
-
-// z_n at x.
-fn multiplier(elements: &[u64], inverses: &[u64], n: usize, x: Element) -> Element
-    requires { (n < length elements.now) × (n < length inverses.now) }
-    ensures { result.0 ≡ normalised_at elements.now inverses.now n x.0 }
-{
-    let inverse = inverses[n];
-    next_coset::composed_maps(&elements[..n], x).product(Element(inverse))
+    transform_steps::add_multiples(maps.value(n, offset), slice);
 }

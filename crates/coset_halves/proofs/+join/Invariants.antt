@@ -1,5 +1,4 @@
--- `coset_halves::join` meets its contract. The measure is the dimension. Each half by itself, then the step back on
--- the whole. Assumes nothing.
+-- The measure is the dimension.
 use Rattle.coset_halves.proofs.+join.Given as goal
 
 abbrev pub decreases-join : goal.decreases-join

@@ -1,0 +1,2 @@
+pub mod Halving
+mod Runs
