@@ -8,6 +8,7 @@ ghost use Rattle.transform.specs.Transform.{second_added, first_added};
 ghost use Rattle.transform_steps.specs.Factor.{Multiplies};
 
 use field::Element;
+use multiplier::Multiplier;
 
 // Each entry of the first half plus the one of the second half.
 #[tactic(auto, using(gf64::proofs::Ring::product_one_l))]
@@ -27,8 +28,8 @@ pub fn add_multiples(c: Element, slice: &mut [u64])
     if slice.len() < 6 {
         add_images(|x| c.product(Element(x)).0, slice);
     } else {
-        let table = multiplier::multiples(c);
-        add_images(|x| multiplier::times(&table, x), slice);
+        let table = Multiplier::of(c);
+        add_images(|x| table.times(x), slice);
     }
 }
 
@@ -63,8 +64,8 @@ pub fn scale(c: Element, part: &mut [u64])
     if part.len() < 3 {
         map_images(|x| c.product(Element(x)).0, part);
     } else {
-        let table = multiplier::multiples(c);
-        map_images(|x| multiplier::times(&table, x), part);
+        let table = Multiplier::of(c);
+        map_images(|x| table.times(x), part);
     }
 }
 
