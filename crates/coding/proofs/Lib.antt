@@ -1,1 +1,1 @@
-mod Used
+pub mod Used

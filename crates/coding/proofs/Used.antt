@@ -8,6 +8,10 @@ use lib.ListN.{length, drop, replicate}
 use mathlib.Core.Path.{refl}
 use Rattle.poly.specs.Carrier.{gf64}
 use Rattle.poly.specs.Polynomial.{Zeros, DegreeBelow, padded}
+use native.Mathlib.Nat.{le_trans}
+use lib.Pow.{pow_mono}
+use Rattle.reed_solomon.specs.Codes.{encoded}
+use Rattle.reed_solomon.proofs.Theorems.{encoding}
 use Rattle.poly.proofs.Entries.{all_drop, all_replicate}
 
 -- the least m with count ≤ 2^m is at most every other
@@ -27,3 +31,14 @@ zeros_from (suc m) n (c ∷ p) h = zeros_from m n p (omega arith)
 pub zeros_behind : (m n : ℕ) (p : List ℕ) → length p ≤ m → DegreeBelow gf64 m (padded gf64 n p)
 unfolding padded
 zeros_behind m n p h = zeros_from m (n - length p) p h
+
+-- at most 2^k, k at most 20
+pub within_20 : (k n : ℕ) → k ≤ 20 → n ≤ 2 ^ k → n ≤ 2 ^ 20
+within_20 k n h l = le_trans l (pow_mono h)
+
+-- coefficients that are left off are zero
+pub left_off : (offset : ℕ) (basis coefficients : List ℕ)
+    → encoded offset basis (padded gf64 (2 ^ length basis) coefficients) ≡ encoded offset basis coefficients
+left_off = encoding.left_off
+
+pub ruleset used = (used_within, zeros_behind, left_off)

@@ -1,45 +1,34 @@
--- `coding::dimension_of` meets its contract. The loop's invariant: the size is 2^m, and every lesser power of two is
--- less than the count. Assumes nothing.
-use mathlib.Core.Path.{◌≡◌, refl, sym, ap, ◌∙◌, subst}
+-- The dimension is that of the next power of two. Assumes nothing.
+use mathlib.Core.Path.{◌≡◌, sym, ◌∙◌, subst}
 use mathlib.Core.Logic.{◌⊎◌, inl, inr, ⊎_elim}
-use native.Mathlib.Nat.{pow-suc}
-use native.Mathlib.Numerals.{add-one}
-use Prim.Native.Nat.{ℕ, zero, suc, ◌+◌, ◌*◌, ◌^◌, ◌≤◌, ◌<◌}
+use native.Mathlib.Nat.{pow-suc, le_trans}
 use native.Mathlib.Omega.{arith}
+use lib.Pow.{pow_mono, pow_pos}
+use Prim.Native.Nat.{ℕ, zero, suc, ◌*◌, ◌/◌, ◌^◌, ◌≤◌, ◌<◌, max}
 use Rattle.coding.proofs.dimension_of.Goals as goal
 
--- every power up to 2^m is less than the count
-earlier : (m count : ℕ) → ((j : ℕ) → j < m → 2 ^ j < count) → 2 ^ m < count → (j : ℕ) → j < m + 1 → 2 ^ j < count
-earlier m count below last j h = ⊎_elim (below j) (λ e. subst
-    (λ (n : ℕ). 2 ^ n < count) (sym e) last) (by j m (omega arith))
-  where
-    by : (j m : ℕ) → j ≤ m → (j < m) ⊎ (j ≡ m)
-    by zero zero l = inr refl
-    by zero (suc m) l = inl (omega arith)
-    by (suc j) zero l = absurd (omega arith)
-    by (suc j) (suc m) l = ⊎_elim (λ h. inl (omega arith)) (λ e. inr (ap suc e)) (by j m (omega arith))
+le_or_lt : (j i : ℕ) → (j ≤ i) ⊎ (i < j)
+le_or_lt zero i = inl (omega arith)
+le_or_lt (suc j) zero = inr (omega arith)
+le_or_lt (suc j) (suc i) = ⊎_elim (λ l. inl (omega arith)) (λ l. inr (omega arith)) (le_or_lt j i)
 
-pub loop-size-init : goal.loop-size-init
-loop-size-init c = (refl, λ j h. absurd (omega arith), omega arith)
+doubled : (m n : ℕ) → m < n → 2 * 2 ^ m ≤ 2 ^ n
+doubled m n h = subst (λ (k : ℕ). k ≤ 2 ^ n) (pow-suc 2 m ∙ omega arith) (pow_mono {i = suc m} {j = n} (omega arith))
 
-pub overflow_add-m : goal.overflow_add-m
-overflow_add-m c = record { fits = omega (arith, c.loop-size.invariant.2, c.requires) }
+-- p, a power of two, is 2^r
+is_power : (p r k : ℕ) → p ≡ 2 ^ k → p < 2 * 2 ^ r → p ≤ 2 ^ r
+is_power p r k e h =
+    ⊎_elim (λ l. subst (λ (n : ℕ). n ≤ 2 ^ r) (sym e) (pow_mono l))
+    (λ l. absurd (omega (arith, doubled r k l, e))) (le_or_lt k r)
 
-pub loop-size-smaller : goal.loop-size-smaller
-loop-size-smaller c = omega (arith, c.loop-size.invariant.2)
-
-pub loop-size-preserved : goal.loop-size-preserved
-loop-size-preserved c =
-    let l = c.loop-size in
-    let count = c.args.count in (
-      ap (λ (n : ℕ). n * 2) l.invariant.0 ∙ sym (ap (λ (n : ℕ). 2 ^ n) (add-one l.m) ∙ pow-suc 2 l.m),
-      λ j h. earlier l.m count l.invariant.1 (subst (λ (n : ℕ). n < count) l.invariant.0 (omega arith)) j h,
-      omega (arith, l.invariant.2),
-    )
+least : (count p r m : ℕ) → m < r → 2 ^ r ≤ p → p / 2 < max 1 count → 2 ^ m < count
+least count p r m h low up = omega (arith, doubled m r h, pow_pos m)
 
 pub returns : goal.returns
-returns c = let l = c.loop-size in (
-  subst
-      (λ (n : ℕ). c.args.count ≤ n) l.invariant.0 (omega arith),
-  l.invariant.1,
-)
+returns c =
+    let p = c.next_power_of_two in
+    let r = c.ilog2 in (
+      le_trans p.ensures.lower_bound
+          (is_power p.result r.result p.ensures.power.0 p.ensures.power.1 r.ensures.next_power_gt),
+      λ m h. least c.args.count p.result r.result m h r.ensures.power_le p.ensures.upper_bound,
+    )

@@ -1,47 +1,25 @@
--- `coset_transform::interpolate_in_place` meets its contract: the elements and their inverses are those that it
--- needs. Assumes nothing.
-use mathlib.Core.Path.{sym}
-use lib.ListN.{length, take}
-use Rattle.transform.proofs.InPlace.{elements_counted, inverses_counted, elements_held, inverses_held}
+-- The halves joined, then the conversion back. Assumes nothing.
+use mathlib.Core.Path.{◌∙◌}
+use native.Mathlib.Omega.{arith}
+use borrow.Author.Rules.{rules}
+use Rattle.transform.proofs.InPlace.{elements_counted, interpolated_with}
 use Rattle.coset_transform.proofs.interpolate_in_place.Goals as goal
 
-pub slice_bounds-inverses_of-end : goal.slice_bounds-inverses_of-end
-slice_bounds-inverses_of-end c =
-    let basis = c.args.basis.now in
-    let made = c.step_elements-elements in
-    let held = elements_held 20 basis made.result made.ensures in
-    sym (elements_counted basis (take (length basis) made.result) held)
+pub join-requires : goal.join-requires
+join-requires c =
+    let basis = c.args.coset.basis.now in
+    let counted = elements_counted basis c.as_slice.result.now (cc) in
+    (omega arith, omega arith, c.requires)
 
-pub inverses_of-inverses-requires : goal.inverses_of-inverses-requires
-inverses_of-inverses-requires c =
-    let basis = c.args.basis.now in
-    let made = c.step_elements-elements in
-    let held = elements_held 20 basis made.result made.ensures in
-    (c.requires.0, c.requires.1, held)
+pub convert_back-requires : goal.convert_back-requires
+convert_back-requires c =
+    let basis = c.args.coset.basis.now in
+    let counted = elements_counted basis c.as_slice.result.now (cc) in
+    (omega arith, c.args.coset.few, c.join.auto.slice ∙ c.requires)
 
-pub slice_bounds-interpolate_with-end : goal.slice_bounds-interpolate_with-end
-slice_bounds-interpolate_with-end c =
-    let basis = c.args.basis.now in
-    let made = c.step_elements-elements in
-    let held = elements_held 20 basis made.result made.ensures in
-    sym (elements_counted basis (take (length basis) made.result) held)
-
-pub slice_bounds-interpolate_with-end-2 : goal.slice_bounds-interpolate_with-end-2
-slice_bounds-interpolate_with-end-2 c =
-    let basis = c.args.basis.now in
-    let made = c.step_elements-elements in
-    let held = elements_held 20 basis made.result made.ensures in
-    let inverted = c.inverses_of-inverses in
-    let front = take (length basis) made.result in
-    let back = inverses_held 20 basis front inverted.result held inverted.ensures in
-    sym (inverses_counted basis front (take (length basis) inverted.result) held back)
-
-pub interpolate_with-requires : goal.interpolate_with-requires
-interpolate_with-requires c =
-    let basis = c.args.basis.now in
-    let made = c.step_elements-elements in
-    let held = elements_held 20 basis made.result made.ensures in
-    let inverted = c.inverses_of-inverses in
-    let front = take (length basis) made.result in
-    let back = inverses_held 20 basis front inverted.result held inverted.ensures in
-    (c.requires.0, c.requires.1, c.requires.2, held, back)
+pub returns : goal.returns
+returns c =
+    let coset = c.args.coset in
+    let done = interpolated_with coset.offset.0 coset.basis.now c.args.slice.now c.as_slice.result.now
+    c.as_slice-2.result.now (search rules) coset.elements (λ i. search rules) coset.independent c.requires (cc) (cc) in
+    cc

@@ -1,26 +1,26 @@
--- `coset_transform::inverses_of` meets its contract: no element is zero. Assumes nothing.
-use mathlib.Core.Path.{ap, ◌∙◌}
-use native.Mathlib.Nat.{le_refl}
-use native.Mathlib.Omega.{arith}
+-- No element is zero. Assumes nothing.
+use mathlib.Core.Path.{◌∙◌}
 use lib.ListN.{length}
 use Rattle.gf64.specs.Field.{inverse}
 use Rattle.poly.proofs.Filling.{padded_mapped}
 use Rattle.coset.proofs.Points.{all_elements}
-use Rattle.coset.proofs.Steps.{length-elements, listed_not_zero}
-use borrow.Author.Rules.{rules}
+use Rattle.coset.proofs.Steps.{listed_not_zero}
+use Rattle.transform.proofs.InPlace.{inverses_held}
 use Rattle.coset_transform.proofs.inverses_of.Goals as goal
 
 pub inverses_of_nonzero-requires : goal.inverses_of_nonzero-requires
 inverses_of_nonzero-requires c =
-    let basis = c.args.basis.now in
-    let elements = c.args.elements.now in
-    let many = ap length c.requires.2 ∙ length-elements (length basis) basis (le_refl (length basis)) in (
-      omega (arith, many, c.requires.0),
-      listed_not_zero (length basis) basis elements
-          (all_elements basis (λ i. search rules)) c.requires.1 c.requires.2,
+    let coset = c.args.coset in
+    let basis = coset.basis.now in (
+      c.as_slice-elements.ensures.few,
+      listed_not_zero (length basis) basis c.as_slice-elements.result.now (all_elements basis coset.elements) coset.independent
+          (c.as_slice-elements.ensures.list ∙ c.requires),
     )
 
 pub returns : goal.returns
 returns c =
-    c.inverses_of_nonzero.ensures
-    ∙ padded_mapped 20 inverse c.args.elements.now
+    let elements = c.as_slice-elements.result.now in
+    let room = c.inverses_of_nonzero.new.inverses in
+    let held = inverses_held 20 c.args.coset.basis.now elements room (c.as_slice-elements.ensures.list ∙ c.requires)
+    (c.inverses_of_nonzero.ensures ∙ padded_mapped 20 inverse elements) in
+    cc
