@@ -68,10 +68,10 @@ module _ (step offset : ℕ) (basis word : List ℕ) (w : IsWord offset basis wo
       ∙ sum_back (point offset (drop step basis) coset) (point 0 (take step basis) between)
 
   -- what is computed is the entry of the fold
-  pub folded-entry : (x start next : ℕ) → IsElement x
-      → value_folded step (round_over step basis x start next) (query_point_at offset basis index)
+  pub folded-entry : (x start : ℕ) → IsElement x
+      → value_folded step (round_over step basis x start) (query_point_at offset basis index)
       (coset_entries step word coset) ≡ fold_entry step offset basis word x coset
-  folded-entry x start next hx =
+  folded-entry x start hx =
       ap₂ (λ (is ps : List ℕ).
       value_at is (map (sum (sum x (sum (point offset basis index) (get_or (padded gf64 8 span) between 0)))) ps)
       (coset_entries step word coset))

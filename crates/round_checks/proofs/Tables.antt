@@ -14,28 +14,27 @@ use Rattle.round_checks.specs.declared.Round.{Round}
 use Rattle.round_checks.specs.Rounds.{no_round, round_over, Holds}
 
 -- a round with these three lists, as the code makes it
-abbrev round_with : (elements inverses span : List ℕ) (challenge start next : ℕ) → Round
-round_with elements inverses span challenge start next =
+abbrev round_with : (elements inverses span : List ℕ) (challenge start : ℕ) → Round
+round_with elements inverses span challenge start =
     record {
       elements = elements;
       inverses = inverses;
       span = span;
       challenge = record { 0 = challenge };
       start = start;
-      next = next;
     }
 
-pub round_equal : (step : ℕ) (basis : List ℕ) (challenge start next : ℕ) (elements inverses span : List ℕ)
+pub round_equal : (step : ℕ) (basis : List ℕ) (challenge start : ℕ) (elements inverses span : List ℕ)
     → elements ≡ padded gf64 3 (step_elements step basis)
     → inverses ≡ padded gf64 3 (map inverse (step_elements step basis))
     → span ≡ padded gf64 8 (points 0 (take step basis))
-    → round_with elements inverses span challenge start next ≡ round_over step basis challenge start next
-round_equal step basis challenge start next elements inverses span e i s =
-    ap₂ (λ (es is : List ℕ). round_with es is span challenge start next) e i
+    → round_with elements inverses span challenge start ≡ round_over step basis challenge start
+round_equal step basis challenge start elements inverses span e i s =
+    ap₂ (λ (es is : List ℕ). round_with es is span challenge start) e i
     ∙ ap
     (λ (l : List ℕ).
     round_with (padded gf64 3 (step_elements step basis)) (padded gf64 3 (map inverse (step_elements step basis))) l
-    challenge start next)
+    challenge start)
     s
 
 pub holds_next : (table : List Round) (round : ℕ → Round) (n : ℕ) (value : Round) → n < length table

@@ -1,1 +1,2 @@
 pub mod Rounds
+pub mod Judging

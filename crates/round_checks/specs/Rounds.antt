@@ -1,9 +1,9 @@
 -- What the judge computes once for each round, and a query's index and point in a layer, as the code has them. Only
 -- inner functions cite this.
-use Rattle.std.specs.Prelude.{◌≡◌, Bool, true, false, cond, List, [], map, ℕ, suc, ◌+◌, ◌*◌, ◌/◌, ◌%◌, ◌^◌, ◌≤◌, ◌<◌, length, get_or, take, drop}
+use Rattle.std.specs.Prelude.{◌≡◌, List, [], map, ℕ, ◌/◌, ◌%◌, ◌^◌, ◌<◌, get_or, take}
 use Rattle.gf64.specs.Field.{sum, inverse}
 use Rattle.poly.specs.Carrier.{gf64}
-use Rattle.poly.specs.Polynomial.{padded, evaluate}
+use Rattle.poly.specs.Polynomial.{padded}
 use Rattle.coset.specs.Coset.{point, points}
 use Rattle.coset.specs.Steps.{composed_maps, step_elements}
 use Rattle.fold.specs.Halving.{value_at}
@@ -14,17 +14,15 @@ use Rattle.layout.specs.Parameters.{steps_by}
 use Rattle.round_checks.specs.declared.Round.{Round}
 use Rattle.round_checks.specs.declared.QueryPoint.{QueryPoint}
 
--- a round over a basis, with a challenge; its layer, if it is stored, begins at `start` in the store, and the next one
--- at `next`
-abbrev pub round_over : (step : ℕ) (basis : List ℕ) (challenge start next : ℕ) → Round
-round_over step basis challenge start next =
+-- a round over a basis, with a challenge; its layer, if it is stored, begins at `start` in the store
+abbrev pub round_over : (step : ℕ) (basis : List ℕ) (challenge start : ℕ) → Round
+round_over step basis challenge start =
     record {
       elements = padded gf64 3 (step_elements step basis);
       inverses = padded gf64 3 (map inverse (step_elements step basis));
       span = padded gf64 8 (points 0 (take step basis));
       challenge = record { 0 = challenge };
       start = start;
-      next = next;
     }
 
 -- what `get_or` gives beyond the table
@@ -36,14 +34,12 @@ no_round =
       span = [];
       challenge = record { 0 = 0 };
       start = 0;
-      next = 0;
     }
 
 -- round i
 abbrev pub round_at : (p : Parameters) (basis challenges : List ℕ) (i : ℕ) → Round
 round_at p basis challenges i =
-    round_over p.step (layer_basis (steps_by p) basis i) (get_or challenges i 0)
-    (layer_start p.k (steps_by p) i) (layer_start p.k (steps_by p) (suc i))
+    round_over p.step (layer_basis (steps_by p) basis i) (get_or challenges i 0) (layer_start p.k (steps_by p) i)
 
 -- the first n rounds stand in the table
 abbrev pub Holds : (table : List Round) (round : ℕ → Round) (n : ℕ) → Type 0
@@ -67,23 +63,3 @@ value_folded step round here part =
     value_at (take step round.inverses)
     (map (sum (sum round.challenge.0 (sum here.point.0 (get_or round.span (here.index % 2 ^ step) 0))))
     (take (2 ^ step) round.span)) part
-
--- where that coset begins in its layer
-abbrev pub part_begin : (step : ℕ) (here : QueryPoint) → ℕ
-part_begin step here = here.index / 2 ^ step * 2 ^ step
-
--- its entries: of the word in the first round, later of the store
-abbrev pub part_read : (step : ℕ) (round : Round) (here : QueryPoint) (first : Bool) (word store : List ℕ) → List ℕ
-part_read step round here first word store =
-    cond first (take (2 ^ step) (drop (part_begin step here) word))
-    (take (2 ^ step) (drop (round.start + part_begin step here) store))
-
--- they lie within the list that they are read from
-pub record PartWithin (step : ℕ) (round : Round) (here : QueryPoint) (first : Bool) (word store : List ℕ) : Type 0 where
-  pub in_word : first ≡ true → part_begin step here + 2 ^ step ≤ length word
-  pub in_store : first ≡ false → round.start + part_begin step here + 2 ^ step ≤ length store
-
--- the value found: an entry of the next layer or, in the last round, the last polynomial's
-abbrev pub value_read : (round : Round) (next : QueryPoint) (stored : Bool) (store last : List ℕ) → ℕ
-value_read round next stored store last =
-    cond stored (get_or store (round.next + next.index) 0) (evaluate gf64 last next.point.0)

@@ -1,24 +1,48 @@
-// What the judge over lists and the one over bytes have in common: what is computed once for each round, before the
-// queries, a query's index and point in a layer, and the cosets that a query has read.
+// The round checks of the judge over lists and of the one over bytes, and of the marking sheet: what is computed once
+// for each round, before the queries, and a query's way through the layers, wherever these lie.
 #![tactic(auto)]
 
-ghost use Rattle.std.specs.Prelude.{◌≡◌, ◌≢◌, true, ◌+◌, ◌^◌, ◌≤◌, ◌<◌, min, length};
+ghost use Rattle.std.specs.Prelude.{◌≡◌, ◌≢◌, true, List, ℕ, ◌+◌, ◌^◌, ◌≤◌, ◌<◌, length, get_or};
 ghost use Rattle.poly.specs.Polynomial.{All};
 ghost use Rattle.coset.specs.Span.{Independent};
 ghost use Rattle.coset.specs.Steps.{step_elements};
-ghost use Rattle.layout.specs.Parameters.{steps_by, Valid};
-ghost use Rattle.layer_cosets.specs.Cosets.{basis_of};
-ghost use Rattle.round_checks.specs.Rounds.{round_over, round_at, Holds, query_point_at, next_query_point};
-ghost use Rattle.round_checks.specs.Rounds.{value_folded, part_read, PartWithin, value_read};
+ghost use Rattle.fri.specs.Rounds.{value_computed, value_found, failing_round};
+ghost use Rattle.fri.specs.Judge.{checks_outcome, verdict_of};
+ghost use Rattle.layout.specs.declared.Parameters.{Parameters};
+ghost use Rattle.layout.specs.Parameters.{steps_by};
+ghost use Rattle.round_checks.specs.Rounds.{round_over, round_at, Holds, query_point_at, next_query_point, value_folded};
+ghost use Rattle.round_checks.specs.Judging.{layer_of, EntryWithin, run_sent, query_point_of, Reached, Made};
+ghost use Rattle.round_checks.specs.Judging.{Prepared, elements_prop};
+ghost use Rattle.std.proofs.Props.{props};
 
-use coset_value::Coset;
+pub mod sent;
+
+use coset_value::Halvings;
 use field::Element;
+use fri::Verdict;
 use layer_cosets::LayerCoset;
-use layout::Parameters;
+use layout::Shape;
+use refusal::Cause;
+use sent::Sent;
+
+// The layers of a run, wherever they lie: layer 0, the word, and the store.
+pub trait Layers: Copy + Drop {
+    ghost parameters: { Self → Parameters };
+
+    ghost word: { Self → List ℕ };
+
+    ghost store: { Self → List ℕ };
+
+    // Entry `index` of layer i, which begins at `start` in the store, if it is stored.
+    fn entry(&self, i: usize, start: usize, index: usize) -> u64
+        requires { EntryWithin (parameters self.now) i start index }
+        ensures { result ≡ get_or (layer_of (parameters self.now) (word self.now) (store self.now) i) index 0 };
+
+    ghost elements: { (layers : Self) (i : ℕ) → (get_or (word layers) i 0 < 2 ^ 64) × (get_or (store layers) i 0 < 2 ^ 64) };
+}
 
 // A round: the elements of its step's maps, their inverses, the span of the step's basis elements in point order, the
-// challenge, and where its layer and the next one begin in the store: the word, layer 0, is not there, and where
-// layer r would begin the store ends.
+// challenge, and where its layer begins in the store: the word, layer 0, is not there.
 #[derive(Clone, Copy)]
 pub struct Round {
     pub elements: [u64; 3],
@@ -26,7 +50,6 @@ pub struct Round {
     pub span: [u64; 8],
     pub challenge: Element,
     pub start: usize,
-    pub next: usize,
 }
 
 // A query's index in a layer, and the point there.
@@ -36,85 +59,70 @@ pub struct QueryPoint {
     pub point: Element,
 }
 
+// The two values of a round check, which passes where they are equal.
+#[derive(Clone, Copy)]
+pub struct RoundCheck {
+    pub computed: Element,
+    pub found: Element,
+}
+
+// All that is there before the queries.
+#[derive(Drop)]
+pub struct Judging<'a, L: Layers> {
+    pub sent: Sent<'a>,
+    pub layers: L,
+    pub count: usize,
+    pub table: [Round; 19],
+    pub ghost same: { L.parameters layers ≡ sent.shape.parameters },
+    pub ghost prepared: { Prepared (run_sent sent (L.word layers) (L.store layers)) sent.queries.now count table } by { Prim.hlevel (props, elements_prop) },
+}
+
 // All rounds. What is inverted is inverted here, before the queries: the elements of each round's maps. None of them is
 // zero, since the bases of all layers are independent.
-pub fn set_up(parameters: Parameters, basis: &[u64], challenges: &[u64]) -> [Round; 19]
-    requires { Valid parameters × (length basis.now ≡ parameters.k) × Independent basis.now
-        × (length challenges.now ≡ length (steps_by parameters)) }
-    ensures { let round = round_at parameters basis.now challenges.now in
-        Holds result round (length (steps_by parameters)) }
+fn set_up(shape: Shape, basis: &[u64], challenges: &[u64]) -> [Round; 19]
+    requires { let p = shape.parameters in
+        (length basis.now ≡ p.k) × Independent basis.now × (length challenges.now ≡ length (steps_by p)) }
+    ensures { let round = round_at shape.parameters basis.now challenges.now in
+        Holds result round (length (steps_by shape.parameters)) }
 {
-    let count = parameters.rounds();
     let none = Round {
         elements: [0; 3],
         inverses: [0; 3],
         span: [0; 8],
         challenge: Element::ZERO,
         start: 0,
-        next: 0,
     };
+    let step = shape.parameters.step;
     let mut table = [none; 19];
     let mut coset = LayerCoset::first(Element::ZERO, basis);
     let mut start: usize = 0;
-    let mut i: usize = 0;
-    while i < count {
-        let next = parameters.layer_start(i + 1);
-        let challenge = challenges[i];
-        table[i] = Round::over(coset, parameters.step, Element(challenge), start, next);
-        coset = coset.next(parameters.step);
-        start = next;
-        i += 1;
+    for (i, challenge) in challenges.iter().enumerate() {
+        table[i] = Round::over(coset.basis.as_slice(), step, Element(*challenge), start);
+        coset = coset.next(step);
+        start = shape.layer_start(i + 1);
     }
     table
 }
 
 impl Round {
-    fn over(coset: LayerCoset, step: usize, challenge: Element, start: usize, next: usize) -> Round
-        requires { (step ≤ 3) × (step ≤ coset.dimension) × (coset.dimension ≤ 20)
-            × All (λ e. e ≢ 0) (step_elements step (basis_of coset)) }
-        ensures { result ≡ round_over step (basis_of coset) challenge.0 start next }
+    // The round whose layer lies over a coset with this basis.
+    fn over(basis: &[u64], step: usize, challenge: Element, start: usize) -> Round
+        requires { (step ≤ 3) × (step ≤ length basis.now) × All (λ e. e ≢ 0) (step_elements step basis.now) }
+        ensures { result ≡ round_over step basis.now challenge.0 start }
     {
-        let elements = coset.step_elements(step);
-        let basis = coset.basis;
+        let elements = next_coset::step_elements(basis, step);
         Round {
             elements,
             inverses: coset_value::inverses_of(&elements[..step]),
             span: coset_value::span_of(&basis[..step]),
             challenge,
             start,
-            next,
         }
     }
 
-    // The fold, at the challenge, of the coset that holds the query's index; in the first round it is one of the word,
-    // later one of the store.
-    pub fn computed(
-        self,
-        step: usize,
-        here: QueryPoint,
-        first: bool,
-        word: &[u64],
-        store: &[u64],
-    ) -> Element
-        requires { (1 ≤ step) × (step ≤ 3) × PartWithin step self here first word.now store.now }
-        ensures { let part = part_read step self here first word.now store.now in
-            result.0 ≡ value_folded step self here part }
-    {
-        let size = 1 << step;
-        let begin = here.index / size * size;
-        if first {
-            let end = begin + size;
-            self.folded(step, here, &word[begin..end])
-        } else {
-            let begin = self.start + begin;
-            let end = begin + size;
-            self.folded(step, here, &store[begin..end])
-        }
-    }
-
-    // The fold of that coset, which has these entries. Its first point is the query's plus entry (index mod 2^step) of
-    // the span, by which the query's point differs from it.
-    pub fn folded(self, step: usize, here: QueryPoint, part: &[u64]) -> Element
+    // The fold of the coset that holds the query's index, which has these entries. Its first point is the query's plus
+    // entry (index mod 2^step) of the span, by which the query's point differs from it.
+    fn folded(self, step: usize, here: QueryPoint, part: &[u64]) -> Element
         requires { (1 ≤ step) × (step ≤ 3) × (length part.now ≡ 2 ^ step) }
         ensures { result.0 ≡ value_folded step self here part.now }
     {
@@ -123,28 +131,18 @@ impl Round {
         let inverses = self.inverses;
         let between = span[here.index % size];
         let first = here.point.sum(Element(between));
-        let coset = Coset::read(&span[..size], first, part);
-        coset.value_at(self.challenge, &inverses[..step])
-    }
-
-    // The value that the fold must equal: an entry of the next layer, where that is stored, or, in the last round, the
-    // last polynomial's.
-    pub fn found(self, next: QueryPoint, stored: bool, store: &[u64], last: &[u64]) -> Element
-        requires { stored ≡ true → self.next + next.index < length store.now }
-        ensures { result.0 ≡ value_read self next stored store.now last.now }
-    {
-        if stored {
-            let at = self.next + next.index;
-            Element(store[at])
-        } else {
-            poly::evaluate(last, next.point)
-        }
+        let moved = self.challenge.sum(first);
+        let halvings = Halvings {
+            inverses: &inverses[..step],
+            span: &span[..size],
+        };
+        halvings.value_at(moved, part)
     }
 }
 
 impl QueryPoint {
     // In layer 0.
-    pub fn first(offset: Element, basis: &[u64], index: usize) -> QueryPoint
+    fn first(offset: Element, basis: &[u64], index: usize) -> QueryPoint
         ensures { result ≡ query_point_at offset.0 basis.now index }
     {
         QueryPoint {
@@ -154,7 +152,7 @@ impl QueryPoint {
     }
 
     // In the next layer.
-    pub fn next(self, round: Round, step: usize) -> QueryPoint
+    fn next(self, round: Round, step: usize) -> QueryPoint
         requires { step ≤ 3 }
         ensures { result ≡ next_query_point step round.elements self }
     {
@@ -166,11 +164,120 @@ impl QueryPoint {
     }
 }
 
-// Where `count` is r: how many cosets a query has read when the check of round i fails, those up to round i and, for
-// the value found, the next one, if there is one.
-pub fn read_until(i: usize, count: usize) -> usize
-    requires { i < count }
-    ensures { result ≡ min (i + 2) count }
-{
-    if i + 1 < count { i + 2 } else { count }
+impl<'a, L: Layers> Judging<'a, L> {
+    // Where all checks before the round checks pass.
+    pub fn new(sent: Sent<'a>, layers: L) -> Judging<'a, L>
+        requires same { L.parameters layers ≡ sent.shape.parameters }
+        requires checked { let run = run_sent sent (L.word layers) (L.store layers) in
+            checks_outcome run sent.queries.now ≡ Ok tt }
+        ensures run { run_sent result.sent (L.word result.layers) (L.store result.layers)
+            ≡ run_sent sent.entry (L.word layers) (L.store layers) }
+        ensures queries { result.sent.queries.now ≡ sent.entry.queries.now }
+    {
+        Judging {
+            sent,
+            layers,
+            count: sent.shape.rounds(),
+            table: set_up(sent.shape, sent.basis, sent.challenges),
+        }
+    }
+
+    // The query at index j, in layer 0.
+    pub fn first(&self, j: u64) -> QueryPoint
+        ensures { let run = run_sent self.now.sent (L.word self.now.layers) (L.store self.now.layers) in
+            result ≡ query_point_of run j 0 }
+    {
+        QueryPoint::first(self.sent.offset, self.sent.basis, j as usize)
+    }
+
+    // The check of round i of a query that is there in layer i, and where the query is in the next layer.
+    pub fn check(&self, i: usize, here: QueryPoint) -> (RoundCheck, QueryPoint)
+        requires round { i < self.now.count }
+        requires reached { let run = run_sent self.now.sent (L.word self.now.layers) (L.store self.now.layers) in
+            Reached run i here }
+        ensures { let run = run_sent self.now.sent (L.word self.now.layers) (L.store self.now.layers) in
+            (j : ℕ) → j < 2 ^ run.k → here ≡ query_point_of run j i → Made run j i result.0 result.1 }
+    {
+        let next = here.next(self.table[i], self.sent.shape.parameters.step);
+        let computed = self.computed(i, here);
+        let found = self.found(i, next);
+        (RoundCheck { computed, found }, next)
+    }
+
+    // The fold, at the round's challenge, of the coset of layer i that holds the query's index.
+    fn computed(&self, i: usize, here: QueryPoint) -> Element
+        requires round { i < self.now.count }
+        requires reached { let run = run_sent self.now.sent (L.word self.now.layers) (L.store self.now.layers) in
+            Reached run i here }
+        ensures { let run = run_sent self.now.sent (L.word self.now.layers) (L.store self.now.layers) in
+            (j : ℕ) → j < 2 ^ run.k → here ≡ query_point_of run j i → result.0 ≡ value_computed run j i }
+    {
+        let round = self.table[i];
+        let step = self.sent.shape.parameters.step;
+        let size = 1 << step;
+        let begin = here.index / size * size;
+        let mut part = [0u64; 8];
+        for t in 0..size {
+            part[t] = self.layers.entry(i, round.start, begin + t);
+        }
+        round.folded(step, here, &part[..size])
+    }
+
+    // The value that the fold must equal: an entry of the next layer, where that is stored, or, in the last round, the
+    // last polynomial's.
+    fn found(&self, i: usize, next: QueryPoint) -> Element
+        requires round { i < self.now.count }
+        requires reached { let run = run_sent self.now.sent (L.word self.now.layers) (L.store self.now.layers) in
+            Reached run (i + 1) next }
+        ensures { let run = run_sent self.now.sent (L.word self.now.layers) (L.store self.now.layers) in
+            (j : ℕ) → j < 2 ^ run.k → next ≡ query_point_of run j (i + 1) → result.0 ≡ value_found run j i }
+    {
+        if i + 1 < self.count {
+            Element(
+                self.layers
+                    .entry(i + 1, self.table[i + 1].start, next.index),
+            )
+        } else {
+            poly::evaluate(self.sent.last, next.point)
+        }
+    }
+
+    // The first round whose check fails for the query at index j.
+    fn failing_round(&self, j: u64) -> Option<usize>
+        requires { j < 2 ^ self.now.sent.shape.parameters.k }
+        ensures { let run = run_sent self.now.sent (L.word self.now.layers) (L.store self.now.layers) in
+            result ≡ failing_round run j }
+    {
+        let mut here = self.first(j);
+        for i in 0..self.count {
+            let (check, next) = self.check(i, here);
+            if check.computed != check.found {
+                return Some(i);
+            }
+            here = next;
+        }
+        None
+    }
+
+    // The round checks, lowest query first, then lowest round, up to the first that fails. Up to that round a query
+    // has read a coset in each, and, for the value found, one in the next, if there is one.
+    pub fn verdict(&self) -> Verdict
+        ensures { let run = run_sent self.now.sent (L.word self.now.layers) (L.store self.now.layers) in
+            result ≡ verdict_of run self.now.sent.queries.now }
+    {
+        let mut answer = Ok(());
+        let mut cosets: usize = 0;
+        for (query, j) in self.sent.queries.iter().enumerate() {
+            match self.failing_round(*j) {
+                Some(round) => {
+                    answer = Err(Cause::RoundCheckFails { query, round });
+                    cosets += (round + 2).min(self.count);
+                    break;
+                }
+                None => cosets += self.count,
+            }
+        }
+        let reads = (cosets << self.sent.shape.parameters.step) as u64;
+        Verdict { answer, reads }
+    }
 }

@@ -1,8 +1,5 @@
 -- `Round::folded` meets its contract. Assumes nothing.
 use Rattle.round_checks.proofs.StepSizes.{size_of, size_is, size_most, size_eight, between_within}
-use Rattle.coset_value.proofs.Cosets.{value_read}
-use Rattle.coset_value.specs.Cosets.{numbers}
-use Rattle.coset_value.specs.declared.Coset.{Coset}
 use Rattle.fold.specs.Halving.{value_at}
 use Rattle.gf64.specs.Field.{sum}
 use lib.Seq.{length-take-le}
@@ -41,28 +38,26 @@ slice_bounds-span-end c =
     let eight : length c.args.self.span ≡ 8 = search rules in
     omega (arith, eight, size_eight c.args.step c.requires.1)
 
-pub slice_bounds-read-end : goal.slice_bounds-read-end
-slice_bounds-read-end c =
+pub slice_bounds-halvings-end-2 : goal.slice_bounds-halvings-end-2
+slice_bounds-halvings-end-2 c =
     let eight : length c.args.self.span ≡ 8 = search rules in
     sym (span-lent c.args.step c.args.self.span c.requires.1 eight)
 
-pub read-coset-requires : goal.read-coset-requires
-read-coset-requires c =
-    let eight : length c.args.self.span ≡ 8 = search rules in (
-      at-most-eight c.args.step c.args.self.span c.requires.1 eight,
-      c.requires.2 ∙ sym (span-whole c.args.step c.args.self.span c.requires.1 eight),
-    )
+pub invariant_of-halvings : goal.invariant_of-halvings
+invariant_of-halvings c =
+    let eight : length c.args.self.span ≡ 8 = search rules in
+    let three : length c.args.self.inverses ≡ 3 = search rules in
+    let taken = inverses-lent c.args.step c.args.self.inverses c.requires.1 three in
+    record {
+      some = omega (arith, taken, c.requires);
+      few = omega (arith, taken, c.requires);
+      span_fits = points-fit c.args.step c.args.self.span c.args.self.inverses c.requires.1 eight three;
+    }
 
 pub value_at-requires : goal.value_at-requires
 value_at-requires c =
     let eight : length c.args.self.span ≡ 8 = search rules in
-    let three : length c.args.self.inverses ≡ 3 = search rules in
-    let taken = inverses-lent c.args.step c.args.self.inverses c.requires.1 three in (
-      omega (arith, taken, c.requires),
-      omega (arith, taken, c.requires),
-      ap (λ (r : Coset). r.count) c.read-coset.ensures
-          ∙ points-fit c.args.step c.args.self.span c.args.self.inverses c.requires.1 eight three,
-    )
+    c.requires.2 ∙ sym (span-whole c.args.step c.args.self.span c.requires.1 eight)
 
 pub returns : goal.returns
 returns c =
@@ -70,14 +65,9 @@ returns c =
     let span = c.args.self.span in
     let x = c.args.self.challenge.0 in
     let here = c.args.here in
-    let few = c.requires.1 in
-    let inverses = take step c.args.self.inverses in
-    let eight : length c.args.self.span ≡ 8 = search rules in
-    let three : length c.args.self.inverses ≡ 3 = search rules in
+    let size = size_is step c.requires.1 in
     c.value_at.ensures
-    ∙ ap (λ (r : Coset). value_at inverses (map (sum x) (numbers r.points)) (numbers r.entries)) c.read-coset.ensures
-    ∙ value_read inverses x (take (size_of step) span) c.sum-first.result.0 c.args.part.now
-    (points-fit step span c.args.self.inverses few eight three) (at-most-eight step span few eight)
-    ∙ ap₂ (λ (p n : ℕ). value_at inverses (map (sum (sum x p)) (take n span)) c.args.part.now)
-    (c.sum-first.ensures ∙ ap (λ (n : ℕ). sum here.point.0 (get_or span (here.index % n) 0)) (size_is step few))
-    (size_is step few)
+    ∙ ap₂ (λ (p n : ℕ). value_at (take step c.args.self.inverses) (map (sum p) (take n span)) c.args.part.now)
+    (c.sum-moved.ensures
+    ∙ ap (sum x) (c.sum-first.ensures ∙ ap (λ (n : ℕ). sum here.point.0 (get_or span (here.index % n) 0)) size))
+    size
