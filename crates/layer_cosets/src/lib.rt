@@ -47,7 +47,7 @@ impl LayerCoset {
         let elements = self.step_elements(step);
         LayerCoset {
             offset: next_coset::composed_maps(elements.as_slice(), self.offset),
-            basis: ShortList::front(next_coset::next_basis(basis, step), basis.len() - step),
+            basis: next_coset::next_basis(basis, step),
         }
     }
 

@@ -8,6 +8,7 @@ ghost use Rattle.coset.specs.Subspace.{next_basis};
 ghost use Rattle.coset.specs.Steps.{composed_maps, step_elements};
 
 use field::Element;
+use short_list::ShortList;
 
 // X · (X - e) for each of the elements, one after the other.
 pub fn composed_maps(elements: &[u64], x: Element) -> Element
@@ -53,13 +54,13 @@ pub fn fill_images(elements: &[u64], xs: &[u64], images: &mut [u64])
     }
 }
 
-// The basis of the next coset, and zeros.
-pub fn next_basis(basis: &[u64], step: usize) -> [u64; 20]
+// The basis of the next coset.
+pub fn next_basis(basis: &[u64], step: usize) -> ShortList<20>
     requires { (step ≤ 3) × (step ≤ length basis.now) × (length basis.now ≤ 20) }
-    ensures { result ≡ padded gf64 20 (next_basis step basis.now) }
+    ensures { result ≡ next_basis step basis.now }
 {
     let elements = step_elements(basis, step);
     let mut next = [0u64; 20];
     fill_images(&elements[..step], &basis[step..], &mut next);
-    next
+    ShortList::front(next, basis.len() - step)
 }

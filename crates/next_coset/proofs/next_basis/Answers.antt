@@ -1,5 +1,8 @@
 -- `next_coset::next_basis` meets its contract. Assumes nothing.
-use Rattle.coset.proofs.Subspace.{next_padded}
+use Rattle.coset.proofs.Subspace.{next_padded, length-next_basis}
+use Rattle.coset.specs.Subspace.{next_basis}
+use Rattle.poly.proofs.Filling.{padded_taken}
+use mathlib.Core.Path.{◌∙◌}
 use Rattle.coset.proofs.Points.{all_elements}
 use lib.Seq.{length-take-le}
 use lib.ListN.{length, drop, length-drop}
@@ -19,9 +22,12 @@ fill_images-requires c =
 
 pub returns : goal.returns
 returns c =
+    let step = c.args.step in
     let basis = c.args.basis.now in
-    next_padded 20 c.args.step basis c.step_elements-elements.result
-    c.fill_images.new.images
-    (all_elements basis (λ i. omega
-    (arith, c.type_inv.basis i))) c.requires.1
-    c.step_elements-elements.ensures c.fill_images.ensures
+    let filled = c.fill_images.new.images in
+    c.front.ensures
+    ∙ padded_taken 20 (length basis - step) (next_basis step basis) filled
+    (next_padded 20 step basis c.step_elements-elements.result filled
+    (all_elements basis (λ i. omega (arith, c.type_inv.basis i))) c.requires.1 c.step_elements-elements.ensures
+    c.fill_images.ensures)
+    (length-next_basis step basis)

@@ -1,12 +1,10 @@
 -- `LayerCoset::next` meets its contract. Assumes nothing.
 use mathlib.Core.Path.{sym, ap, ap₂, ◌∙◌}
 use mathlib.Core.List.{List}
-use Prim.Native.Nat.{ℕ, ◌-◌, ◌<◌, ◌^◌}
-use lib.ListN.{length}
-use Rattle.poly.proofs.Filling.{padded_taken}
+use Prim.Native.Nat.{ℕ, ◌<◌, ◌^◌}
 use Rattle.coset.specs.Steps.{composed_maps}
 use Rattle.coset.specs.Subspace.{next_basis}
-use Rattle.coset.proofs.Subspace.{next_offset_through, length-next_basis}
+use Rattle.coset.proofs.Subspace.{next_offset_through}
 use Rattle.layer_cosets.specs.Cosets.{layer_coset_of}
 use borrow.Author.Rules.{rules}
 use Rattle.layer_cosets.proofs.LayerCoset.next.Goals as goal
@@ -22,7 +20,4 @@ returns c =
     (c.composed_maps.ensures
     ∙ ap (λ (es : List ℕ). composed_maps es offset) (c.as_slice.ensures.list ∙ c.step_elements-elements.ensures)
     ∙ sym (next_offset_through step offset c.args.self.basis offset_element))
-    (c.front.ensures
-    ∙ padded_taken 20 (length held - step) (next_basis step held) c.next_basis.result c.next_basis.ensures
-    (length-next_basis step held)
-    ∙ ap (next_basis step) same)
+    (c.next_basis.ensures ∙ ap (next_basis step) same)
