@@ -2,7 +2,7 @@
 -- Assumes nothing.
 use mathlib.Core.Path.{◌≡◌, refl, sym, ap, ap₂, ◌∙◌, subst}
 use Prim.Native.Nat.{ℕ, ◌+◌, ◌*◌, ◌/◌, ◌%◌, ◌^◌, ◌≤◌, ◌<◌}
-use native.Mathlib.Nat.{mod-lt, mod-one, mod-eq_of_lt, mul-div-mul_right, mul_assoc}
+use native.Mathlib.Nat.{mod-lt, mod-one, mul-div-mul_right, mul_assoc}
 use native.Mathlib.Omega.{arith}
 use lib.Pow.{pow_pos, shl_exact, shr_lt, field, mod-mod-pow}
 use lib.Bits.{bit_xor, xor_shifted, xor_comm}
@@ -71,15 +71,6 @@ sums_next a₀ a₁ x y n p q r h₀ h₁ h upper lower e =
     (mod-lt x (pow_pos (4 + 4 * n))) (mod-lt y (pow_pos (4 + 4 * n))) (omega arith)
     (rw (field x 4 (4 * n), field y 4 (4 * n)) upper)
     (rw (mod-mod-pow x 4 (4 * n), mod-mod-pow y 4 (4 * n)) lower) e)
-
-pub all_sums : (a₀ a₁ x y n : ℕ) (p : Products) → n ≡ 8 → (x < 2 ^ 32) × (y < 2 ^ 32)
-    → Sums a₀ a₁ (x % 2 ^ (4 * n)) (y % 2 ^ (4 * n)) p → Sums a₀ a₁ x y p
-all_sums a₀ a₁ x y n p e within s =
-    subst (λ (u : ℕ). Sums a₀ a₁ u y p) (whole x within.0)
-    (subst (λ (v : ℕ). Sums a₀ a₁ (x % 2 ^ (4 * n)) v p) (whole y within.1) s)
-  where
-    whole : (u : ℕ) → u < 2 ^ 32 → u % 2 ^ (4 * n) ≡ u
-    whole u l = ap (λ (m : ℕ). u % 2 ^ (4 * m)) e ∙ mod-eq_of_lt l
 
 -- ---- the schoolbook product by halves of 32 bits
 

@@ -1,10 +1,10 @@
 -- `list_inverse::divide_back` meets its contract. Assumes nothing.
-use mathlib.Core.Path.{◌≡◌, subst}
+use mathlib.Core.Path.{subst}
 use mathlib.Core.List.{List}
 use Prim.Native.Nat.{ℕ, suc, ◌-◌, ◌<◌}
 use borrow.Author.Rules.{rules}
 use native.Mathlib.Omega.{arith}
-use Rattle.list_inverse.proofs.Blocks.{InvertedFrom, past_a_zero, past_an_element, inverted_end}
+use Rattle.list_inverse.proofs.Blocks.{InvertedFrom, past_a_zero, past_an_element}
 use Rattle.list_inverse.proofs.divide_back.Goals as goal
 
 -- the element that is turned to
@@ -27,11 +27,3 @@ loop-i-preserved c =
     let block = c.args.block.now in
     past_a_zero block (λ i. search rules) (l.i - 1) l.block l.rest
     (one_back block l.i l.block l.rest (omega arith) l.invariant) c.if-x-ne0.false
-
-pub returns : goal.returns
-returns c =
-    let l = c.loop-i in
-    let elements = c.args.block.now in
-    let none : l.i ≡ 0 = omega arith in
-    inverted_end elements l.block l.rest
-    (subst (λ (n : ℕ). InvertedFrom elements n l.block l.rest) none l.invariant)

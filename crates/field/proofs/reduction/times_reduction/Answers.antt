@@ -1,8 +1,7 @@
 -- `field::reduction::times_reduction` meets its contract. Assumes nothing.
-use mathlib.Core.Path.{◌≡◌, sym, ap, ◌∙◌}
-use Prim.Native.Nat.{ℕ, ◌%◌, ◌^◌}
+use mathlib.Core.Path.{sym, ap, ◌∙◌}
 use native.Mathlib.Omega.{arith}
-use Rattle.gf64.specs.Polynomial.{carryless, reduction}
+use Rattle.gf64.specs.Polynomial.{reduction}
 use Rattle.gf64.proofs.Carryless.{carryless-zero_l}
 use Rattle.carryless.specs.Window.{wide_of}
 use Rattle.field.proofs.Remainders.{bit_set, bit_clear}
@@ -22,8 +21,3 @@ loop-i-preserved c =
       | then-i-eq1 k ↦ ap wide_of k.w-is ∙ k.plus_shifted-w.ensures ∙ bit_set reduction i a (wide_of w) k.if-i-eq1.true inv
       | else-i-eq1 k ↦ ap wide_of k.w-is ∙ bit_clear reduction i a (wide_of w) (omega (arith, k.if-i-eq1.false)) inv
     ]
-
-pub returns : goal.returns
-returns c =
-    let five : c.loop-i.i ≡ 5 = omega arith in
-    c.loop-i.invariant ∙ ap (λ (i : ℕ). carryless (reduction % 2 ^ i) c.args.a) five
