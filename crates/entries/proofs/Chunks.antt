@@ -56,14 +56,17 @@ module _ (bytes : List ℕ) (at : ℕ) where
 module _ (n : ℕ) (bytes : List ℕ) (at : ℕ) where
   pub no_chunk : length bytes < at → replicate n 0 ≡ padded gf64 n (take n (drop at bytes))
   no_chunk h =
-      padded_front n [] ∙ ap (padded gf64 n) (sym (ap (take n) (drop_of_length-le bytes (omega (arith, h))) ∙ take-nil n))
+      let none = ap (take n) (drop_of_length-le bytes (omega (arith, h))) ∙ take-nil n in
+      padded_front n [] ∙ ap (padded gf64 n) (sym none)
 
   pub whole_chunk : let rest = take (length bytes - at) (drop at bytes) in
       n ≤ length rest → take n rest ≡ padded gf64 n (take n (drop at bytes))
   whole_chunk h =
       let all = take_all (length bytes - at) (drop at bytes) (omega (arith, length-drop at bytes)) in
       ap (take n) all
-      ∙ sym (padded_full gf64 n (take n (drop at bytes)) (length-take-le n (drop at bytes) (omega (arith, ap length all, h))))
+      ∙ sym
+      (padded_full gf64 n (take n (drop at bytes))
+      (length-take-le n (drop at bytes) (omega (arith, ap length all, h))))
 
   pub short_chunk : length (drop at bytes) < n → take n (drop at bytes) ≡ drop at bytes
   short_chunk h = take_all n (drop at bytes) (omega (arith, h))

@@ -7,6 +7,8 @@ ghost use Rattle.poly.specs.Carrier.{gf64};
 ghost use Rattle.poly.specs.Polynomial.{padded};
 ghost use Rattle.transcript.specs.Numerals.{count_at, entry_at, entries_at};
 
+use short_list::ShortList;
+
 // The count that begins there, in 4 bytes.
 #[tactic(auto, using(crate::proofs::Chunks::count_of))]
 pub fn count_at(bytes: &[u8], at: usize) -> usize
@@ -39,8 +41,8 @@ fn chunk_at<const N: usize>(bytes: &[u8], at: usize) -> [u8; N]
     }
 }
 
-// The bytes before the end, and zeros after them. A function of its own, so that a chunk that is all there needs no room
-// in memory.
+// The bytes before the end, and zeros after them. A function of its own, so that a chunk that is all there needs no
+// room in memory.
 #[tactic(auto, using(poly::proofs::Filling::padded_front))]
 fn cut<const N: usize>(rest: &[u8]) -> [u8; N]
     requires { length rest.now < N }
@@ -60,4 +62,14 @@ pub fn read(bytes: &[u8], at: usize, out: &mut [u64])
     for (i, entry) in out.iter_mut().enumerate() {
         *entry = entry_at(bytes, at + 8 * i);
     }
+}
+
+// So many entries, the first of which begins there.
+pub fn list<const N: usize>(bytes: &[u8], at: usize, count: usize) -> ShortList<N>
+    requires { (count ≤ N) × (at + 8 * count ≤ 2 ^ 61) }
+    ensures { result ≡ entries_at bytes.now at count }
+{
+    let mut room = [0u64; N];
+    read(bytes, at, &mut room[..count]);
+    ShortList::front(room, count)
 }

@@ -2,117 +2,79 @@
 // (1), their values.
 #![tactic(auto)]
 
-ghost use Rattle.std.specs.Prelude.{◌≡◌, ◌^◌, ◌≤◌, length};
-ghost use Rattle.coset.specs.Answers.{basis_outcome};
-ghost use Rattle.fri.specs.Checks.{indices_outcome};
-ghost use Rattle.layout.specs.Parameters.{Valid};
-ghost use Rattle.transcript.specs.Numerals.{entries_at};
-ghost use Rattle.transcript.specs.Sections.{section_start};
+ghost use Rattle.std.specs.Prelude.{◌≡◌, IfOk};
+ghost use Rattle.refusal.specs.Outcome.{outcome_of};
 ghost use Rattle.transcript.specs.Checks.{parameters_section, coset_section, queries_section, lists_outcome, front_outcome};
-ghost use Rattle.sections.specs.Views.{sections_in, ParametersOf};
+ghost use Rattle.sections.specs.Views.{parameters_in};
 
-use layout::Parameters;
+use layout::Shape;
 use refusal::Cause;
-use sections::Sections;
+use sections::{Section, Transcript};
+use short_list::ShortList;
+
+// A transcript with the shape of its run: the parameters in section 1 are in range.
+#[derive(Clone, Copy)]
+pub struct Shaped<'a> {
+    pub transcript: Transcript<'a>,
+    pub shape: Shape,
+    ghost read: { shape.parameters ≡ parameters_in transcript.bytes.now },
+}
 
 // Sections 1 to 4.
-pub fn checked_front(bytes: &[u8], sections: Sections) -> Result<(), Cause>
-    requires { sections ≡ sections_in bytes.now }
-    ensures { result ≡ front_outcome bytes.now }
+pub fn checked_front<'a>(transcript: Transcript<'a>) -> Result<Shaped<'a>, Cause>
+    ensures outcome { outcome_of result ≡ front_outcome transcript.entry.bytes.now }
+    ensures bytes { IfOk result (λ shaped. shaped.transcript.bytes ≡ transcript.entry.bytes) }
 {
-    let first = checked_parameters(bytes);
-    match first {
-        Ok(()) => checked_lists(bytes, sections, sections::parameters(bytes)),
-        Err(cause) => Err(cause),
-    }
+    let shaped = checked_parameters(transcript)?;
+    shaped.checked_lists()?;
+    Ok(shaped)
 }
 
 // Section 1: k, R and η in range (4 to 7).
-fn checked_parameters(bytes: &[u8]) -> Result<(), Cause>
-    ensures { result ≡ parameters_section bytes.now }
+fn checked_parameters<'a>(transcript: Transcript<'a>) -> Result<Shaped<'a>, Cause>
+    ensures outcome { outcome_of result ≡ parameters_section transcript.entry.bytes.now }
+    ensures bytes { IfOk result (λ shaped. shaped.transcript.bytes ≡ transcript.entry.bytes) }
 {
-    let whole = sections::checked_due(bytes, 1, 0, 3);
-    match whole {
-        Ok(()) => sections::parameters(bytes).checked(),
-        Err(cause) => Err(cause),
+    Section::first(transcript.bytes).checked_due(3)?;
+    let shape = transcript.parameters().checked()?;
+    Ok(Shaped { transcript, shape })
+}
+
+impl<'a> Shaped<'a> {
+    // Sections 2, 3 and 4.
+    fn checked_lists(self) -> Result<(), Cause>
+        ensures { result ≡ lists_outcome self.entry.transcript.bytes.now }
+    {
+        self.checked_coset()?;
+        self.transcript
+            .challenges()
+            .checked_due(self.shape.rounds())?;
+        self.checked_queries()
     }
-}
 
-// Sections 2, 3 and 4.
-fn checked_lists(bytes: &[u8], sections: Sections, parameters: Parameters) -> Result<(), Cause>
-    requires { (sections ≡ sections_in bytes.now) × ParametersOf bytes.now parameters }
-    ensures { result ≡ lists_outcome bytes.now }
-{
-    let coset = checked_coset(bytes, sections.coset, parameters);
-    match coset {
-        Ok(()) => {
-            let challenges = sections::checked_due(
-                bytes,
-                3,
-                sections.challenges,
-                parameters.rounds(),
-            );
-            match challenges {
-                Ok(()) => checked_queries(bytes, sections.queries, parameters),
-                Err(cause) => Err(cause),
-            }
-        }
-        Err(cause) => Err(cause),
+    // Section 2: the offset, then an independent basis (8).
+    #[tactic(auto, using(transcript::proofs::Numerals::length_entries))]
+    fn checked_coset(self) -> Result<(), Cause>
+        ensures { result ≡ coset_section self.entry.transcript.bytes.now }
+    {
+        let section = self.transcript.coset();
+        section.checked_due(self.shape.parameters.k + 1)?;
+        let coset: ShortList<21> = section.entries();
+        independence::checked_basis(&coset.as_slice()[1..])
     }
-}
 
-// Section 2: an independent basis (8).
-fn checked_coset(bytes: &[u8], at: usize, parameters: Parameters) -> Result<(), Cause>
-    requires { (at ≡ section_start bytes.now 2) × ParametersOf bytes.now parameters }
-    ensures { result ≡ coset_section bytes.now }
-{
-    let whole = sections::checked_due(bytes, 2, at, parameters.k + 1);
-    match whole {
-        Ok(()) => {
-            let mut room = [0u64; 20];
-            checked_basis(bytes, at + 12, &mut room[..parameters.k])
-        }
-        Err(cause) => Err(cause),
+    // Section 4: 1 to 256 queries (9), then their indices (10, then 17).
+    fn checked_queries(self) -> Result<(), Cause>
+        ensures { result ≡ queries_section self.entry.transcript.bytes.now }
+    {
+        let section = self.transcript.queries();
+        let few = query_checks::is_query_count(section.count());
+        section.checked(few, Cause::QueryCountOutOfRange)?;
+        let queries: ShortList<256> = section.entries();
+        query_checks::checked_indices(
+            self.shape.parameters.k,
+            self.shape.parameters.step,
+            queries.as_slice(),
+        )
     }
-}
-
-// The basis whose entries begin there, in the room lent for it. All sections end before 2^40.
-fn checked_basis(bytes: &[u8], at: usize, basis: &mut [u64]) -> Result<(), Cause>
-    requires { (length basis.old ≤ 20) × (at ≤ 2 ^ 40) }
-    ensures { result ≡ basis_outcome (entries_at bytes.now at (length basis.old)) }
-{
-    entries::read(bytes, at, basis);
-    independence::checked_basis(&basis[..])
-}
-
-// Section 4: 1 to 256 queries (9), then their indices (10, then 17).
-fn checked_queries(bytes: &[u8], at: usize, parameters: Parameters) -> Result<(), Cause>
-    requires { (at ≡ section_start bytes.now 4) × ParametersOf bytes.now parameters }
-    ensures { result ≡ queries_section bytes.now }
-{
-    let count = entries::count_at(bytes, at);
-    let whole = sections::checked_section(
-        bytes,
-        4,
-        at,
-        query_checks::is_query_count(count),
-        Cause::QueryCountOutOfRange,
-    );
-    match whole {
-        Ok(()) => {
-            let mut room = [0u64; 256];
-            checked_indices(bytes, at + 4, parameters, &mut room[..count])
-        }
-        Err(cause) => Err(cause),
-    }
-}
-
-// As many query indices as there is room for, whose entries begin there.
-fn checked_indices(bytes: &[u8], at: usize, parameters: Parameters, queries: &mut [u64]) -> Result<(), Cause>
-    requires { Valid parameters × (length queries.old ≤ 256) × (at ≤ 2 ^ 40) }
-    ensures { let indices = entries_at bytes.now at (length queries.old) in
-        result ≡ indices_outcome parameters.k parameters.step indices }
-{
-    entries::read(bytes, at, queries);
-    query_checks::checked_indices(parameters.k, parameters.step, &queries[..])
 }

@@ -8,17 +8,35 @@ use lib.ListN.{get_or, drop}
 use Rattle.std.specs.Prelude.{Ok}
 use Rattle.refusal.specs.Checks.{and_then}
 use Rattle.fri.specs.Layout.{dimension}
-use Rattle.transcript.specs.Numerals.{AreBytes, entry_at, entries_at}
+use Rattle.transcript.specs.Numerals.{entry_at, entries_at}
 use Rattle.transcript.specs.Sections.{section_start, section_count, section_entries, layer_section, transcript_k}
 use Rattle.transcript.specs.Sections.{transcript_steps, run_in}
 use Rattle.transcript.specs.Checks.{due_outcome, layers_from}
-use Rattle.transcript.proofs.Numerals.{entry_of}
-use Rattle.transcript.proofs.Sections.{first_start, start_below}
+use Rattle.sections.specs.Views.{EachByte}
+use Rattle.transcript.proofs.Numerals.{entry_of, count_fits, are_bytes}
+use Rattle.transcript.proofs.Sections.{first_start, start_next, start_below}
 
 module _ (bytes : List ℕ) where
-  -- the count of a section and its first entries lie before 2^40
-  pub start_near : AreBytes bytes → (s at : ℕ) → s ≤ 25 → at ≡ section_start bytes s → at + 12 ≤ 2 ^ 40
-  start_near known s at h e = omega (arith, start_below bytes known s h)
+  module _ (known : EachByte bytes) (s at : ℕ) (few : s ≤ 25) (begins : at ≡ section_start bytes s) where
+    -- the count of a section and its first entries lie before 2^40
+    pub start_near : at + 12 ≤ 2 ^ 40
+    start_near = omega (arith, start_below bytes (are_bytes bytes known) s few)
+
+    -- it ends after its count and as many entries
+    pub end_near : at + 4 + 8 * section_count bytes s ≤ 2 ^ 41
+    end_near =
+        omega (
+          arith,
+          start_below bytes (are_bytes bytes known) s few,
+          count_fits bytes (are_bytes bytes known) (section_start bytes s),
+        )
+
+  pub end_at : (s at : ℕ) → 1 ≤ s → at ≡ section_start bytes s
+      → at + 4 + 8 * section_count bytes s ≡ section_start bytes (suc s)
+  end_at s at h e = omega (arith, start_next bytes s h)
+
+  pub begins_first : 0 ≡ section_start bytes 1
+  begins_first = sym (first_start bytes)
 
   -- ---- section 1
 
