@@ -2,62 +2,71 @@
 // it (3).
 #![tactic(auto)]
 
-ghost use Rattle.std.specs.Prelude.{◌≡◌};
-ghost use Rattle.transcript.specs.Sections.{section_start, layer_section, transcript_rounds};
+ghost use Rattle.std.specs.Prelude.{◌≡◌, ◌^◌, ◌≤◌, Ok, IfOk, length};
+ghost use Rattle.refusal.specs.Outcome.{outcome_of};
+ghost use Rattle.fri.specs.Layout.{dimension};
+ghost use Rattle.layout.specs.Parameters.{steps_by};
+ghost use Rattle.transcript.specs.Sections.{layer_section, transcript_rounds};
 ghost use Rattle.transcript.specs.Checks.{end_outcome, layers_outcome, transcript_outcome};
-ghost use Rattle.sections.specs.Views.{sections_in, ParametersOf};
+ghost use Rattle.sections.specs.Views.{parameters_in};
 
-use layout::Parameters;
+use front_sections::Shaped;
+use layout::Shape;
 use refusal::Cause;
-use sections::Sections;
+use sections::{Section, Transcript};
+
+// A transcript whose sections pass, with the shape of its run.
+#[derive(Clone, Copy)]
+pub struct Passed<'a> {
+    pub transcript: Transcript<'a>,
+    pub shape: Shape,
+    ghost read: { shape.parameters ≡ parameters_in transcript.bytes.now },
+    ghost passed: { transcript_outcome transcript.bytes.now ≡ Ok tt },
+}
 
 // All sections.
-pub fn checked(bytes: &[u8], sections: Sections) -> Result<(), Cause>
-    requires { sections ≡ sections_in bytes.now }
-    ensures { result ≡ transcript_outcome bytes.now }
+pub fn checked<'a>(transcript: Transcript<'a>) -> Result<Passed<'a>, Cause>
+    ensures outcome { outcome_of result ≡ transcript_outcome transcript.entry.bytes.now }
+    ensures bytes { IfOk result (λ passed. passed.transcript.bytes ≡ transcript.entry.bytes) }
 {
-    let front = front_sections::checked_front(bytes, sections);
-    match front {
-        Ok(()) => checked_layers(bytes, sections.layers, sections::parameters(bytes)),
-        Err(cause) => Err(cause),
-    }
+    let front = front_sections::checked_front(transcript)?;
+    checked_layers(front)?;
+    Ok(Passed {
+        transcript: front.transcript,
+        shape: front.shape,
+    })
 }
 
 // The sections of the layers, and the last one.
-fn checked_layers(bytes: &[u8], layers: usize, parameters: Parameters) -> Result<(), Cause>
-    requires { (layers ≡ section_start bytes.now 5) × ParametersOf bytes.now parameters }
-    ensures { result ≡ layers_outcome bytes.now }
+#[tactic(auto, using(crate::proofs::Layers::passed, crate::proofs::Layers::refused, crate::proofs::Layers::all))]
+fn checked_layers(front: Shaped) -> Result<(), Cause>
+    ensures { result ≡ layers_outcome front.entry.transcript.bytes.now }
 {
-    let rounds = parameters.rounds();
-    let mut at = layers;
-    let mut i: usize = 0;
-    while i < rounds {
-        let outcome = sections::checked_due(bytes, 5 + i, at, 1 << parameters.dimension(i));
-        match outcome {
-            Ok(()) => {
-                at = sections::end_of(bytes, at);
-                i += 1;
-            }
-            Err(cause) => return Err(cause),
-        }
+    let mut section = front.transcript.layers();
+    for i in 0..front.shape.rounds() {
+        section.checked_due(layer_count(front.shape, i))?;
+        section = section.next();
     }
-    checked_end(bytes, at, parameters)
+    checked_end(front, section)
+}
+
+// How many entries layer i has.
+#[tactic(auto, using(layout::proofs::Sizes::dimension_most, coset::proofs::Sizes::size_shifted))]
+fn layer_count(shape: Shape, i: usize) -> usize
+    requires { i ≤ length (steps_by shape.parameters) }
+    ensures { result ≡ 2 ^ dimension shape.parameters.k (steps_by shape.parameters) i }
+{
+    1 << shape.dimension(i)
 }
 
 // The last coefficients, after which nothing follows (3).
-fn checked_end(bytes: &[u8], at: usize, parameters: Parameters) -> Result<(), Cause>
-    requires { let sent = bytes.now in
-        (at ≡ section_start sent (layer_section (transcript_rounds sent))) × ParametersOf sent parameters }
-    ensures { result ≡ end_outcome bytes.now }
+fn checked_end(front: Shaped, last: Section) -> Result<(), Cause>
+    requires { (last.bytes.now ≡ front.transcript.bytes.now) × (last.number ≡ layer_section (transcript_rounds last.bytes.now)) }
+    ensures { result ≡ end_outcome front.entry.transcript.bytes.now }
 {
-    let whole = sections::checked_due(bytes, 5 + parameters.rounds(), at, parameters.last_count());
-    match whole {
-        Ok(()) => {
-            if sections::end_of(bytes, at) != bytes.len() {
-                return Err(Cause::TrailingBytes);
-            }
-            Ok(())
-        }
-        Err(cause) => Err(cause),
+    last.checked_due(front.shape.last_count())?;
+    if last.end() != last.bytes.len() {
+        return Err(Cause::TrailingBytes);
     }
+    Ok(())
 }

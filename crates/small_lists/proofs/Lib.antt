@@ -1,2 +1,1 @@
-pub mod Fronts
 pub mod Places
