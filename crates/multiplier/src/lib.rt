@@ -95,16 +95,3 @@ fn fill_row(block: &mut [u64], count: usize, step: u64)
         block[count + j] = block[j] ^ step;
     }
 }
-
-// The same two by functions.
-pub fn multiples(c: Element) -> Multiplier
-    ensures { result ≡ c.0 }
-{
-    Multiplier::of(c)
-}
-
-pub fn times(by: &Multiplier, x: u64) -> u64
-    ensures { result ≡ product by.now x }
-{
-    by.times(x)
-}

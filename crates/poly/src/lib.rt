@@ -1,7 +1,7 @@
 // Polynomials over the field of 2^64 elements, as lists of coefficients, constant first.
 #![tactic(auto)]
 
-ghost use Rattle.std.specs.Prelude.{◌≡◌, ◌++◌, min, ◌≤◌, length, drop};
+ghost use Rattle.std.specs.Prelude.{◌≡◌};
 ghost use Rattle.poly.specs.Carrier.{gf64};
 ghost use Rattle.poly.specs.Polynomial.{evaluate};
 ghost use Rattle.poly.specs.Degree.{degree_bound};
@@ -23,23 +23,4 @@ pub fn degree_bound(coefficients: &[u64]) -> usize
         Some(last) => last + 1,
         None => 0,
     }
-}
-
-// Copies a list into the front of another one.
-pub fn copy(from: &[u64], to: &mut [u64])
-    requires { length from.now ≤ length to.old }
-    ensures { to.new ≡ from.now ++ drop (length from.now) to.old }
-{
-    let mut i: usize = 0;
-    while i < from.len() {
-        to[i] = from[i];
-        i += 1;
-    }
-}
-
-// The lesser of two numbers.
-pub fn lesser(a: usize, b: usize) -> usize
-    ensures { result ≡ min a b }
-{
-    if a < b { a } else { b }
 }
