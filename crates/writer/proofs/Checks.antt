@@ -13,8 +13,8 @@ use Rattle.refusal.specs.Checks.{refused_unless, and_then}
 use Rattle.refusal.proofs.Checks.{then_passed, then_refused, then_done, passed_by, refused_by, unless_done}
 use Rattle.refusal.proofs.Checks.{equal_of_test}
 use Rattle.coset.specs.Answers.{basis_outcome}
-use Rattle.fri.specs.Layout.{step_at}
-use Rattle.fri.specs.Run.{Run, step_in}
+use Rattle.fri.specs.Run.{Run, step_in, steps_in}
+use Rattle.fri.proofs.Layouts.{first_step}
 use Rattle.fri.specs.Checks.{queries_outcome}
 use Rattle.layout.specs.declared.Parameters.{Parameters}
 use Rattle.layout.specs.Parameters.{steps_by}
@@ -22,26 +22,6 @@ use Rattle.run_checks.proofs.Lists.{of_lists, lists_then, lists_valid, lists_fit
 use Rattle.written.specs.Transcript.{transcript_of, transcript_length}
 use Rattle.written.specs.Writer.{size_outcome, write_outcome}
 use Rattle.written.proofs.Lengths.{transcript_size}
-use Rattle.writer.specs.Written.{after_lists_outcome}
-
-module _ (p : Parameters) (basis queries : List ℕ) (size : ℕ) where
-  abbrev needed : ℕ
-  needed = transcript_length p.k p.rate (steps_by p) (length queries)
-
-  abbrev of_size : Outcome
-  of_size = refused_unless (eqb size needed) (WrongLength 8) (Ok tt)
-
-  abbrev after_size : Outcome
-  after_size = and_then (basis_outcome basis) (queries_outcome p.k (step_at (steps_by p) 0) queries)
-
-  pub size_refused : size ≢ needed → Err (WrongLength 8) ≡ after_lists_outcome p basis queries size
-  size_refused n =
-      then_refused of_size after_size (WrongLength 8)
-      (sym (refused_by (eqb size needed) (WrongLength 8) (Ok tt) (ne_eqb size needed n)))
-
-  pub size_passed : size ≡ needed → after_size ≡ after_lists_outcome p basis queries size
-  size_passed e =
-      then_passed of_size after_size (sym (passed_by (eqb size needed) (WrongLength 8) (Ok tt) (eq-eqb size needed e)))
 
 module _ (run : Run) (queries : List ℕ) (size : ℕ) where
   abbrev of_basis : Outcome
@@ -54,13 +34,42 @@ module _ (run : Run) (queries : List ℕ) (size : ℕ) where
   abbrev pub after_lists : Outcome
   after_lists = and_then (size_outcome run queries size) (and_then of_basis of_queries)
 
-  -- the formula says how long the transcript is
-  pub sized_is : of_lists run ≡ Ok tt
-      → after_lists_outcome (record { k = run.k; rate = run.rate; step = run.step }) run.basis queries size
-      ≡ after_lists
-  sized_is done =
-      ap (λ (n : ℕ). and_then (refused_unless (eqb size n) (WrongLength 8) (Ok tt)) (and_then of_basis of_queries))
-      (sym (transcript_size run (lists_valid run done) (lists_fit run done) queries))
+  -- where lists 1 to 5 pass
+  module _ (done : of_lists run ≡ Ok tt) where
+    abbrev needed : ℕ
+    needed = transcript_length run.k run.rate (steps_in run) (length queries)
+
+    abbrev of_size : Outcome
+    of_size = refused_unless (eqb size needed) (WrongLength 8) (Ok tt)
+
+    -- the checks after them, by the formula that says how long the transcript is, and by the step given
+    decided : and_then of_size (and_then of_basis of_queries) ≡ write_outcome run queries size
+    decided =
+        ap (λ (n : ℕ). and_then (refused_unless (eqb size n) (WrongLength 8) (Ok tt)) (and_then of_basis of_queries))
+        (sym (transcript_size run (lists_valid run done) (lists_fit run done) queries))
+        ∙ then_passed (of_lists run) after_lists done ∙ lists_then run after_lists
+
+    -- the length due, by the shape that the checks told
+    module _ {p : Parameters} {due : ℕ} (same : p ≡ record { k = run.k; rate = run.rate; step = run.step })
+        (is : due ≡ transcript_length p.k p.rate (steps_by p) (length queries)) where
+      due_is : due ≡ needed
+      due_is = is ∙ ap (λ (q : Parameters). transcript_length q.k q.rate (steps_by q) (length queries)) same
+
+      pub size_refused : size ≢ due → Err (WrongLength 8) ≡ write_outcome run queries size
+      size_refused n =
+          then_refused of_size (and_then of_basis of_queries) (WrongLength 8)
+          (sym (refused_by (eqb size needed) (WrongLength 8) (Ok tt) (ne_eqb size needed (λ e. n (e ∙ sym due_is)))))
+          ∙ decided
+
+      pub size_passed : size ≡ due
+          → and_then of_basis (queries_outcome run.k run.step queries) ≡ write_outcome run queries size
+      size_passed e =
+          let v = lists_valid run done in
+          ap (λ (s : ℕ). and_then of_basis (queries_outcome run.k s queries))
+          (sym (first_step run.k run.rate run.step v.step_least v.k_enough))
+          ∙ then_passed of_size (and_then of_basis of_queries)
+          (sym (passed_by (eqb size needed) (WrongLength 8) (Ok tt) (eq-eqb size needed (e ∙ due_is))))
+          ∙ decided
 
   -- where all checks pass
   module _ (done : write_outcome run queries size ≡ Ok tt) where

@@ -1,30 +1,57 @@
 -- `writer::checked` meets its contract. Assumes nothing.
 use mathlib.Core.Path.{◌≡◌, sym, ◌∙◌}
+use borrow.Author.Rules.{rules}
 use Rattle.std.specs.Prelude.{Ok}
-use Rattle.refusal.proofs.Checks.{then_passed, then_refused}
-use Rattle.layout.specs.Parameters.{run_of}
-use Rattle.run_checks.proofs.Lists.{of_lists, lists_then, lists_valid}
-use Rattle.writer.proofs.Checks.{after_lists, sized_is}
+use Rattle.refusal.specs.Outcome.{Outcome, outcome_of}
+use Rattle.refusal.specs.Checks.{and_then}
+use Rattle.coset.specs.Answers.{basis_outcome}
+use Rattle.fri.specs.Checks.{queries_outcome}
+use Rattle.layout.specs.Parameters.{run_claimed}
+use Rattle.writer.proofs.Checks.{size_refused, size_passed}
 use Rattle.writer.proofs.checked.Goals as goal
 
-pub checked_after_lists-requires : goal.checked_after_lists-requires
-checked_after_lists-requires c =
+pub returns-then-size-length_due-clause-outcome : goal.returns-then-size-length_due-clause-outcome
+returns-then-size-length_due-clause-outcome c =
     let a = c.args in
-    let run = run_of a.parameters a.offset.0 a.basis.now a.challenges.now a.word.now a.store.now a.last.now in
-    lists_valid run (sym c.in-Ok.ensures)
+    let shape = c.in_ok-shape.ensures in
+    size_refused (run_claimed a.claim.now a.store.now a.last.now) a.queries.now a.size (sym shape.outcome) shape.shape
+    c.length_due.ensures c.if-size-length_due.true
 
-pub returns-in-Ok : goal.returns-in-Ok
-returns-in-Ok c =
+pub returns-in_err-checked_basis-clause-outcome : goal.returns-in_err-checked_basis-clause-outcome
+returns-in_err-checked_basis-clause-outcome c =
     let a = c.args in
-    let run = run_of a.parameters a.offset.0 a.basis.now a.challenges.now a.word.now a.store.now a.last.now in
-    let after = after_lists run a.queries.now a.size in
-    let passed : of_lists run ≡ (Ok tt) = sym c.in-Ok.ensures in
-    c.checked_after_lists.ensures ∙ sized_is run a.queries.now a.size passed
-    ∙ then_passed (of_lists run) after passed ∙ lists_then run after
+    let p = a.claim.now.parameters in
+    let shape = c.in_ok-shape.ensures in
+    let told : outcome_of c.from_residual-in_err-checked_basis.result
+    ≡ and_then (basis_outcome a.claim.now.basis.now) (queries_outcome p.k p.step a.queries.now) =
+    search rules
+    in
+    told
+    ∙ size_passed (run_claimed a.claim.now a.store.now a.last.now) a.queries.now a.size (sym shape.outcome) shape.shape
+    c.length_due.ensures c.if-size-length_due.false
 
-pub returns-in-Err : goal.returns-in-Err
-returns-in-Err c =
+pub returns-in_err-checked_queries-clause-outcome : goal.returns-in_err-checked_queries-clause-outcome
+returns-in_err-checked_queries-clause-outcome c =
     let a = c.args in
-    let run = run_of a.parameters a.offset.0 a.basis.now a.challenges.now a.word.now a.store.now a.last.now in
-    let after = after_lists run a.queries.now a.size in
-    then_refused (of_lists run) after c.in-Err.cause (sym c.in-Err.ensures) ∙ lists_then run after
+    let p = a.claim.now.parameters in
+    let shape = c.in_ok-shape.ensures in
+    let told : outcome_of c.from_residual-in_err-checked_queries.result
+    ≡ and_then (basis_outcome a.claim.now.basis.now) (queries_outcome p.k p.step a.queries.now) =
+    search rules
+    in
+    told
+    ∙ size_passed (run_claimed a.claim.now a.store.now a.last.now) a.queries.now a.size (sym shape.outcome) shape.shape
+    c.length_due.ensures c.if-size-length_due.false
+
+pub returns-clause-outcome : goal.returns-clause-outcome
+returns-clause-outcome c =
+    let a = c.args in
+    let p = a.claim.now.parameters in
+    let shape = c.in_ok-shape.ensures in
+    let told : ◌≡◌ {A = Outcome} (Ok tt)
+    (and_then (basis_outcome a.claim.now.basis.now) (queries_outcome p.k p.step a.queries.now)) =
+    search rules
+    in
+    told
+    ∙ size_passed (run_claimed a.claim.now a.store.now a.last.now) a.queries.now a.size (sym shape.outcome) shape.shape
+    c.length_due.ensures c.if-size-length_due.false
