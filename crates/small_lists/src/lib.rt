@@ -1,11 +1,14 @@
 // The small lists of a transcript: all but the layers, whose entries stay in the bytes.
 #![tactic(auto)]
 
-ghost use Rattle.std.specs.Prelude.{◌≡◌};
+ghost use Rattle.std.specs.Prelude.{◌≡◌, ◌≤◌, length, get_or, drop};
 ghost use Rattle.transcript.specs.Sections.{run_in};
 ghost use Rattle.small_lists.specs.Lists.{lists_in};
 
+use field::Element;
 use layer_sections::Passed;
+use layout::Shape;
+use round_checks::sent::Sent;
 use short_list::ShortList;
 
 // The offset and behind it the basis, challenges, queries and last coefficients.
@@ -15,6 +18,28 @@ pub struct Lists {
     pub challenges: ShortList<20>,
     pub queries: ShortList<256>,
     pub last: ShortList<20>,
+}
+
+impl Lists {
+    // What was sent of the run, but for its layers, and the queries.
+    pub fn sent<'a>(&'a self, shape: Shape) -> Sent<'a>
+        requires { 1 ≤ length self.now.coset }
+        ensures shape { result.shape.parameters ≡ shape.parameters }
+        ensures offset { result.offset.0 ≡ get_or self.now.coset 0 0 }
+        ensures basis { result.basis.now ≡ drop 1 self.now.coset }
+        ensures lists { (result.challenges.now ≡ self.now.challenges) × (result.queries.now ≡ self.now.queries)
+            × (result.last.now ≡ self.now.last) }
+    {
+        let coset = self.coset.as_slice();
+        Sent::new(
+            shape,
+            Element(coset[0]),
+            &coset[1..],
+            self.challenges.as_slice(),
+            self.queries.as_slice(),
+            self.last.as_slice(),
+        )
+    }
 }
 
 // Those of a transcript whose sections pass. Nothing follows the last coefficients, so that they are found from the
