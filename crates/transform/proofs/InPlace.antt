@@ -28,13 +28,6 @@ use Rattle.transform.proofs.Theorems.{transformed_values, transformed_coefficien
 
 -- ---- level by level
 
-pub converted_start : (ratio : ℕ → ℕ) (levels : ℕ) (s : List ℕ)
-    → converted ratio 0 (levels - 0) s ≡ converted ratio 0 levels s
-converted_start ratio levels s = ap (λ (n : ℕ). converted ratio 0 n s) same
-  where
-    same : levels - 0 ≡ levels
-    same = omega arith
-
 pub converted_next : (ratio : ℕ → ℕ) (j levels : ℕ) (s : List ℕ) → j < levels
     → converted ratio (j + 1) (levels - (j + 1)) (regrouped j (levels - j) (scaled_runs j (ratio j) s))
     ≡ converted ratio j (levels - j) s
@@ -85,21 +78,6 @@ converted_back_next ratio (suc j) levels s p h =
 
     above : levels - j ≡ suc (levels - suc j)
     above = omega arith
-
-pub converted_back_end : (ratio : ℕ → ℕ) (j levels : ℕ) (s now : List ℕ) → j ≤ 0
-    → now ≡ converted_back ratio j (levels - j) s → now ≡ converted_back ratio 0 levels s
-converted_back_end ratio zero levels s now h e = e ∙ ap (λ (u : ℕ). converted_back ratio 0 u s) same
-  where
-    same : levels - 0 ≡ levels
-    same = omega arith
-converted_back_end ratio (suc j) levels s now h e = absurd (omega arith)
-
--- the length at a level
-pub level_length : (j levels l : ℕ) → j ≤ levels → l ≡ 2 ^ levels → l ≡ 2 ^ (levels - j + j)
-level_length j levels l h e = e ∙ ap (λ (n : ℕ). 2 ^ n) whole
-  where
-    whole : levels ≡ levels - j + j
-    whole = omega arith
 
 -- ---- the ratio of a level
 
@@ -225,7 +203,7 @@ zeros_behind used size s front e h below =
     subst (λ (n : ℕ). Zeros gf64 (drop (2 ^ used) (front ++ drop n s))) (sym e)
     (subst (λ (r : List ℕ). Zeros gf64 r) (sym (drop_at front (drop (2 ^ used) s) (2 ^ used) (h ∙ e))) below)
 
--- ---- the elements and their inverses in the front of arrays
+-- ---- the elements, and their inverses in the front of an array
 
 pub elements_counted : (basis elements : List ℕ) → elements ≡ step_elements (length basis) basis
     → length elements ≡ length basis
@@ -235,12 +213,6 @@ pub inverses_counted : (basis elements inverses : List ℕ) → elements ≡ ste
     → inverses ≡ map inverse elements → length inverses ≡ length basis
 inverses_counted basis elements inverses e i =
     ap length i ∙ length-map elements inverse ∙ elements_counted basis elements e
-
-pub elements_held : (n : ℕ) (basis held : List ℕ) → held ≡ padded gf64 n (step_elements (length basis) basis)
-    → take (length basis) held ≡ step_elements (length basis) basis
-elements_held n basis held e =
-    padded_taken n (length basis) (step_elements (length basis) basis) held e (elements_counted basis
-    (step_elements (length basis) basis) refl)
 
 pub inverses_held : (n : ℕ) (basis elements held : List ℕ) → elements ≡ step_elements (length basis) basis
     → held ≡ padded gf64 n (map inverse elements) → take (length basis) held ≡ map inverse elements

@@ -6,53 +6,17 @@ use Prim.Native.Nat.{ℕ, zero, suc, ◌+◌, ◌-◌, ◌/◌, ◌%◌, ◌^◌
 use native.Mathlib.Nat.{le_of_eq, le_of_lt, le_trans}
 use native.Mathlib.Omega.{arith}
 use lib.Pow.{pow_mono}
-use lib.ListN.{length, get_or, take, drop, length-append, length-drop, drop_of_length-le, take-append-drop}
+use lib.ListN.{length, get_or, take, drop, length-drop, drop_of_length-le, take-append-drop}
 use lib.Seq.{take_at, drop_at, length-take-le}
 use lib.Bits.{xor_zero_r}
-use borrow.Rule.Slice.PartMut.{mid_of, put_mid, same_len_mid}
+use borrow.Rule.Slice.PartMut.{mid_of, put_mid}
 use Rattle.gf64.specs.Field.{sum, product}
 use Rattle.gf64.proofs.Ring.{product-zero_r}
 use Rattle.poly.specs.Carrier.{gf64}
 use Rattle.poly.specs.Polynomial.{Zeros, DegreeBelow, plus, scale}
-use Rattle.poly.proofs.Parts.{mid_suffix, put_suffix}
 use Rattle.poly.proofs.Entries.{all_take, all_drop}
 use Rattle.transform.specs.Transform.{second_added, first_added, quarters, quarters_back, on_part}
 use Rattle.transform.specs.Transform.{regrouped, regrouped_back, split_in_halves, joined_from_halves}
-
--- ---- the second half lent and given back, where the first is `front`
-
-pub back_half : (half : ℕ) (front rest : List ℕ) → length front ≡ half
-    → mid_of half (length (front ++ rest) - half) (front ++ rest) ≡ rest
-back_half half front rest h = mid_suffix half (front ++ rest) ∙ drop_at front rest half h
-
-pub put_back : (half : ℕ) (front rest changed : List ℕ) → length front ≡ half
-    → put_mid half (length (front ++ rest) - half) (front ++ rest) changed ≡ front ++ changed
-put_back half front rest changed h =
-    put_suffix half (front ++ rest) changed (omega (arith, length-append front rest, h))
-    ∙ ap (λ (l : List ℕ). l ++ changed) (take_at front rest half h)
-
--- both halves changed
-pub halves_changed : (half : ℕ) (held front changed : List ℕ) (f g : List ℕ → List ℕ) → length front ≡ half
-    → front ≡ f (take half held)
-    → changed ≡ g (mid_of half (length (front ++ drop half held) - half) (front ++ drop half held))
-    → put_mid half (length (front ++ drop half held) - half) (front ++ drop half held) changed
-    ≡ f (take half held) ++ g (drop half held)
-halves_changed half held front changed f g h e₁ e₂ =
-    put_back half front (drop half held) changed h
-    ∙ ap₂ (λ (x y : List ℕ). x ++ y) e₁ (e₂ ∙ ap g (back_half half front (drop half held) h))
-
-pub halves_length : (half : ℕ) (held front changed : List ℕ) → length front ≡ half → length held ≡ half + half
-    → length changed ≡ length (mid_of half (length (front ++ drop half held) - half) (front ++ drop half held))
-    → length (put_mid half (length (front ++ drop half held) - half) (front ++ drop half held) changed) ≡ length held
-halves_length half held front changed h e same =
-    same_len_mid half (length (front ++ drop half held) - half) (front ++ drop half held) changed same
-    ∙ length-append front (drop half held) ∙ omega (arith, length-drop half held)
-
--- the length of the second half
-pub second_length : (half : ℕ) (held front : List ℕ) → length front ≡ half → length held ≡ half + half
-    → length (mid_of half (length (front ++ drop half held) - half) (front ++ drop half held)) ≡ half
-second_length half held front h e =
-    ap length (back_half half front (drop half held) h) ∙ length-drop half held ∙ omega arith
 
 -- ---- lengths
 

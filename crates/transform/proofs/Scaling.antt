@@ -1,10 +1,8 @@
 -- Runs times powers of r: the weights of r z become those of z; the powers of its inverse undo it. Assumes nothing.
-use mathlib.Core.Path.{◌≡◌, refl, sym, ap, ap₂, ◌∙◌, subst}
+use mathlib.Core.Path.{◌≡◌, refl, sym, ap, ap₂, ◌∙◌}
 use mathlib.Core.List.{List, ◌∷◌, ◌++◌, map}
 use Prim.Native.Nat.{ℕ, zero, suc, ◌+◌, ◌*◌, ◌/◌, ◌%◌, ◌^◌, ◌<◌, ◌≤◌}
-use native.Mathlib.Nat.{zero-add, add-zero, div-eq_of_lt, mul-add-div_right, add-div_right, add-mod_right}
-use native.Mathlib.Nat.{suc-mul, mul-le-mul_right, div-lt_iff_lt-mul}
-use native.Mathlib.Numerals.{add-one}
+use native.Mathlib.Nat.{zero-add, add-zero, div-eq_of_lt, mul-add-div_right}
 use native.Mathlib.Omega.{arith}
 use lib.Pow.{pow_pos, pow-add, split, high}
 use lib.ListN.{length, get_or, take, drop, length-append, length-drop, length-map, take-append-drop, get_or-append}
@@ -239,29 +237,3 @@ pub runs_end : (lower r : ℕ) (s now : List ℕ) (at : ℕ) → length s ≤ at
     → now ≡ scaled_runs lower r s
 runs_end lower r s now at h inv =
     inv ∙ filled_all (scaled_runs lower r s) s at h (scaled_block lower r (length s) s refl).0
-
--- the next power of r, at the next run
-pub power_next : (lower r p at end : ℕ) → end ≡ at + 2 ^ lower → p ≡ power r (at / 2 ^ lower)
-    → product p r ≡ power r (end / 2 ^ lower)
-power_next lower r p at end e h =
-    ap (λ (x : ℕ). product x r) h ∙ product_comm (power r (at / 2 ^ lower)) r ∙ sym (power-suc r (at / 2 ^ lower))
-    ∙ ap (power r) (sym (ap (λ (n : ℕ). n / 2 ^ lower) e ∙ add-div_right at (pow_pos lower)
-    ∙ add-one (at / 2 ^ lower)))
-
-pub whole_next : (lower at end : ℕ) → end ≡ at + 2 ^ lower → at % 2 ^ lower ≡ 0 → end % 2 ^ lower ≡ 0
-whole_next lower at end e h = ap (λ (n : ℕ). n % 2 ^ lower) e ∙ add-mod_right at (2 ^ lower) ∙ h
-
--- a run that starts inside ends inside
-pub run_inside : (lower upper at : ℕ) → at % 2 ^ lower ≡ 0 → at < 2 ^ (upper + lower)
-    → at + 2 ^ lower ≤ 2 ^ (upper + lower)
-run_inside lower upper at whole h =
-    subst (λ (n : ℕ). at + 2 ^ lower ≤ n) (sym (pow-add 2 upper lower))
-    (subst (λ (n : ℕ). n + 2 ^ lower ≤ 2 ^ upper * 2 ^ lower) (runs_whole lower at whole)
-    (subst (λ (n : ℕ). n ≤ 2 ^ upper * 2 ^ lower) (suc-mul (at / 2 ^ lower) (2 ^ lower))
-    (mul-le-mul_right (2 ^ lower) ((div-lt_iff_lt-mul (pow_pos lower)).1
-    (subst (λ (n : ℕ). at < n) (pow-add 2 upper lower) h)))))
-
-pub run_fits : (lower upper at run l : ℕ) → at % 2 ^ lower ≡ 0 → at < l → l ≡ 2 ^ (upper + lower) → run ≡ 2 ^ lower
-    → at + run ≤ l
-run_fits lower upper at run l whole h e r =
-    omega (arith, run_inside lower upper at whole (subst (λ (n : ℕ). at < n) e h))
