@@ -1,21 +1,21 @@
 -- Where the layers of a run lie in the bytes, and what is read from them there, as the code finds it. Only inner
 -- functions cite this.
-use Rattle.std.specs.Prelude.{◌≡◌, Bool, cond, List, ℕ, zero, suc, ◌+◌, ◌*◌, ◌^◌, ◌≤◌, ◌<◌}
-use Rattle.poly.specs.Carrier.{gf64}
-use Rattle.poly.specs.Polynomial.{evaluate}
+use Rattle.std.specs.Prelude.{◌≡◌, List, [], ℕ, zero, suc, ◌+◌, ◌*◌, ◌^◌, ◌≤◌, ◌<◌}
 use Rattle.fri.specs.Layout.{dimension}
 use Rattle.fri.specs.Run.{Run, steps_in, rounds_in, layer_in}
 use Rattle.layout.specs.declared.Parameters.{Parameters}
 use Rattle.layout.specs.Parameters.{run_of}
-use Rattle.round_checks.specs.declared.QueryPoint.{QueryPoint}
-use Rattle.round_checks.specs.Rounds.{part_begin}
-use Rattle.transcript.specs.Numerals.{entry_at, entries_at}
+use Rattle.transcript.specs.Numerals.{entries_at}
 use Rattle.transcript.specs.Sections.{run_in}
 
 -- a run whose word and store are those that the bytes carry
 abbrev pub sent_in : (p : Parameters) (offset : ℕ) (basis challenges bytes last : List ℕ) → Run
 sent_in p offset basis challenges bytes last =
     run_of p offset basis challenges (run_in bytes).word (run_in bytes).store last
+
+-- the layers of such a run alone
+abbrev pub layers_in : (p : Parameters) (bytes : List ℕ) → Run
+layers_in p bytes = sent_in p 0 [] [] bytes []
 
 -- where the entries of layer i begin, if those of layer 0 begin at `at`: a count stands between two layers
 unfoldable pub layer_at : (k : ℕ) (steps : List ℕ) (at i : ℕ) → ℕ
@@ -28,12 +28,3 @@ pub record LaidOut (bytes : List ℕ) (at : ℕ) (run : Run) : Type 0 where
   pub entries : (i : ℕ) → i < rounds_in run
       → layer_in run i ≡ entries_at bytes (layer_at run.k (steps_in run) at i) (2 ^ dimension run.k (steps_in run) i)
   pub begins : at ≤ 2 ^ 41
-
--- the entries of the coset that holds the query's index, in a layer whose entries begin there
-abbrev pub part_at : (bytes : List ℕ) (at step : ℕ) (here : QueryPoint) → List ℕ
-part_at bytes at step here = entries_at bytes (at + 8 * part_begin step here) (2 ^ step)
-
--- the value found: an entry of the next layer, whose entries begin there, or, in the last round, the last polynomial's
-abbrev pub value_read_at : (bytes : List ℕ) (at : ℕ) (stored : Bool) (next : QueryPoint) (last : List ℕ) → ℕ
-value_read_at bytes at stored next last =
-    cond stored (entry_at bytes (at + 8 * next.index)) (evaluate gf64 last next.point.0)
