@@ -36,14 +36,16 @@ module _ (lower upper r i run : ℕ) (s now : List ℕ) (counted : length s ≡ 
   one_more : i * run + run ≡ (i + 1) * run
   one_more = sym (ap (λ (m : ℕ). m * run) (add-one i) ∙ suc-mul i run)
 
-  pub next : (changed : List ℕ) (n : ℕ) → i < length s / run → n ≡ run → changed ≡ scale gf64 (power r i) (mid_of (i * run) n now)
+  pub next : (changed : List ℕ) (n : ℕ) → i < length s / run → n ≡ run
+      → changed ≡ scale gf64 (power r i) (mid_of (i * run) n now)
       → put_mid (i * run) n now changed ≡ filled (scaled_runs lower r s) s ((i + 1) * run)
   next changed n h m e =
       runs_next lower r s now changed (i * run) ((i + 1) * run) n (sym one_more ∙ ap (λ (k : ℕ). i * run + k) long)
       (m ∙ long) (subst (λ (k : ℕ). i * run % k ≡ 0) long (mul-mod_left i run))
       (subst (λ (k : ℕ). (i + 1) * run ≤ k) (sym whole) (mul-le-mul_right run (omega arith))) inv
       (e ∙ ap (λ (j : ℕ). scale gf64 (power r j) (mid_of (i * run) n now))
-      (sym (subst (λ (k : ℕ). i * run / k ≡ i) long (mul-div_cancel i (subst (λ (k : ℕ). 0 < k) (sym long) (pow_pos lower))))))
+      (sym (subst (λ (k : ℕ). i * run / k ≡ i) long
+      (mul-div_cancel i (subst (λ (k : ℕ). 0 < k) (sym long) (pow_pos lower))))))
 
   pub end : length s / run ≤ i → now ≡ scaled_runs lower r s
   end h =

@@ -13,8 +13,8 @@ inverses_of_nonzero-requires c =
     let coset = c.args.coset in
     let basis = coset.basis.now in (
       c.as_slice-elements.ensures.few,
-      listed_not_zero (length basis) basis c.as_slice-elements.result.now (all_elements basis coset.elements) coset.independent
-          (c.as_slice-elements.ensures.list ∙ c.requires),
+      listed_not_zero (length basis) basis c.as_slice-elements.result.now (all_elements basis coset.elements)
+          coset.independent (c.as_slice-elements.ensures.list ∙ c.requires),
     )
 
 pub returns : goal.returns

@@ -16,8 +16,8 @@ pub loop-i-preserved : goal.loop-i-preserved
 loop-i-preserved c =
     let l = c.loop-i in
     let halves = c.split_at_mut-first.result in
-    added_next halves.1.now halves.0.now l.second l.i _ (omega (arith, c.requires, c.split_at_mut-first.ensures)) (omega arith)
-    l.invariant refl
+    added_next halves.1.now halves.0.now l.second l.i _ (omega (arith, c.requires, c.split_at_mut-first.ensures))
+    (omega arith) l.invariant refl
 
 pub returns : goal.returns
 returns c =
