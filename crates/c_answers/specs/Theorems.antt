@@ -2,6 +2,7 @@
 -- values.
 use Rattle.std.specs.Prelude.{◌≡◌, List, [], ◌∷◌, ℕ, length, take, drop}
 use Rattle.refusal.specs.declared.Cause.TheVariants.{WrongLength, DegreeTooLarge, RoundCheckFails, CosetShared}
+use Rattle.refusal.specs.declared.Lent.TheVariants as lent
 use Rattle.std.specs.Prelude.{Ok, Err}
 use Rattle.fri.specs.Lookup.{layer_part}
 use Rattle.layout.specs.declared.Parameters.{Parameters}
@@ -11,14 +12,14 @@ use Rattle.c_answers.specs.Answers.{answer_of_verdict}
 
 pub record FoldNumbers : Type 0 where
   pub done : numbers_of (answer_of_folded (Ok (record { 0 = 0x48 }))) ≡ 0 ∷ none ∷ none ∷ 0 ∷ 0x48 ∷ []
-  pub wrong_length : numbers_of (answer_of_folded (Err (WrongLength 7))) ≡ 13 ∷ 7 ∷ none ∷ 0 ∷ none ∷ []
+  pub wrong_length : numbers_of (answer_of_folded (Err (WrongLength lent.NextBasis))) ≡ 13 ∷ 7 ∷ none ∷ 0 ∷ none ∷ []
 
 -- prover, judge and lookup
 pub record RunNumbers : Type 0 where
   pub proved : numbers_of (answer_of_proved (Ok tt)) ≡ 0 ∷ none ∷ none ∷ 0 ∷ none ∷ []
   -- the degree is place and value
   pub degree : numbers_of (answer_of_proved (Err (DegreeTooLarge 1))) ≡ 12 ∷ 1 ∷ none ∷ 0 ∷ 1 ∷ []
-  pub store : numbers_of (answer_of_proved (Err (WrongLength 4))) ≡ 13 ∷ 4 ∷ none ∷ 0 ∷ none ∷ []
+  pub store : numbers_of (answer_of_proved (Err (WrongLength lent.Store))) ≡ 13 ∷ 4 ∷ none ∷ 0 ∷ none ∷ []
   -- cases G and H
   pub accepted : numbers_of (answer_of_verdict (record { answer = Ok tt; reads = 4 }))
       ≡ 0 ∷ none ∷ none ∷ 4 ∷ none ∷ []

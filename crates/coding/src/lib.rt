@@ -9,7 +9,7 @@ ghost use Rattle.reed_solomon.specs.Answers.{coefficients_after};
 
 use field::Element;
 use points::Coset;
-use refusal::Cause;
+use refusal::{Cause, Lent};
 
 // The polynomial's values at all 2^k points, in point order; k is the length of the basis, and coefficients that are
 // left off are zero. Refused, in this order: k over 20 (4); over 2^k coefficients or other than 2^k values (13, list
@@ -67,10 +67,10 @@ fn checked(basis: &[u64], fits3: bool, fits6: bool) -> Result<(), Cause>
         return Err(Cause::DimensionOutOfRange);
     }
     if !fits3 {
-        return Err(Cause::WrongLength { list: 3 });
+        return Err(Cause::WrongLength { list: Lent::Word });
     }
     if !fits6 {
-        return Err(Cause::WrongLength { list: 6 });
+        return Err(Cause::WrongLength { list: Lent::Values });
     }
     independence::checked_basis(basis)
 }

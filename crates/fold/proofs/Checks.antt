@@ -10,6 +10,7 @@ use Rattle.refusal.specs.declared.Cause.TheVariants.{DimensionTooSmall, WrongLen
 use Rattle.std.specs.Prelude.{Ok, Err}
 use Rattle.refusal.specs.Outcome.{Outcome}
 use Rattle.refusal.specs.declared.Cause.{Cause}
+use Rattle.refusal.specs.declared.Lent.TheVariants as lent
 use Rattle.refusal.specs.Checks.{refused_unless, and_then, afterwards}
 use Rattle.refusal.proofs.Checks.{equal_of_test, le_of_test, passed_by, refused_by}
 use Rattle.refusal.proofs.Checks.{unless_done, then_done, within_of, done_holds, refused_holds}
@@ -77,45 +78,45 @@ in_range k step e =
 
 module _ (k step length1 length3 length6 length7 : ℕ) where
   abbrev pub after6 : Outcome
-  after6 = refused_unless (eqb length7 (k - step)) (WrongLength 7) (Ok tt)
+  after6 = refused_unless (eqb length7 (k - step)) (WrongLength lent.NextBasis) (Ok tt)
 
   abbrev pub after3 : Outcome
-  after3 = refused_unless (eqb length6 (2 ^ (k - step))) (WrongLength 6) after6
+  after3 = refused_unless (eqb length6 (2 ^ (k - step))) (WrongLength lent.Values) after6
 
   abbrev pub after1 : Outcome
-  after1 = refused_unless (eqb length3 (2 ^ k)) (WrongLength 3) after3
+  after1 = refused_unless (eqb length3 (2 ^ k)) (WrongLength lent.Word) after3
 
   pub list1_refused : eqb length1 k ≡ false
-      → Err (WrongLength 1) ≡ fold_lengths_outcome k step length1 length3 length6 length7
-  list1_refused e = refused_by (eqb length1 k) (WrongLength 1) after1 e
+      → Err (WrongLength lent.Basis) ≡ fold_lengths_outcome k step length1 length3 length6 length7
+  list1_refused e = refused_by (eqb length1 k) (WrongLength lent.Basis) after1 e
 
   list1_passed : eqb length1 k ≡ true → after1 ≡ fold_lengths_outcome k step length1 length3 length6 length7
-  list1_passed e = passed_by (eqb length1 k) (WrongLength 1) after1 e
+  list1_passed e = passed_by (eqb length1 k) (WrongLength lent.Basis) after1 e
 
   pub list3_refused : eqb length1 k ≡ true → eqb length3 (2 ^ k) ≡ false
-      → Err (WrongLength 3) ≡ fold_lengths_outcome k step length1 length3 length6 length7
-  list3_refused e f = refused_by (eqb length3 (2 ^ k)) (WrongLength 3) after3 f ∙ list1_passed e
+      → Err (WrongLength lent.Word) ≡ fold_lengths_outcome k step length1 length3 length6 length7
+  list3_refused e f = refused_by (eqb length3 (2 ^ k)) (WrongLength lent.Word) after3 f ∙ list1_passed e
 
   list3_passed : eqb length1 k ≡ true → eqb length3 (2 ^ k) ≡ true
       → after3 ≡ fold_lengths_outcome k step length1 length3 length6 length7
-  list3_passed e f = passed_by (eqb length3 (2 ^ k)) (WrongLength 3) after3 f ∙ list1_passed e
+  list3_passed e f = passed_by (eqb length3 (2 ^ k)) (WrongLength lent.Word) after3 f ∙ list1_passed e
 
   pub list6_refused : eqb length1 k ≡ true → eqb length3 (2 ^ k) ≡ true → eqb length6 (2 ^ (k - step)) ≡ false
-      → Err (WrongLength 6) ≡ fold_lengths_outcome k step length1 length3 length6 length7
-  list6_refused e f g = refused_by (eqb length6 (2 ^ (k - step))) (WrongLength 6) after6 g ∙ list3_passed e f
+      → Err (WrongLength lent.Values) ≡ fold_lengths_outcome k step length1 length3 length6 length7
+  list6_refused e f g = refused_by (eqb length6 (2 ^ (k - step))) (WrongLength lent.Values) after6 g ∙ list3_passed e f
 
   list6_passed : eqb length1 k ≡ true → eqb length3 (2 ^ k) ≡ true → eqb length6 (2 ^ (k - step)) ≡ true
       → after6 ≡ fold_lengths_outcome k step length1 length3 length6 length7
-  list6_passed e f g = passed_by (eqb length6 (2 ^ (k - step))) (WrongLength 6) after6 g ∙ list3_passed e f
+  list6_passed e f g = passed_by (eqb length6 (2 ^ (k - step))) (WrongLength lent.Values) after6 g ∙ list3_passed e f
 
   pub list7_refused : eqb length1 k ≡ true → eqb length3 (2 ^ k) ≡ true → eqb length6 (2 ^ (k - step)) ≡ true
       → eqb length7 (k - step) ≡ false
-      → Err (WrongLength 7) ≡ fold_lengths_outcome k step length1 length3 length6 length7
-  list7_refused e f g h = refused_by (eqb length7 (k - step)) (WrongLength 7) (Ok tt) h ∙ list6_passed e f g
+      → Err (WrongLength lent.NextBasis) ≡ fold_lengths_outcome k step length1 length3 length6 length7
+  list7_refused e f g h = refused_by (eqb length7 (k - step)) (WrongLength lent.NextBasis) (Ok tt) h ∙ list6_passed e f g
 
   pub lengths_pass : eqb length1 k ≡ true → eqb length3 (2 ^ k) ≡ true → eqb length6 (2 ^ (k - step)) ≡ true
       → eqb length7 (k - step) ≡ true → (Ok tt) ≡ fold_lengths_outcome k step length1 length3 length6 length7
-  lengths_pass e f g h = passed_by (eqb length7 (k - step)) (WrongLength 7) (Ok tt) h ∙ list6_passed e f g
+  lengths_pass e f g h = passed_by (eqb length7 (k - step)) (WrongLength lent.NextBasis) (Ok tt) h ∙ list6_passed e f g
 
 pub record Fitting (k step length1 length3 length6 length7 : ℕ) : Type 0 where
   pub list1_fits : length1 ≡ k
@@ -126,12 +127,12 @@ pub record Fitting (k step length1 length3 length6 length7 : ℕ) : Type 0 where
 fitting : (k step length1 length3 length6 length7 : ℕ)
     → fold_lengths_outcome k step length1 length3 length6 length7 ≡ Ok tt → Fitting k step length1 length3 length6 length7
 fitting k step length1 length3 length6 length7 e =
-    let first = unless_done (eqb length1 k) (WrongLength 1) (after1 k step length1 length3 length6 length7) e in
-    let second = unless_done (eqb length3 (2 ^ k)) (WrongLength 3)
+    let first = unless_done (eqb length1 k) (WrongLength lent.Basis) (after1 k step length1 length3 length6 length7) e in
+    let second = unless_done (eqb length3 (2 ^ k)) (WrongLength lent.Word)
     (after3 k step length1 length3 length6 length7) first.1 in
-    let third = unless_done (eqb length6 (2 ^ (k - step))) (WrongLength 6)
+    let third = unless_done (eqb length6 (2 ^ (k - step))) (WrongLength lent.Values)
     (after6 k step length1 length3 length6 length7) second.1 in
-    let fourth = unless_done (eqb length7 (k - step)) (WrongLength 7) (Ok tt) third.1 in
+    let fourth = unless_done (eqb length7 (k - step)) (WrongLength lent.NextBasis) (Ok tt) third.1 in
     record {
       list1_fits = equal_of_test length1 k first.0;
       list3_fits = equal_of_test length3 (2 ^ k) second.0;

@@ -11,6 +11,7 @@ use borrow.Author.Tests.{le-leb, lt-leb, eq-eqb, ne_eqb}
 use Rattle.refusal.specs.declared.Cause.{Cause}
 use Rattle.refusal.specs.declared.Cause.TheVariants.{DimensionOutOfRange, StepOutOfRange}
 use Rattle.refusal.specs.declared.Cause.TheVariants.{DimensionTooSmall, WrongLength, BasisDependent}
+use Rattle.refusal.specs.declared.Lent.TheVariants as lent
 use Rattle.std.specs.Prelude.{None, Result, Ok, Err}
 use Rattle.refusal.specs.Outcome.{Outcome}
 use Rattle.field.specs.declared.Element.{Element}
@@ -122,11 +123,11 @@ module _ (P : ℕ → Type 0) (p0 : P 0) (p4 : P 4) (p6 : P 6) (p7 : P 7) (p8 : 
   lengths_number : (k step length1 length3 length6 length7 : ℕ)
       → P (number_of_outcome (fold_lengths_outcome k step length1 length3 length6 length7))
   lengths_number k step length1 length3 length6 length7 =
-      number_unless P (eqb length1 k) (WrongLength 1) (checks.after1 k step length1 length3 length6 length7) p13
-      (number_unless P (eqb length3 (2 ^ k)) (WrongLength 3) (checks.after3 k step length1 length3 length6 length7) p13
-      (number_unless P (eqb length6 (2 ^ (k - step))) (WrongLength 6)
+      number_unless P (eqb length1 k) (WrongLength lent.Basis) (checks.after1 k step length1 length3 length6 length7) p13
+      (number_unless P (eqb length3 (2 ^ k)) (WrongLength lent.Word) (checks.after3 k step length1 length3 length6 length7) p13
+      (number_unless P (eqb length6 (2 ^ (k - step))) (WrongLength lent.Values)
       (checks.after6 k step length1 length3 length6 length7) p13
-      (number_unless P (eqb length7 (k - step)) (WrongLength 7) (Ok tt) p13 p0)))
+      (number_unless P (eqb length7 (k - step)) (WrongLength lent.NextBasis) (Ok tt) p13 p0)))
 
   outcome_number : (k step : ℕ) (basis word values next : List ℕ)
       → P (number_of_outcome (fold_outcome k step basis word values next))
@@ -169,23 +170,23 @@ refusals =
           (ranges_refuse k step basis word values next DimensionTooSmall
           (checks.too_small_refused k step (in_range_k k step r) (in_range_step k step r) (lt-leb step k s)));
       list1 = λ k step basis word values next r s n.
-          refuses k step basis word values next (WrongLength 1) refl
-          (lengths_refuse k step basis word values next r s (WrongLength 1)
+          refuses k step basis word values next (WrongLength lent.Basis) refl
+          (lengths_refuse k step basis word values next r s (WrongLength lent.Basis)
           (checks.list1_refused k step (length basis) (length word) (length values) (length next)
           (ne_eqb (length basis) k n)));
       list3 = λ k step basis word values next r s a n.
-          refuses k step basis word values next (WrongLength 3) refl
-          (lengths_refuse k step basis word values next r s (WrongLength 3)
+          refuses k step basis word values next (WrongLength lent.Word) refl
+          (lengths_refuse k step basis word values next r s (WrongLength lent.Word)
           (checks.list3_refused k step (length basis) (length word) (length values) (length next)
           (eq-eqb (length basis) k a) (ne_eqb (length word) (2 ^ k) n)));
       list6 = λ k step basis word values next r s a b n.
-          refuses k step basis word values next (WrongLength 6) refl
-          (lengths_refuse k step basis word values next r s (WrongLength 6)
+          refuses k step basis word values next (WrongLength lent.Values) refl
+          (lengths_refuse k step basis word values next r s (WrongLength lent.Values)
           (checks.list6_refused k step (length basis) (length word) (length values) (length next)
           (eq-eqb (length basis) k a) (eq-eqb (length word) (2 ^ k) b) (ne_eqb (length values) (2 ^ (k - step)) n)));
       list7 = λ k step basis word values next r s a b v n.
-          refuses k step basis word values next (WrongLength 7) refl
-          (lengths_refuse k step basis word values next r s (WrongLength 7)
+          refuses k step basis word values next (WrongLength lent.NextBasis) refl
+          (lengths_refuse k step basis word values next r s (WrongLength lent.NextBasis)
           (checks.list7_refused k step (length basis) (length word) (length values) (length next)
           (eq-eqb (length basis) k a) (eq-eqb (length word) (2 ^ k) b)
           (eq-eqb (length values) (2 ^ (k - step)) v) (ne_eqb (length next) (k - step) n)));

@@ -6,6 +6,7 @@ use Rattle.refusal.specs.declared.Cause.TheVariants.{DimensionTooSmall, WrongLen
 use Rattle.std.specs.Prelude.{Option, None, Result, Ok, Err}
 use Rattle.refusal.specs.Outcome.{Outcome}
 use Rattle.refusal.specs.declared.Cause.{Cause}
+use Rattle.refusal.specs.declared.Lent.TheVariants as lent
 use Rattle.field.specs.declared.Element.{Element}
 use Rattle.refusal.specs.Checks.{refused_unless, and_then, afterwards}
 use Rattle.refusal.specs.Numbers.{number_of, place_of, round_of}
@@ -24,10 +25,10 @@ fold_ranges_outcome k step =
 -- the lengths of the lists: the lowest list whose length is not the one due (13)
 abbrev pub fold_lengths_outcome : (k step length1 length3 length6 length7 : ℕ) → Outcome
 fold_lengths_outcome k step length1 length3 length6 length7 =
-    refused_unless (eqb length1 k) (WrongLength 1)
-    (refused_unless (eqb length3 (2 ^ k)) (WrongLength 3)
-    (refused_unless (eqb length6 (2 ^ (k - step))) (WrongLength 6)
-    (refused_unless (eqb length7 (k - step)) (WrongLength 7)
+    refused_unless (eqb length1 k) (WrongLength lent.Basis)
+    (refused_unless (eqb length3 (2 ^ k)) (WrongLength lent.Word)
+    (refused_unless (eqb length6 (2 ^ (k - step))) (WrongLength lent.Values)
+    (refused_unless (eqb length7 (k - step)) (WrongLength lent.NextBasis)
     (Ok tt))))
 
 -- all checks, in the order of document 01: 4, 6, 7, 13, 8

@@ -13,6 +13,7 @@ use borrow.Author.Tests.{le-leb, lt-leb, lt-ltb, eq-eqb, ne_eqb, ltb-true, ltb-f
 use Rattle.refusal.specs.declared.Cause.TheVariants.{DimensionOutOfRange, RateOutOfRange, StepOutOfRange}
 use Rattle.refusal.specs.declared.Cause.TheVariants.{DimensionTooSmall, WrongLength}
 use Rattle.refusal.specs.declared.Cause.TheVariants.{QueryCountOutOfRange, QueryOutOfRange, CosetShared}
+use Rattle.refusal.specs.declared.Lent.TheVariants as lent
 use Rattle.std.specs.Prelude.{Option, Some, None, Ok, Err}
 use Rattle.refusal.specs.Outcome.{Outcome}
 use Rattle.refusal.specs.Checks.{refused_unless, and_then}
@@ -108,49 +109,49 @@ module _ (run : Run) where
   last_due = last_count run.k run.rate (steps_in run)
 
   abbrev after4 : Outcome
-  after4 = refused_unless (eqb (length run.last) last_due) (WrongLength 5) (Ok tt)
+  after4 = refused_unless (eqb (length run.last) last_due) (WrongLength lent.Last) (Ok tt)
 
   abbrev after3 : Outcome
-  after3 = refused_unless (eqb (length run.store) stored) (WrongLength 4) after4
+  after3 = refused_unless (eqb (length run.store) stored) (WrongLength lent.Store) after4
 
   abbrev after2 : Outcome
-  after2 = refused_unless (eqb (length run.word) (2 ^ run.k)) (WrongLength 3) after3
+  after2 = refused_unless (eqb (length run.word) (2 ^ run.k)) (WrongLength lent.Word) after3
 
   abbrev after1 : Outcome
-  after1 = refused_unless (eqb (length run.challenges) (rounds_in run)) (WrongLength 2) after2
+  after1 = refused_unless (eqb (length run.challenges) (rounds_in run)) (WrongLength lent.Challenges) after2
 
   list1_passes : length run.basis ≡ run.k → lengths_outcome run ≡ after1
   list1_passes e =
       sym
-      (passed_by (eqb (length run.basis) run.k) (WrongLength 1) after1 (eq-eqb (length run.basis) run.k e))
+      (passed_by (eqb (length run.basis) run.k) (WrongLength lent.Basis) after1 (eq-eqb (length run.basis) run.k e))
 
   list2_passes : length run.challenges ≡ rounds_in run → after1 ≡ after2
   list2_passes e =
-      sym (passed_by (eqb (length run.challenges) (rounds_in run)) (WrongLength 2) after2
+      sym (passed_by (eqb (length run.challenges) (rounds_in run)) (WrongLength lent.Challenges) after2
       (eq-eqb (length run.challenges) (rounds_in run) e))
 
   list3_passes : length run.word ≡ 2 ^ run.k → after2 ≡ after3
   list3_passes e =
-      sym (passed_by (eqb (length run.word) (2 ^ run.k)) (WrongLength 3) after3
+      sym (passed_by (eqb (length run.word) (2 ^ run.k)) (WrongLength lent.Word) after3
       (eq-eqb (length run.word) (2 ^ run.k) e))
 
   list4_passes : length run.store ≡ stored → after3 ≡ after4
   list4_passes e =
-      sym (passed_by (eqb (length run.store) stored) (WrongLength 4) after4 (eq-eqb (length run.store) stored e))
+      sym (passed_by (eqb (length run.store) stored) (WrongLength lent.Store) after4 (eq-eqb (length run.store) stored e))
 
   pub lengths_pass : Fit run → lengths_outcome run ≡ Ok tt
   lengths_pass f =
       list1_passes f.basis ∙ list2_passes f.challenges ∙ list3_passes f.word ∙ list4_passes f.store
-      ∙ sym (passed_by (eqb (length run.last) last_due) (WrongLength 5) (Ok tt)
+      ∙ sym (passed_by (eqb (length run.last) last_due) (WrongLength lent.Last) (Ok tt)
       (eq-eqb (length run.last) last_due f.last))
 
   pub lengths_fit : lengths_outcome run ≡ Ok tt → Fit run
   lengths_fit e =
-      let first = unless_done (eqb (length run.basis) run.k) (WrongLength 1) after1 e in
-      let second = unless_done (eqb (length run.challenges) (rounds_in run)) (WrongLength 2) after2 first.1 in
-      let third = unless_done (eqb (length run.word) (2 ^ run.k)) (WrongLength 3) after3 second.1 in
-      let fourth = unless_done (eqb (length run.store) stored) (WrongLength 4) after4 third.1 in
-      let fifth = unless_done (eqb (length run.last) last_due) (WrongLength 5) (Ok tt) fourth.1 in
+      let first = unless_done (eqb (length run.basis) run.k) (WrongLength lent.Basis) after1 e in
+      let second = unless_done (eqb (length run.challenges) (rounds_in run)) (WrongLength lent.Challenges) after2 first.1 in
+      let third = unless_done (eqb (length run.word) (2 ^ run.k)) (WrongLength lent.Word) after3 second.1 in
+      let fourth = unless_done (eqb (length run.store) stored) (WrongLength lent.Store) after4 third.1 in
+      let fifth = unless_done (eqb (length run.last) last_due) (WrongLength lent.Last) (Ok tt) fourth.1 in
       record {
         basis = equal_of_test (length run.basis) run.k first.0;
         challenges = equal_of_test (length run.challenges) (rounds_in run) second.0;
@@ -159,39 +160,39 @@ module _ (run : Run) where
         last = equal_of_test (length run.last) last_due fifth.0;
       }
 
-  pub list1_refused : length run.basis ≢ run.k → lengths_outcome run ≡ Err (WrongLength 1)
+  pub list1_refused : length run.basis ≢ run.k → lengths_outcome run ≡ Err (WrongLength lent.Basis)
   list1_refused n =
       sym
-      (refused_by (eqb (length run.basis) run.k) (WrongLength 1) after1 (ne_eqb (length run.basis) run.k n))
+      (refused_by (eqb (length run.basis) run.k) (WrongLength lent.Basis) after1 (ne_eqb (length run.basis) run.k n))
 
   pub list2_refused : length run.basis ≡ run.k → length run.challenges ≢ rounds_in run
-      → lengths_outcome run ≡ Err (WrongLength 2)
+      → lengths_outcome run ≡ Err (WrongLength lent.Challenges)
   list2_refused a n =
       list1_passes a
-      ∙ sym (refused_by (eqb (length run.challenges) (rounds_in run)) (WrongLength 2) after2
+      ∙ sym (refused_by (eqb (length run.challenges) (rounds_in run)) (WrongLength lent.Challenges) after2
       (ne_eqb (length run.challenges) (rounds_in run) n))
 
   pub list3_refused : length run.basis ≡ run.k → length run.challenges ≡ rounds_in run
-      → length run.word ≢ 2 ^ run.k → lengths_outcome run ≡ Err (WrongLength 3)
+      → length run.word ≢ 2 ^ run.k → lengths_outcome run ≡ Err (WrongLength lent.Word)
   list3_refused a b n =
       list1_passes a ∙ list2_passes b
-      ∙ sym (refused_by (eqb (length run.word) (2 ^ run.k)) (WrongLength 3) after3
+      ∙ sym (refused_by (eqb (length run.word) (2 ^ run.k)) (WrongLength lent.Word) after3
       (ne_eqb (length run.word) (2 ^ run.k) n))
 
   pub list4_refused : length run.basis ≡ run.k → length run.challenges ≡ rounds_in run
-      → length run.word ≡ 2 ^ run.k → length run.store ≢ stored → lengths_outcome run ≡ Err (WrongLength 4)
+      → length run.word ≡ 2 ^ run.k → length run.store ≢ stored → lengths_outcome run ≡ Err (WrongLength lent.Store)
   list4_refused a b d n =
       list1_passes a ∙ list2_passes b ∙ list3_passes d
       ∙ sym
-      (refused_by (eqb (length run.store) stored) (WrongLength 4) after4 (ne_eqb (length run.store) stored n))
+      (refused_by (eqb (length run.store) stored) (WrongLength lent.Store) after4 (ne_eqb (length run.store) stored n))
 
   pub list5_refused : length run.basis ≡ run.k → length run.challenges ≡ rounds_in run
       → length run.word ≡ 2 ^ run.k
-      → length run.store ≡ stored → length run.last ≢ last_due → lengths_outcome run ≡ Err (WrongLength 5)
+      → length run.store ≡ stored → length run.last ≢ last_due → lengths_outcome run ≡ Err (WrongLength lent.Last)
   list5_refused a b d s n =
       list1_passes a ∙ list2_passes b ∙ list3_passes d ∙ list4_passes s
       ∙ sym
-      (refused_by (eqb (length run.last) last_due) (WrongLength 5) (Ok tt) (ne_eqb (length run.last) last_due n))
+      (refused_by (eqb (length run.last) last_due) (WrongLength lent.Last) (Ok tt) (ne_eqb (length run.last) last_due n))
 
 -- ---- a run
 
@@ -354,11 +355,11 @@ run_number P p0 low p13 run =
   where
     lengths_number : P (number_of_outcome (lengths_outcome run))
     lengths_number =
-        number_unless P (eqb (length run.basis) run.k) (WrongLength 1) (after1 run) p13
-        (number_unless P (eqb (length run.challenges) (rounds_in run)) (WrongLength 2) (after2 run) p13
-        (number_unless P (eqb (length run.word) (2 ^ run.k)) (WrongLength 3) (after3 run) p13
-        (number_unless P (eqb (length run.store) (stored run)) (WrongLength 4) (after4 run) p13
-        (number_unless P (eqb (length run.last) (last_due run)) (WrongLength 5) (Ok tt) p13 p0))))
+        number_unless P (eqb (length run.basis) run.k) (WrongLength lent.Basis) (after1 run) p13
+        (number_unless P (eqb (length run.challenges) (rounds_in run)) (WrongLength lent.Challenges) (after2 run) p13
+        (number_unless P (eqb (length run.word) (2 ^ run.k)) (WrongLength lent.Word) (after3 run) p13
+        (number_unless P (eqb (length run.store) (stored run)) (WrongLength lent.Store) (after4 run) p13
+        (number_unless P (eqb (length run.last) (last_due run)) (WrongLength lent.Last) (Ok tt) p13 p0))))
 
 -- which is none from 9 on but 13
 pub run_not : (run : Run) (m : ℕ) → 9 ≤ m → m ≢ 13 → number_of_outcome (run_outcome run) ≢ m

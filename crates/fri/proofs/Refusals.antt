@@ -10,6 +10,7 @@ use Rattle.refusal.specs.declared.Cause.{Cause}
 use Rattle.refusal.specs.declared.Cause.TheVariants.{DimensionOutOfRange, RateOutOfRange, StepOutOfRange}
 use Rattle.refusal.specs.declared.Cause.TheVariants.{DimensionTooSmall, WrongLength, BasisDependent}
 use Rattle.refusal.specs.declared.Cause.TheVariants.{QueryCountOutOfRange, QueryOutOfRange, CosetShared}
+use Rattle.refusal.specs.declared.Lent.TheVariants as lent
 use Rattle.std.specs.Prelude.{Some, None, Ok, Err}
 use Rattle.refusal.specs.Outcome.{Outcome}
 use Rattle.refusal.specs.Checks.{and_then}
@@ -101,15 +102,15 @@ refusals =
           (by_parameters run DimensionTooSmall
           (checks.too_small_refused run.k run.rate run.step l m a b s t h));
       list1 = λ run v n.
-          both_refuse run (WrongLength 1) refl (by_lengths run (WrongLength 1) v (checks.list1_refused run n));
+          both_refuse run (WrongLength lent.Basis) refl (by_lengths run (WrongLength lent.Basis) v (checks.list1_refused run n));
       list2 = λ run v a n.
-          both_refuse run (WrongLength 2) refl (by_lengths run (WrongLength 2) v (checks.list2_refused run a n));
+          both_refuse run (WrongLength lent.Challenges) refl (by_lengths run (WrongLength lent.Challenges) v (checks.list2_refused run a n));
       list3 = λ run v a b n.
-          both_refuse run (WrongLength 3) refl (by_lengths run (WrongLength 3) v (checks.list3_refused run a b n));
+          both_refuse run (WrongLength lent.Word) refl (by_lengths run (WrongLength lent.Word) v (checks.list3_refused run a b n));
       list4 = λ run v a b d n.
-          both_refuse run (WrongLength 4) refl (by_lengths run (WrongLength 4) v (checks.list4_refused run a b d n));
+          both_refuse run (WrongLength lent.Store) refl (by_lengths run (WrongLength lent.Store) v (checks.list4_refused run a b d n));
       list5 = λ run v a b d s n.
-          both_refuse run (WrongLength 5) refl (by_lengths run (WrongLength 5) v (checks.list5_refused run a b d s n));
+          both_refuse run (WrongLength lent.Last) refl (by_lengths run (WrongLength lent.Last) v (checks.list5_refused run a b d s n));
       dependent = λ run place v f e. both_refuse run (BasisDependent place) refl (by_basis run place v f e);
       query_count = λ run queries d o.
           by_queries run queries QueryCountOutOfRange d (checks.count_refused run.k (step_in run 0) queries o);

@@ -3,6 +3,7 @@ use Rattle.std.specs.Prelude.{Bool, false, cond, ◌&&◌, ◌||◌, List, [], �
 use Rattle.refusal.specs.declared.Cause.TheVariants.{DimensionOutOfRange, RateOutOfRange, StepOutOfRange}
 use Rattle.refusal.specs.declared.Cause.TheVariants.{DimensionTooSmall, WrongLength}
 use Rattle.refusal.specs.declared.Cause.TheVariants.{QueryCountOutOfRange, QueryOutOfRange, CosetShared}
+use Rattle.refusal.specs.declared.Lent.TheVariants as lent
 use Rattle.std.specs.Prelude.{Option, Some, None, Ok, Err}
 use Rattle.refusal.specs.Outcome.{Outcome}
 use Rattle.refusal.specs.Checks.{refused_unless, and_then}
@@ -22,11 +23,11 @@ parameters_outcome k rate step =
 -- lists 1 to 5: the lowest one whose length is not the one due (13)
 abbrev pub lengths_outcome : (run : Run) → Outcome
 lengths_outcome run =
-    refused_unless (eqb (length run.basis) run.k) (WrongLength 1)
-    (refused_unless (eqb (length run.challenges) (rounds_in run)) (WrongLength 2)
-    (refused_unless (eqb (length run.word) (2 ^ run.k)) (WrongLength 3)
-    (refused_unless (eqb (length run.store) (store_length run.k (steps_in run))) (WrongLength 4)
-    (refused_unless (eqb (length run.last) (last_count run.k run.rate (steps_in run))) (WrongLength 5)
+    refused_unless (eqb (length run.basis) run.k) (WrongLength lent.Basis)
+    (refused_unless (eqb (length run.challenges) (rounds_in run)) (WrongLength lent.Challenges)
+    (refused_unless (eqb (length run.word) (2 ^ run.k)) (WrongLength lent.Word)
+    (refused_unless (eqb (length run.store) (store_length run.k (steps_in run))) (WrongLength lent.Store)
+    (refused_unless (eqb (length run.last) (last_count run.k run.rate (steps_in run))) (WrongLength lent.Last)
     (Ok tt)))))
 
 -- the checks that prover and judge have in common: 4, 5, 6, 7, 13, 8

@@ -11,7 +11,7 @@ ghost use Rattle.lone_fold.specs.Calls.{FoldCall, FoldedBy, CallFits};
 
 use field::Element;
 use points::Coset;
-use refusal::Cause;
+use refusal::{Cause, Lent};
 
 // The fold of a word at the challenge, with the step, into `values`; the basis of the next coset into `next_basis`;
 // its offset as the answer. Refused, in this order: k outside 2..20 (4); a step outside 1..3 (6); k below the step
@@ -107,16 +107,16 @@ fn checked_lengths(
     ensures { result ≡ fold_lengths_outcome k step length1 length3 length6 length7 }
 {
     if length1 != k {
-        return Err(Cause::WrongLength { list: 1 });
+        return Err(Cause::WrongLength { list: Lent::Basis });
     }
     if length3 != 1 << k {
-        return Err(Cause::WrongLength { list: 3 });
+        return Err(Cause::WrongLength { list: Lent::Word });
     }
     if length6 != 1 << (k - step) {
-        return Err(Cause::WrongLength { list: 6 });
+        return Err(Cause::WrongLength { list: Lent::Values });
     }
     if length7 != k - step {
-        return Err(Cause::WrongLength { list: 7 });
+        return Err(Cause::WrongLength { list: Lent::NextBasis });
     }
     Ok(())
 }

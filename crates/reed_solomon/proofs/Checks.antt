@@ -8,6 +8,7 @@ use lib.ListN.{length}
 use borrow.Author.Tests.{le-leb, lt-leb}
 use Rattle.refusal.specs.declared.Cause.{Cause}
 use Rattle.refusal.specs.declared.Cause.TheVariants.{DimensionOutOfRange, WrongLength}
+use Rattle.refusal.specs.declared.Lent.TheVariants as lent
 use Rattle.std.specs.Prelude.{Ok, Err}
 use Rattle.refusal.specs.Outcome.{Outcome}
 use Rattle.coset.specs.Span.{Independent}
@@ -19,10 +20,10 @@ use Rattle.reed_solomon.specs.Answers.{checked}
 
 module _ (basis : List ℕ) (fits3 fits6 : Bool) where
   abbrev after3 : Outcome
-  after3 = refused_unless fits6 (WrongLength 6) (basis_outcome basis)
+  after3 = refused_unless fits6 (WrongLength lent.Values) (basis_outcome basis)
 
   abbrev lists : Outcome
-  lists = refused_unless fits3 (WrongLength 3) after3
+  lists = refused_unless fits3 (WrongLength lent.Word) after3
 
   pub dimension_refused : 20 < length basis → Err DimensionOutOfRange ≡ checked basis fits3 fits6
   dimension_refused h = refused_by (leb (length basis) 20) DimensionOutOfRange lists (lt-leb (length basis) 20 h)
@@ -30,19 +31,19 @@ module _ (basis : List ℕ) (fits3 fits6 : Bool) where
   dimension_passed : length basis ≤ 20 → lists ≡ checked basis fits3 fits6
   dimension_passed h = passed_by (leb (length basis) 20) DimensionOutOfRange lists (le-leb (length basis) 20 h)
 
-  pub list3_refused : length basis ≤ 20 → fits3 ≡ false → Err (WrongLength 3) ≡ checked basis fits3 fits6
-  list3_refused h e = refused_by fits3 (WrongLength 3) after3 e ∙ dimension_passed h
+  pub list3_refused : length basis ≤ 20 → fits3 ≡ false → Err (WrongLength lent.Word) ≡ checked basis fits3 fits6
+  list3_refused h e = refused_by fits3 (WrongLength lent.Word) after3 e ∙ dimension_passed h
 
   list3_passed : length basis ≤ 20 → fits3 ≡ true → after3 ≡ checked basis fits3 fits6
-  list3_passed h e = passed_by fits3 (WrongLength 3) after3 e ∙ dimension_passed h
+  list3_passed h e = passed_by fits3 (WrongLength lent.Word) after3 e ∙ dimension_passed h
 
   pub list6_refused : length basis ≤ 20 → fits3 ≡ true → fits6 ≡ false
-      → Err (WrongLength 6) ≡ checked basis fits3 fits6
-  list6_refused h e f = refused_by fits6 (WrongLength 6) (basis_outcome basis) f ∙ list3_passed h e
+      → Err (WrongLength lent.Values) ≡ checked basis fits3 fits6
+  list6_refused h e f = refused_by fits6 (WrongLength lent.Values) (basis_outcome basis) f ∙ list3_passed h e
 
   pub basis_looked_at : length basis ≤ 20 → fits3 ≡ true → fits6 ≡ true
       → basis_outcome basis ≡ checked basis fits3 fits6
-  basis_looked_at h e f = passed_by fits6 (WrongLength 6) (basis_outcome basis) f ∙ list3_passed h e
+  basis_looked_at h e f = passed_by fits6 (WrongLength lent.Values) (basis_outcome basis) f ∙ list3_passed h e
 
 -- where all have passed
 pub record Passed (basis : List ℕ) (fits3 fits6 : Bool) : Type 0 where
@@ -54,8 +55,8 @@ pub record Passed (basis : List ℕ) (fits3 fits6 : Bool) : Type 0 where
 pub passed : (basis : List ℕ) (fits3 fits6 : Bool) → checked basis fits3 fits6 ≡ Ok tt → Passed basis fits3 fits6
 passed basis fits3 fits6 e =
     let first = unless_done (leb (length basis) 20) DimensionOutOfRange (lists basis fits3 fits6) e in
-    let second = unless_done fits3 (WrongLength 3) (after3 basis fits3 fits6) first.1 in
-    let third = unless_done fits6 (WrongLength 6) (basis_outcome basis) second.1 in
+    let second = unless_done fits3 (WrongLength lent.Word) (after3 basis fits3 fits6) first.1 in
+    let third = unless_done fits6 (WrongLength lent.Values) (basis_outcome basis) second.1 in
     record {
       small = le_of_test (length basis) 20 first.0;
       list3 = second.0;

@@ -18,6 +18,7 @@ use Rattle.reed_solomon.specs.Theorems.{RoundTrips, CodesAccepted, Told, CodeRef
 use Rattle.reed_solomon.specs.Answers.{checked}
 use Rattle.coset.specs.Answers.{outcome_of_basis}
 use Rattle.refusal.specs.declared.Cause.TheVariants.{DimensionOutOfRange, BasisDependent, WrongLength}
+use Rattle.refusal.specs.declared.Lent.TheVariants as lent
 use Rattle.std.specs.Prelude.{Ok, Err}
 use Rattle.refusal.specs.Outcome.{Outcome}
 use Rattle.refusal.specs.Numbers.{number_of_outcome, place_of_outcome}
@@ -111,8 +112,8 @@ pub refusals : CodeRefusals
 refusals =
     record {
       dimension = λ basis a b h. told (checked basis a b) (Err DimensionOutOfRange) (dimension_refused basis a b h);
-      list3 = λ basis a b h e. told (checked basis a b) (Err (WrongLength 3)) (list3_refused basis a b h e);
-      list6 = λ basis a b h e f. told (checked basis a b) (Err (WrongLength 6)) (list6_refused basis a b h e f);
+      list3 = λ basis a b h e. told (checked basis a b) (Err (WrongLength lent.Word)) (list3_refused basis a b h e);
+      list6 = λ basis a b h e f. told (checked basis a b) (Err (WrongLength lent.Values)) (list6_refused basis a b h e f);
       dependent =
           λ basis a b place h e f d. told (checked basis a b) (Err (BasisDependent place))
           (ap outcome_of_basis (sym d) ∙ basis_looked_at basis a b h e f);

@@ -2,6 +2,7 @@
 -- The dimension k is the length of the basis.
 use Rattle.std.specs.Prelude.{Bool, List, ℕ, ◌^◌, leb, eqb, length}
 use Rattle.refusal.specs.declared.Cause.TheVariants.{DimensionOutOfRange, WrongLength}
+use Rattle.refusal.specs.declared.Lent.TheVariants as lent
 use Rattle.refusal.specs.Outcome.{Outcome}
 use Rattle.refusal.specs.Checks.{refused_unless, afterwards}
 use Rattle.coset.specs.Answers.{basis_outcome}
@@ -12,8 +13,8 @@ use Rattle.reed_solomon.specs.Codes.{encoded, interpolated}
 abbrev pub checked : (basis : List ℕ) (fits3 fits6 : Bool) → Outcome
 checked basis fits3 fits6 =
     refused_unless (leb (length basis) 20) DimensionOutOfRange
-    (refused_unless fits3 (WrongLength 3)
-    (refused_unless fits6 (WrongLength 6)
+    (refused_unless fits3 (WrongLength lent.Word)
+    (refused_unless fits6 (WrongLength lent.Values)
     (basis_outcome basis)))
 
 -- what encoding answers: at most 2^k coefficients, exactly 2^k values

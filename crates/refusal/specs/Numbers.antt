@@ -2,6 +2,8 @@
 -- 02, Q-2, does; without 15 and 16, which 02, Q-6 and Q-7, retire.
 use Rattle.std.specs.Prelude.{ℕ}
 use Rattle.refusal.specs.declared.Cause.{Cause}
+use Rattle.refusal.specs.declared.Lent.{Lent}
+use Rattle.refusal.specs.declared.Lent.TheVariants as lent
 use Rattle.refusal.specs.declared.Cause.TheVariants.{BytesEnd, CountDiffers, TrailingBytes, DimensionOutOfRange}
 use Rattle.refusal.specs.declared.Cause.TheVariants.{RateOutOfRange, StepOutOfRange, DimensionTooSmall}
 use Rattle.refusal.specs.declared.Cause.TheVariants.{BasisDependent, QueryCountOutOfRange, QueryOutOfRange}
@@ -27,6 +29,17 @@ number_of (WrongLength list) = 13
 number_of InputTooLong = 14
 number_of (CosetShared query) = 17
 
+-- the number of a lent list, by which the table's column "Returned" tells it
+abbrev pub number_of_list : (list : Lent) → ℕ
+number_of_list lent.Basis = 1
+number_of_list lent.Challenges = 2
+number_of_list lent.Word = 3
+number_of_list lent.Store = 4
+number_of_list lent.Last = 5
+number_of_list lent.Values = 6
+number_of_list lent.NextBasis = 7
+number_of_list lent.Bytes = 8
+
 -- what the table's column "Returned" gives, but for rounds and reads: the section, basis place, query, degree or list
 abbrev pub place_of : (cause : Cause) → Option ℕ
 place_of (BytesEnd section) = Some section
@@ -41,7 +54,7 @@ place_of QueryCountOutOfRange = None
 place_of (QueryOutOfRange query) = Some query
 place_of (RoundCheckFails query round) = Some query
 place_of (DegreeTooLarge degree) = Some degree
-place_of (WrongLength list) = Some list
+place_of (WrongLength list) = Some (number_of_list list)
 place_of InputTooLong = None
 place_of (CosetShared query) = Some query
 

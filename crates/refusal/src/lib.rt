@@ -3,7 +3,7 @@
 #![tactic(auto)]
 
 ghost use Rattle.std.specs.Prelude.{◌≡◌};
-ghost use Rattle.refusal.specs.Numbers.{number_of, place_of, round_of};
+ghost use Rattle.refusal.specs.Numbers.{number_of, number_of_list, place_of, round_of};
 
 // Why something was refused: one case for each number, in the order of the numbers. Sections and lists are counted from
 // 1, basis places, queries and rounds from 0.
@@ -33,13 +33,50 @@ pub enum Cause {
     RoundCheckFails { query: usize, round: usize },
     // 12: layer r has degree d or more; that degree
     DegreeTooLarge { degree: usize },
-    // 13: a lent list has the wrong length: 1 basis, 2 challenges, 3 word or encoder coefficients, 4 store, 5 last
-    // coefficients, 6 output values, 7 next basis, 8 bytes of a transcript
-    WrongLength { list: usize },
+    // 13: a lent list has the wrong length; that list
+    WrongLength { list: Lent },
     // 14: the program's input has over 65,536 bytes
     InputTooLong,
     // 17: two queries share a first-layer coset; the first query that lies in the coset of an earlier one
     CosetShared { query: usize },
+}
+
+// The lists that are lent, in the order of their numbers, from 1 on.
+#[derive(Clone, Copy, Debug, PartialEq, Eq)]
+pub enum Lent {
+    // 1
+    Basis,
+    // 2
+    Challenges,
+    // 3: the word, or the coefficients that are encoded
+    Word,
+    // 4
+    Store,
+    // 5: the last coefficients
+    Last,
+    // 6: the values or coefficients that are put out
+    Values,
+    // 7: the basis of the next coset
+    NextBasis,
+    // 8: the bytes of a transcript
+    Bytes,
+}
+
+impl Lent {
+    pub fn number(self) -> usize
+        ensures { result ≡ number_of_list self }
+    {
+        match self {
+            Lent::Basis => 1,
+            Lent::Challenges => 2,
+            Lent::Word => 3,
+            Lent::Store => 4,
+            Lent::Last => 5,
+            Lent::Values => 6,
+            Lent::NextBasis => 7,
+            Lent::Bytes => 8,
+        }
+    }
 }
 
 impl Cause {
@@ -75,7 +112,7 @@ impl Cause {
             | Cause::RoundCheckFails { query, round: _ }
             | Cause::CosetShared { query } => Some(query),
             Cause::DegreeTooLarge { degree } => Some(degree),
-            Cause::WrongLength { list } => Some(list),
+            Cause::WrongLength { list } => Some(list.number()),
             Cause::TrailingBytes
             | Cause::DimensionOutOfRange
             | Cause::RateOutOfRange

@@ -8,7 +8,7 @@ ghost use Rattle.fri.specs.Checks.{parameters_outcome, lengths_outcome, run_outc
 ghost use Rattle.layout.specs.Parameters.{run_claimed};
 
 use layout::{Claim, Shape};
-use refusal::Cause;
+use refusal::{Cause, Lent};
 
 // The checks that prover and judge have in common, in the order of the papers: 4, 5, 6, 7, 13, 8. Any offset passes.
 pub fn checked(claim: &Claim, store: &[u64], last: &[u64]) -> Result<Shape, Cause>
@@ -30,19 +30,19 @@ pub fn checked_lists(claim: &Claim, store: &[u64], last: &[u64]) -> Result<Shape
     let shape = claim.parameters.checked()?;
     let due = shape.lengths();
     if claim.basis.len() != claim.parameters.k {
-        return Err(Cause::WrongLength { list: 1 });
+        return Err(Cause::WrongLength { list: Lent::Basis });
     }
     if claim.challenges.len() != due.rounds {
-        return Err(Cause::WrongLength { list: 2 });
+        return Err(Cause::WrongLength { list: Lent::Challenges });
     }
     if claim.word.len() != 1 << claim.parameters.k {
-        return Err(Cause::WrongLength { list: 3 });
+        return Err(Cause::WrongLength { list: Lent::Word });
     }
     if store.len() != due.store {
-        return Err(Cause::WrongLength { list: 4 });
+        return Err(Cause::WrongLength { list: Lent::Store });
     }
     if last.len() != due.last {
-        return Err(Cause::WrongLength { list: 5 });
+        return Err(Cause::WrongLength { list: Lent::Last });
     }
     Ok(shape)
 }

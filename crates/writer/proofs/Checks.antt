@@ -7,6 +7,7 @@ use lib.Dec.{eqb}
 use lib.ListN.{length}
 use borrow.Author.Tests.{eq-eqb, ne_eqb}
 use Rattle.refusal.specs.declared.Cause.TheVariants.{WrongLength}
+use Rattle.refusal.specs.declared.Lent.TheVariants as lent
 use Rattle.std.specs.Prelude.{Ok, Err}
 use Rattle.refusal.specs.Outcome.{Outcome}
 use Rattle.refusal.specs.Checks.{refused_unless, and_then}
@@ -40,12 +41,12 @@ module _ (run : Run) (queries : List ℕ) (size : ℕ) where
     needed = transcript_length run.k run.rate (steps_in run) (length queries)
 
     abbrev of_size : Outcome
-    of_size = refused_unless (eqb size needed) (WrongLength 8) (Ok tt)
+    of_size = refused_unless (eqb size needed) (WrongLength lent.Bytes) (Ok tt)
 
     -- the checks after them, by the formula that says how long the transcript is, and by the step given
     decided : and_then of_size (and_then of_basis of_queries) ≡ write_outcome run queries size
     decided =
-        ap (λ (n : ℕ). and_then (refused_unless (eqb size n) (WrongLength 8) (Ok tt)) (and_then of_basis of_queries))
+        ap (λ (n : ℕ). and_then (refused_unless (eqb size n) (WrongLength lent.Bytes) (Ok tt)) (and_then of_basis of_queries))
         (sym (transcript_size run (lists_valid run done) (lists_fit run done) queries))
         ∙ then_passed (of_lists run) after_lists done ∙ lists_then run after_lists
 
@@ -55,10 +56,10 @@ module _ (run : Run) (queries : List ℕ) (size : ℕ) where
       due_is : due ≡ needed
       due_is = is ∙ ap (λ (q : Parameters). transcript_length q.k q.rate (steps_by q) (length queries)) same
 
-      pub size_refused : size ≢ due → Err (WrongLength 8) ≡ write_outcome run queries size
+      pub size_refused : size ≢ due → Err (WrongLength lent.Bytes) ≡ write_outcome run queries size
       size_refused n =
-          then_refused of_size (and_then of_basis of_queries) (WrongLength 8)
-          (sym (refused_by (eqb size needed) (WrongLength 8) (Ok tt) (ne_eqb size needed (λ e. n (e ∙ sym due_is)))))
+          then_refused of_size (and_then of_basis of_queries) (WrongLength lent.Bytes)
+          (sym (refused_by (eqb size needed) (WrongLength lent.Bytes) (Ok tt) (ne_eqb size needed (λ e. n (e ∙ sym due_is)))))
           ∙ decided
 
       pub size_passed : size ≡ due
@@ -68,7 +69,7 @@ module _ (run : Run) (queries : List ℕ) (size : ℕ) where
           ap (λ (s : ℕ). and_then of_basis (queries_outcome run.k s queries))
           (sym (first_step run.k run.rate run.step v.step_least v.k_enough))
           ∙ then_passed of_size (and_then of_basis of_queries)
-          (sym (passed_by (eqb size needed) (WrongLength 8) (Ok tt) (eq-eqb size needed (e ∙ due_is))))
+          (sym (passed_by (eqb size needed) (WrongLength lent.Bytes) (Ok tt) (eq-eqb size needed (e ∙ due_is))))
           ∙ decided
 
   -- where all checks pass
@@ -80,5 +81,5 @@ module _ (run : Run) (queries : List ℕ) (size : ℕ) where
     passed_size =
         let needed = length (transcript_of run queries) in
         equal_of_test size needed
-        (unless_done (eqb size needed) (WrongLength 8) (Ok tt)
+        (unless_done (eqb size needed) (WrongLength lent.Bytes) (Ok tt)
         (then_done (size_outcome run queries size) (and_then of_basis of_queries) passed_lists.1).0).0

@@ -11,7 +11,7 @@ ghost use Rattle.writer.specs.Lengths.{transcript_length_of};
 ghost use Rattle.writer.specs.Written.{Written};
 
 use layout::{Claim, Parameters, Shape};
-use refusal::Cause;
+use refusal::{Cause, Lent};
 
 // No list of 64-bit numbers has as many entries.
 const LIST_LIMIT: usize = 1 << 60;
@@ -59,7 +59,7 @@ fn checked(
 {
     let shape = run_checks::checked_lists(claim, store, last)?;
     if size != length_due(shape, queries.len()) {
-        return Err(Cause::WrongLength { list: 8 });
+        return Err(Cause::WrongLength { list: Lent::Bytes });
     }
     independence::checked_basis(claim.basis)?;
     query_checks::checked_queries(shape.parameters.k, shape.parameters.step, queries)?;

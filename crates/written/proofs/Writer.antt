@@ -9,6 +9,7 @@ use lib.ListN.{length}
 use borrow.Author.Tests.{eq-eqb, ne_eqb}
 use Rattle.refusal.specs.declared.Cause.{Cause}
 use Rattle.refusal.specs.declared.Cause.TheVariants.{WrongLength}
+use Rattle.refusal.specs.declared.Lent.TheVariants as lent
 use Rattle.std.specs.Prelude.{Ok, Err}
 use Rattle.refusal.specs.Outcome.{Outcome}
 use Rattle.refusal.specs.Checks.{and_then, afterwards}
@@ -64,7 +65,7 @@ module _ (run : Run) (queries : List ℕ) where
   as_lists_needed : write_outcome run queries needed ≡ checks_outcome run queries
   as_lists_needed =
       ap (λ (o : Outcome). and_then parameters (and_then (lengths_outcome run) (and_then o (and_then of_basis of_queries))))
-      (sym (passed_by (eqb needed needed) (WrongLength 8) (Ok tt) (eq-eqb needed needed refl)))
+      (sym (passed_by (eqb needed needed) (WrongLength lent.Bytes) (Ok tt) (eq-eqb needed needed refl)))
       ∙ ap (and_then parameters) (then_then (lengths_outcome run) of_basis of_queries)
       ∙ then_then parameters (and_then (lengths_outcome run) of_basis) of_queries
 
@@ -93,7 +94,7 @@ module _ (run : Run) (queries : List ℕ) where
       let lists = then_done (lengths_outcome run) (sized size) ranges.1 in
       let fits = then_done (size_outcome run queries size) (and_then of_basis of_queries) lists.1 in
       let valid = parameters_valid run.k run.rate run.step ranges.0 in
-      equal_of_test size needed (unless_done (eqb size needed) (WrongLength 8) (Ok tt) fits.0).0
+      equal_of_test size needed (unless_done (eqb size needed) (WrongLength lent.Bytes) (Ok tt) fits.0).0
       ∙ transcript_size run valid (lengths_fit run lists.0) queries
 
   done : (size : ℕ) → (write_outcome run queries size ≡ Ok tt) ↔ ((checks_outcome run queries ≡ Ok tt) × (size ≡ due))
@@ -104,13 +105,13 @@ module _ (run : Run) (queries : List ℕ) where
 
   list8 : (size : ℕ) → ValidParameters run.k run.rate run.step → Fit run
       → size ≢ transcript_length run.k run.rate (steps_in run) (length queries)
-      → write_outcome run queries size ≡ Err (WrongLength 8)
+      → write_outcome run queries size ≡ Err (WrongLength lent.Bytes)
   list8 size v f n =
       sym (then_passed parameters (and_then (lengths_outcome run) (sized size))
       (parameters_pass run.k run.rate run.step v))
       ∙ sym (then_passed (lengths_outcome run) (sized size) (lengths_pass run f))
       ∙ ap (λ (o : Outcome). and_then o (and_then of_basis of_queries))
-      (sym (refused_by (eqb size needed) (WrongLength 8) (Ok tt)
+      (sym (refused_by (eqb size needed) (WrongLength lent.Bytes) (Ok tt)
       (ne_eqb size needed (λ e. n (e ∙ transcript_size run v f queries)))))
 
   left : (held : List ℕ) (cause : Cause) → write_outcome run queries (length held) ≡ Err cause
@@ -122,7 +123,7 @@ module _ (run : Run) (queries : List ℕ) where
       number_before WriterNumber parameters (lengths_outcome run) of_basis (sized size)
       (run_number WriterNumber none (λ n l u. inr (inl (l, omega arith))) thirteen run)
       (number_then WriterNumber (size_outcome run queries size) (and_then of_basis of_queries)
-      (number_unless WriterNumber (eqb size needed) (WrongLength 8) (Ok tt) thirteen none)
+      (number_unless WriterNumber (eqb size needed) (WrongLength lent.Bytes) (Ok tt) thirteen none)
       (number_then WriterNumber of_basis of_queries
       (basis_number WriterNumber none (early 8 (omega arith) (omega arith)) run.basis)
       (queries_number WriterNumber none (early 9 (omega arith) (omega arith)) (early 10 (omega arith) (omega arith))

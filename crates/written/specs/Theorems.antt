@@ -5,6 +5,7 @@ use Rattle.gf64.specs.Field.{IsElement}
 use Rattle.poly.specs.Polynomial.{All}
 use Rattle.refusal.specs.declared.Cause.{Cause}
 use Rattle.refusal.specs.declared.Cause.TheVariants.{WrongLength, InputTooLong}
+use Rattle.refusal.specs.declared.Lent.TheVariants as lent
 use Rattle.std.specs.Prelude.{Ok, Err}
 use Rattle.refusal.specs.Checks.{and_then}
 use Rattle.refusal.specs.Numbers.{number_of, number_of_outcome}
@@ -103,7 +104,7 @@ pub record WriterRefusals : Type 0 where
   -- and list 8 before the basis and the queries
   pub list8 : (run : Run) (queries : List ℕ) (size : ℕ) → ValidParameters run.k run.rate run.step → Fit run
       → size ≢ transcript_length run.k run.rate (steps_in run) (length queries)
-      → write_outcome run queries size ≡ Err (WrongLength 8)
+      → write_outcome run queries size ≡ Err (WrongLength lent.Bytes)
   -- a refusal leaves every byte
   pub left : (run : Run) (queries held : List ℕ) (cause : Cause)
       → write_outcome run queries (length held) ≡ Err cause → bytes_after run queries held ≡ held

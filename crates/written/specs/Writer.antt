@@ -1,6 +1,7 @@
 -- What the writer answers, and what the lent list of bytes, list 8, holds afterwards.
 use Rattle.std.specs.Prelude.{List, ℕ, eqb, length}
 use Rattle.refusal.specs.declared.Cause.TheVariants.{WrongLength}
+use Rattle.refusal.specs.declared.Lent.TheVariants as lent
 use Rattle.std.specs.Prelude.{Ok}
 use Rattle.refusal.specs.Outcome.{Outcome}
 use Rattle.refusal.specs.Checks.{refused_unless, and_then, afterwards}
@@ -11,7 +12,7 @@ use Rattle.written.specs.Transcript.{transcript_of}
 
 -- list 8 has exactly the needed length (13)
 abbrev pub size_outcome : (run : Run) (queries : List ℕ) (size : ℕ) → Outcome
-size_outcome run queries size = refused_unless (eqb size (length (transcript_of run queries))) (WrongLength 8) (Ok tt)
+size_outcome run queries size = refused_unless (eqb size (length (transcript_of run queries))) (WrongLength lent.Bytes) (Ok tt)
 
 -- the checks as over lists, without number 11: numbers 4, 5, 6, 7, 13 (lists 1 to 5, then list 8), 8, 9, 10, 17;
 -- `size` is the length of list 8
