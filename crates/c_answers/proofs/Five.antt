@@ -1,23 +1,12 @@
--- Five stores into a list of length 5 leave the five numbers; the lent list by its length. Assumes nothing.
-use mathlib.Core.Path.{◌≡◌, refl, sym, ap, ◌∙◌}
+-- The lent list by its length. Assumes nothing.
+use mathlib.Core.Path.{◌≡◌, sym, ap, ◌∙◌}
 use mathlib.Core.Bool.{Bool, cond}
-use mathlib.Core.List.{List, [], ◌∷◌}
+use mathlib.Core.List.{List}
 use Prim.Native.Nat.{ℕ}
-use native.Mathlib.Omega.{arith}
-use lib.ListN.{length, set}
+use lib.ListN.{length}
 use borrow.Author.Tests.{eq-eqb, ne_eqb}
 use Rattle.c_answers.specs.declared.Answer.{Answer}
 use Rattle.c_answers.specs.Answers.{numbers_of, answered, where_answered}
-
-pub five_stores : (l : List ℕ) (v w x y z : ℕ) → length l ≡ 5
-    → set (set (set (set (set l 0 v) 1 w) 2 x) 3 y) 4 z ≡ v ∷ w ∷ x ∷ y ∷ z ∷ []
-five_stores [] v w x y z h = absurd (omega arith)
-five_stores (a ∷ []) v w x y z h = absurd (omega arith)
-five_stores (a ∷ b ∷ []) v w x y z h = absurd (omega arith)
-five_stores (a ∷ b ∷ c ∷ []) v w x y z h = absurd (omega arith)
-five_stores (a ∷ b ∷ c ∷ d ∷ []) v w x y z h = absurd (omega arith)
-five_stores (a ∷ b ∷ c ∷ d ∷ e ∷ []) v w x y z h = refl
-five_stores (a ∷ b ∷ c ∷ d ∷ e ∷ f ∷ l) v w x y z h = absurd (omega arith)
 
 pub answered_five : (a : Answer) (lent : List ℕ) → length lent ≡ 5 → numbers_of a ≡ answered a lent
 answered_five a lent h = sym (ap (λ (b : Bool). cond b (numbers_of a) lent) (eq-eqb (length lent) 5 h))

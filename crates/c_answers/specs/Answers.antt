@@ -4,7 +4,7 @@ use Rattle.refusal.specs.declared.Cause.{Cause}
 use Rattle.std.specs.Prelude.{Option, Some, None, Result}
 use Rattle.refusal.specs.Outcome.{Outcome}
 use Rattle.field.specs.declared.Element.{Element}
-use Rattle.refusal.specs.Numbers.{number_of, place_of, round_of, number_of_outcome, place_of_outcome, round_of_outcome}
+use Rattle.refusal.specs.Numbers.{number_of_outcome, place_of_outcome, round_of_outcome}
 use Rattle.fold.specs.Answers.{value_of_folded}
 use Rattle.fri.specs.declared.Verdict.{Verdict}
 use Rattle.layout.specs.declared.Part.{Part}
@@ -23,64 +23,37 @@ or_none None = none
 abbrev pub answer_of_value : (reads value : ℕ) → Answer
 answer_of_value reads value = record { number = 0; place = none; round = none; reads = reads; value = value }
 
--- it was refused: `reads` is 0 unless a round check failed
-abbrev pub answer_of_cause : (cause : Cause) (reads : ℕ) → Answer
-answer_of_cause cause reads =
+-- number, place and round of a result, which are a refusal's, beside reads and a value
+abbrev pub answer_of_result : {A : Type 0} (result : Result A Cause) (reads value : ℕ) → Answer
+answer_of_result result reads value =
     record {
-      number = number_of cause;
-      place = or_none (place_of cause);
-      round = or_none (round_of cause);
+      number = number_of_outcome result;
+      place = or_none (place_of_outcome result);
+      round = or_none (round_of_outcome result);
       reads = reads;
-      value = none;
+      value = value;
     }
 
 -- the answer of a fold, whose value is the next offset; only a judge counts reads
 abbrev pub answer_of_folded : (folded : Result Element Cause) → Answer
-answer_of_folded folded =
-    record {
-      number = number_of_outcome folded;
-      place = or_none (place_of_outcome folded);
-      round = or_none (round_of_outcome folded);
-      reads = 0;
-      value = value_of_folded folded none;
-    }
+answer_of_folded folded = answer_of_result folded 0 (value_of_folded folded none)
 
 -- the answer of an operation that reads nothing and gives no value
 abbrev pub answer_of_outcome : (outcome : Outcome) → Answer
-answer_of_outcome outcome =
-    record {
-      number = number_of_outcome outcome;
-      place = or_none (place_of_outcome outcome);
-      round = or_none (round_of_outcome outcome);
-      reads = 0;
-      value = none;
-    }
+answer_of_outcome outcome = answer_of_result outcome 0 none
 
 -- the answer of the prover: the degree that number 12 tells is its value too
 abbrev pub answer_of_proved : (outcome : Outcome) → Answer
 answer_of_proved outcome =
-    record {
-      number = number_of_outcome outcome;
-      place = or_none (place_of_outcome outcome);
-      round = or_none (round_of_outcome outcome);
-      reads = 0;
-      value = cond (eqb (number_of_outcome outcome) 12) (or_none (place_of_outcome outcome)) none;
-    }
+    answer_of_result outcome 0 (cond (eqb (number_of_outcome outcome) 12) (or_none (place_of_outcome outcome)) none)
 
 -- the answer of the layer lookup: where the part begins and how long it is
 abbrev pub answer_of_part : (part : Part) → Answer
 answer_of_part part = record { number = 0; place = part.start; round = none; reads = 0; value = part.length }
 
--- the answer of a judging, with the entries read
+-- the answer of a judging, with the entries read: 0 unless the round checks were begun
 abbrev pub answer_of_verdict : (verdict : Verdict) → Answer
-answer_of_verdict verdict =
-    record {
-      number = number_of_outcome verdict.answer;
-      place = or_none (place_of_outcome verdict.answer);
-      round = or_none (round_of_outcome verdict.answer);
-      reads = verdict.reads;
-      value = none;
-    }
+answer_of_verdict verdict = answer_of_result verdict.answer verdict.reads none
 
 -- number, place, round, reads, value
 abbrev pub numbers_of : (a : Answer) → List ℕ

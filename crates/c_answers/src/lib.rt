@@ -2,10 +2,11 @@
 #![tactic(auto)]
 
 ghost use Rattle.std.specs.Prelude.{◌≡◌, length};
-ghost use Rattle.c_answers.specs.Answers.{or_none, answer_of_value, answer_of_cause, answer_of_folded};
+ghost use Rattle.c_answers.specs.Answers.{or_none, answer_of_value, answer_of_result, answer_of_folded};
 ghost use Rattle.c_answers.specs.Answers.{answer_of_outcome, answer_of_proved, answer_of_part, answer_of_verdict};
 ghost use Rattle.c_answers.specs.Answers.{numbers_of};
 
+use field::Element;
 use fri::Verdict;
 use layout::Part;
 use refusal::Cause;
@@ -19,9 +20,6 @@ pub struct Answer {
     pub reads: u64,
     pub value: u64,
 }
-
-// Number 12, which tells a degree.
-const DEGREE_TOO_LARGE: u64 = 12;
 
 // Stands for a place, a round or a value that there is none of: 2^64 - 1.
 const NONE: u64 = 0xffffffffffffffff;
@@ -51,33 +49,19 @@ impl Answer {
         }
     }
 
-    fn of_cause(cause: Cause, reads: u64) -> Answer
-        ensures { result ≡ answer_of_cause cause reads }
-    {
-        Answer {
-            number: cause.number(),
-            place: or_none(cause.place()),
-            round: or_none(cause.round()),
-            reads,
-            value: NONE,
-        }
-    }
-
-    pub fn of_folded(folded: Result<Element, Cause>) -> Answer
-        ensures { result ≡ answer_of_folded folded }
-    {
-        match folded {
-            Ok(offset) => Answer::of_value(0, offset.0),
-            Err(cause) => Answer::of_cause(cause, 0),
-        }
-    }
-
-    pub fn of_outcome(outcome: Result<(), Cause>) -> Answer
-        ensures { result ≡ answer_of_outcome outcome }
+    // Number, place and round are the refusal's.
+    fn of_result<T: Copy>(outcome: Result<T, Cause>, reads: u64, value: u64) -> Answer
+        ensures { result ≡ answer_of_result outcome reads value }
     {
         match outcome {
-            Ok(()) => Answer::of_value(0, NONE),
-            Err(cause) => Answer::of_cause(cause, 0),
+            Ok(_) => Answer::of_value(reads, value),
+            Err(cause) => Answer {
+                number: cause.number(),
+                place: or_none(cause.place()),
+                round: or_none(cause.round()),
+                reads,
+                value,
+            },
         }
     }
 
@@ -85,22 +69,55 @@ impl Answer {
     pub fn of_proved(outcome: Result<(), Cause>) -> Answer
         ensures { result ≡ answer_of_proved outcome }
     {
-        let answer = Answer::of_outcome(outcome);
-        if answer.number != DEGREE_TOO_LARGE {
-            return answer;
-        }
-        Answer {
-            number: answer.number,
-            place: answer.place,
-            round: answer.round,
-            reads: answer.reads,
-            value: answer.place,
-        }
+        let value = match outcome {
+            Err(Cause::DegreeTooLarge { degree }) => degree as u64,
+            _ => NONE,
+        };
+        Answer::of_result(outcome, 0, value)
     }
 
-    pub fn of_part(part: Part) -> Answer
-        ensures { result ≡ answer_of_part part }
+    pub fn write(self, lent: &mut [u64])
+        requires { length lent.old ≡ 5 }
+        ensures { lent.new ≡ numbers_of self }
     {
+        let numbers = [self.number, self.place, self.round, self.reads, self.value];
+        lent.copy_from_slice(&numbers);
+    }
+}
+
+impl From<Result<(), Cause>> for Answer {
+    ghost from_gives = { λ outcome answer. answer ≡ answer_of_outcome outcome };
+
+    fn from(outcome: Result<(), Cause>) -> Answer {
+        Answer::of_result(outcome, 0, NONE)
+    }
+}
+
+// That of a fold, whose value is the next offset.
+impl From<Result<Element, Cause>> for Answer {
+    ghost from_gives = { λ folded answer. answer ≡ answer_of_folded folded };
+
+    fn from(folded: Result<Element, Cause>) -> Answer {
+        match folded {
+            Ok(offset) => Answer::of_value(0, offset.0),
+            Err(_) => Answer::of_result(folded, 0, NONE),
+        }
+    }
+}
+
+impl From<Verdict> for Answer {
+    ghost from_gives = { λ verdict answer. answer ≡ answer_of_verdict verdict };
+
+    fn from(verdict: Verdict) -> Answer {
+        Answer::of_result(verdict.answer, verdict.reads, NONE)
+    }
+}
+
+// That of the layer lookup.
+impl From<Part> for Answer {
+    ghost from_gives = { λ part answer. answer ≡ answer_of_part part };
+
+    fn from(part: Part) -> Answer {
         Answer {
             number: 0,
             place: part.start as u64,
@@ -108,26 +125,5 @@ impl Answer {
             reads: 0,
             value: part.length as u64,
         }
-    }
-
-    pub fn of_verdict(verdict: Verdict) -> Answer
-        ensures { result ≡ answer_of_verdict verdict }
-    {
-        let answer = verdict.answer;
-        match answer {
-            Ok(()) => Answer::of_value(verdict.reads, NONE),
-            Err(cause) => Answer::of_cause(cause, verdict.reads),
-        }
-    }
-
-    pub fn write(self, lent: &mut [u64])
-        requires { length lent.old ≡ 5 }
-        ensures { lent.new ≡ numbers_of self }
-    {
-        lent[0] = self.number;
-        lent[1] = self.place;
-        lent[2] = self.round;
-        lent[3] = self.reads;
-        lent[4] = self.value;
     }
 }
