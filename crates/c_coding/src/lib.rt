@@ -25,7 +25,7 @@ pub extern "C" fn rz_encode(
         return;
     }
     let outcome = coding::encode(Element(offset), basis, coefficients, values);
-    Answer::of_outcome(outcome).write(answer);
+    Answer::from(outcome).write(answer);
 }
 
 #[unsafe(no_mangle)]
@@ -45,5 +45,5 @@ pub extern "C" fn rz_interpolate(
         return;
     }
     let outcome = coding::interpolate(Element(offset), basis, word, coefficients);
-    Answer::of_outcome(outcome).write(answer);
+    Answer::from(outcome).write(answer);
 }

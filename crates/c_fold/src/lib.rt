@@ -45,5 +45,5 @@ pub extern "C" fn rz_fold(
         values,
         next_basis,
     );
-    Answer::of_folded(folded).write(answer);
+    Answer::from(folded).write(answer);
 }

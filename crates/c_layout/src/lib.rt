@@ -49,5 +49,5 @@ pub extern "C" fn rz_layer(
         return;
     }
     let parameters = Parameters { k, rate, step };
-    Answer::of_part(parameters.part(store.len(), i)).write(answer);
+    Answer::from(parameters.part(store.len(), i)).write(answer);
 }

@@ -6,7 +6,7 @@ ghost use Rattle.c_prover.specs.Calls.{ProofAnswered};
 
 use c_answers::Answer;
 use field::Element;
-use layout::Parameters;
+use layout::{Claim, Parameters};
 
 #[unsafe(no_mangle)]
 pub extern "C" fn rz_prove(
@@ -28,8 +28,13 @@ pub extern "C" fn rz_prove(
     if answer.len() != Answer::LENGTH {
         return;
     }
-    let parameters = Parameters { k, rate, step };
-    let offset = Element(offset);
-    let outcome = prover::prove(parameters, offset, basis, challenges, word, store, last);
+    let claim = Claim {
+        parameters: Parameters { k, rate, step },
+        offset: Element(offset),
+        basis,
+        challenges,
+        word,
+    };
+    let outcome = prover::prove(&claim, store, last);
     Answer::of_proved(outcome).write(answer);
 }
