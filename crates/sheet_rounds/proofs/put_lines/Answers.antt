@@ -1,112 +1,77 @@
--- `sheet_rounds::put_lines` meets its contract. What holds before a query and before a round of it is BeforeQuery and
--- BeforeRound of Lines.antt. Assumes nothing.
-use mathlib.Core.Path.{ap₂, subst}
-use Prim.Native.Nat.{ℕ, ◌<◌}
+-- `sheet_rounds::put_lines` meets its contract. Assumes nothing.
+use mathlib.Core.Path.{ap, ◌∙◌, subst}
+use mathlib.Core.List.{List}
+use Prim.Native.Nat.{ℕ, ◌<◌, ◌^◌}
 use native.Mathlib.Omega.{arith}
 use lib.ListN.{get_or}
-use Rattle.placing.proofs.Placing.{put_same}
-use Rattle.round_checks.proofs.Judged.{count_few}
-use Rattle.byte_rounds.proofs.LayerPlaces.{at_few, index_few, next_at_few, next_index_few, next_standing}
-use Rattle.byte_rounds.proofs.LayerPlaces.{checked_sent, computed_value, found_value}
-use Rattle.sheet_text.specs.Sheet.{line_text}
-use Rattle.sheet_rounds.proofs.Lines.{first_query, first_round, query_done, all_lines}
-use Rattle.sheet_rounds.proofs.Lines.{narrow, line_room, next_round}
+use lib.Seq.{take_all}
+use Rattle.fri.specs.Run.{rounds_in}
+use Rattle.fri.specs.Judge.{checks_outcome}
+use Rattle.placing.proofs.Puts.{puts_append, puts_same, puts_nothing, ends, same_size}
+use Rattle.sheet_text.specs.Sheet.{sheet_lines}
+use Rattle.round_checks.proofs.Judged.{query_inside}
+use Rattle.byte_rounds.specs.Layers.{sent_in}
+use Rattle.byte_rounds.proofs.LayerPlaces.{laid_alone}
+use Rattle.sheet_rounds.proofs.Lines.{query_narrow, room_left, query_after}
 use Rattle.sheet_rounds.proofs.put_lines.Goals as goal
 
-pub rounds-count-requires : goal.rounds-count-requires
-rounds-count-requires c =
-    let a = c.args in
-    let known =
-    checked_sent a.parameters a.offset.0 a.basis.now a.challenges.now a.bytes.now a.last.now a.queries.now
-    c.requires.checks (omega arith) (λ i. omega (arith, c.type_inv.basis i)) (λ i. omega (arith, c.type_inv.challenges i))
-    (λ i. omega (arith, c.type_inv.bytes i)) in
-    known.coset.parameters
+pub new-layers-requires : goal.new-layers-requires
+new-layers-requires c =
+    let s = c.args.sent in
+    laid_alone s.shape.parameters s.offset.0 s.basis.now s.challenges.now c.args.bytes.now s.last.now c.args.begin
+    c.requires.layers
 
-pub set_up-table-requires : goal.set_up-table-requires
-set_up-table-requires c =
-    let a = c.args in
-    let known =
-    checked_sent a.parameters a.offset.0 a.basis.now a.challenges.now a.bytes.now a.last.now a.queries.now
-    c.requires.checks (omega arith) (λ i. omega (arith, c.type_inv.basis i)) (λ i. omega (arith, c.type_inv.challenges i))
-    (λ i. omega (arith, c.type_inv.bytes i)) in
-    (known.coset.parameters, known.fit.basis, known.coset.independent, known.fit.challenges)
+pub new-judging-requires-clause-checked : goal.new-judging-requires-clause-checked
+new-judging-requires-clause-checked c =
+    let s = c.args.sent in
+    ap
+    (λ (b : List ℕ).
+    checks_outcome (sent_in s.shape.parameters s.offset.0 s.basis.now s.challenges.now b s.last.now) s.queries.now)
+    c.new-layers.ensures.1
+    ∙ c.requires.checks
 
 pub loop-query-init : goal.loop-query-init
-loop-query-init c =
-    let a = c.args in
-    let known =
-    checked_sent a.parameters a.offset.0 a.basis.now a.challenges.now a.bytes.now a.last.now a.queries.now
-    c.requires.checks (omega arith) (λ i. omega (arith, c.type_inv.basis i)) (λ i. omega (arith, c.type_inv.challenges i))
-    (λ i. omega (arith, c.type_inv.bytes i)) in
-    first_query
-    (record {
-      checks = c.requires.checks;
-      ready = known;
-      count_is = c.rounds-count.ensures;
-      held = λ i h. c.set_up-table.ensures i (subst (λ (n : ℕ). i < n) c.rounds-count.ensures h);
-    })
-    c.requires.laid a.out.now c.requires.room
+unfolding sheet_lines
+loop-query-init c = puts_nothing c.args.cursor.now (omega (arith, c.requires.room))
 
-pub loop-i-init : goal.loop-i-init
-loop-i-init c = first_round c.loop-query.invariant c.loop-query-test.true c.first-here.ensures
-
-pub bounds-table-i : goal.bounds-table-i
-bounds-table-i c = omega (arith, count_few c.loop-i.invariant.standing.prepared)
-
-pub next-next-requires : goal.next-next-requires
-next-next-requires c = c.loop-i.invariant.standing.prepared.ready.coset.parameters.step_most
-
-pub after_layer-next_at-requires : goal.after_layer-next_at-requires
-after_layer-next_at-requires c =
-    let standing = c.loop-i.invariant.standing in (
-      standing.prepared.ready.coset.parameters,
-      omega (arith, standing.prepared.count_is),
-      at_few standing c.loop-i-test.true,
-    )
-
-pub computed-computed-requires : goal.computed-computed-requires
-computed-computed-requires c =
-    let standing = c.loop-i.invariant.standing in
-    let valid = standing.prepared.ready.coset.parameters in (
-      valid.step_least,
-      valid.step_most,
-      at_few standing c.loop-i-test.true,
-      index_few standing c.loop-i-test.true,
-    )
-
-pub found-found-requires : goal.found-found-requires
-found-found-requires c =
-    let standing = c.loop-i.invariant.standing in
-    let within = c.loop-i-test.true in (
-      next_at_few standing within c.next-next.ensures c.after_layer-next_at.ensures,
-      next_index_few standing within c.next-next.ensures c.after_layer-next_at.ensures,
-    )
-
-pub put_line-end-requires : goal.put_line-end-requires
-put_line-end-requires c =
-    let before = c.loop-i.invariant in
-    let within = c.loop-i-test.true in
-    let numbers = narrow before within in
+pub put_query-requires : goal.put_query-requires
+put_query-requires c =
+    let s = c.args.sent in
+    let judging = c.new-judging.result in
+    let query = c.loop-query.query in
+    let lines = c.loop-query.invariant in
+    let run = sent_in s.shape.parameters s.offset.0 s.basis.now s.challenges.now c.args.bytes.now s.last.now in
+    let in_bytes = λ (b : List ℕ). sent_in s.shape.parameters s.offset.0 s.basis.now s.challenges.now b s.last.now in
+    let same = c.new-judging.ensures.run ∙ ap in_bytes c.new-layers.ensures.1 in
+    let rounds = judging.prepared.count_is ∙ ap rounds_in same in
     record {
-      narrow = (numbers.0, omega (arith, numbers.1, index_few before.standing within), numbers.2);
-      room = line_room before within;
+      index =
+          subst (λ (l : List ℕ). get_or l query 0 < 2 ^ judging.sent.shape.parameters.k) c.new-judging.ensures.queries
+          (query_inside judging.prepared query);
+      narrow = query_narrow run s.queries.now c.requires.checks c.loop-query-test.true;
+      room =
+          omega (
+            arith,
+            room_left run s.queries.now c.requires.checks c.loop-query-test.true,
+            rounds,
+            ends lines,
+            same_size lines,
+            c.requires.room,
+          );
     }
 
-pub loop-i-preserved : goal.loop-i-preserved
-loop-i-preserved c =
-    let before = c.loop-i.invariant in
-    let within = c.loop-i-test.true in
-    let next_is = c.next-next.ensures in
-    let after_is = c.after_layer-next_at.ensures in
-    let l = c.loop-query in
-    next_round before within (next_standing before.standing within next_is after_is)
-    (put_same c.put_line-end.ensures.text
-    (ap₂ (line_text l.query (get_or c.args.queries.now l.query 0) c.loop-i.i)
-    (computed_value before.standing within next_is after_is c.computed-computed.ensures)
-    (found_value before.standing within next_is after_is c.found-found.ensures)))
-
 pub loop-query-preserved : goal.loop-query-preserved
-loop-query-preserved c = query_done c.loop-query.invariant c.loop-i.invariant (omega arith)
+loop-query-preserved c =
+    let s = c.args.sent in
+    let in_bytes = λ (b : List ℕ). sent_in s.shape.parameters s.offset.0 s.basis.now s.challenges.now b s.last.now in
+    puts_same (puts_append c.loop-query.invariant c.put_query.ensures)
+    (query_after s.queries.now c.loop-query.query
+    (c.new-judging.ensures.run ∙ ap in_bytes c.new-layers.ensures.1)
+    c.new-judging.result.prepared.count_is c.loop-query-test.true)
 
 pub returns : goal.returns
-returns c = all_lines c.loop-query.invariant (omega arith)
+returns c =
+    let s = c.args.sent in
+    let run = sent_in s.shape.parameters s.offset.0 s.basis.now s.challenges.now c.args.bytes.now s.last.now in
+    puts_same c.loop-query.invariant
+    (ap (λ (l : List ℕ). sheet_lines run l 0) (take_all c.loop-query.query s.queries.now c.loop-query-test.false))
