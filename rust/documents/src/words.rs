@@ -130,7 +130,8 @@ fn there(root: &Path, name: &str) -> bool {
 
 /// Release notes and decisions may name what is gone.
 fn tells_of_the_past(document: &Document) -> bool {
-    ["RELEASE_NOTES.md", "docs/DECISIONS.md", "docs/PORT.md"].contains(&&document.name[..])
+    ["RELEASE_NOTES.md", "docs/DECISIONS.md", "docs/PORT.md", "docs/DESIGN-PASS.md"]
+        .contains(&&document.name[..])
 }
 
 /// Each name between backticks, as `Element::sum`, `Subspaces.zero` or `rz_fold`, is made of words
