@@ -4,21 +4,19 @@
 ghost use Rattle.std.specs.Prelude.{◌≡◌};
 ghost use Rattle.fri.specs.Judge.{verdict_of};
 ghost use Rattle.transcript.specs.Sections.{run_in, queries_in};
-ghost use Rattle.transcript.specs.Checks.{transcript_outcome};
 ghost use Rattle.transcript.specs.Judge.{transcript_verdict};
-ghost use Rattle.sections.specs.Views.{sections_in};
 
 use fri::Verdict;
-use sections::Sections;
+use layer_sections::Passed;
+use sections::Transcript;
 
-// The verdict on a transcript whose sections begin there.
-pub fn verdict(bytes: &[u8], sections: Sections) -> Verdict
-    requires { sections ≡ sections_in bytes.now }
-    ensures { result ≡ transcript_verdict bytes.now }
+// The verdict on a transcript.
+#[tactic(auto, using(crate::proofs::Verdicts::passed))]
+pub fn verdict(transcript: Transcript) -> Verdict
+    ensures { result ≡ transcript_verdict transcript.entry.bytes.now }
 {
-    let outcome = layer_sections::checked(bytes, sections);
-    match outcome {
-        Ok(()) => judge_checked(bytes, sections),
+    match layer_sections::checked(transcript) {
+        Ok(passed) => judge_passed(passed),
         Err(cause) => Verdict {
             answer: Err(cause),
             reads: 0,
@@ -27,23 +25,12 @@ pub fn verdict(bytes: &[u8], sections: Sections) -> Verdict
 }
 
 // The verdict where all sections pass.
-fn judge_checked(bytes: &[u8], sections: Sections) -> Verdict
-    requires { (sections ≡ sections_in bytes.now) × (transcript_outcome bytes.now ≡ Ok tt) }
-    ensures { let sent = bytes.now in result ≡ verdict_of (run_in sent) (queries_in sent) }
+#[tactic(auto, using(byte_rounds::proofs::Carried::carried_checks))]
+fn judge_passed(passed: Passed) -> Verdict
+    ensures { let sent = passed.entry.transcript.bytes.now in result ≡ verdict_of (run_in sent) (queries_in sent) }
 {
-    let lists = small_lists::read(bytes, sections);
-    let basis = lists.basis;
-    let challenges = lists.challenges;
-    let queries = lists.queries;
-    let last = lists.last;
-    byte_rounds::judge_rounds(
-        lists.parameters,
-        lists.offset,
-        &basis[..lists.parameters.k],
-        &challenges[..lists.rounds],
-        &queries[..lists.query_count],
-        bytes,
-        sections.layers + 4,
-        &last[..lists.last_count],
-    )
+    let transcript = passed.transcript;
+    let lists = small_lists::read(passed);
+    let begin = transcript.layers().body();
+    byte_rounds::judge_rounds(lists.sent(passed), transcript.bytes, begin)
 }

@@ -2,15 +2,18 @@
 -- bytes. Assumes nothing.
 use mathlib.Core.Path.{◌≡◌, sym, ap, ap₂, ◌∙◌}
 use mathlib.Core.List.{List}
-use Prim.Native.Nat.{ℕ, zero, suc, ◌+◌, ◌≤◌}
+use Prim.Native.Nat.{ℕ, zero, suc, ◌+◌, ◌^◌, ◌≤◌, ◌<◌}
 use native.Mathlib.Omega.{arith}
+use lib.ListN.{get_or}
 use Rattle.std.specs.Prelude.{Ok}
+use Rattle.fri.specs.Run.{Run}
 use Rattle.fri.specs.Judge.{checks_outcome}
 use Rattle.transcript.specs.Numerals.{AreBytes, entries_at}
 use Rattle.transcript.specs.Sections.{section_start, layer_section, transcript_k, transcript_steps}
 use Rattle.transcript.specs.Sections.{transcript_rounds, run_in, queries_in}
 use Rattle.transcript.specs.Checks.{transcript_outcome}
 use Rattle.transcript.specs.Theorems.{Carries}
+use Rattle.transcript.proofs.Numerals.{are_bytes}
 use Rattle.transcript.proofs.Sections.{start_next, start_below}
 use Rattle.transcript.proofs.Carried.{passed_carries, layer_is, checks_are}
 use Rattle.byte_rounds.specs.Layers.{layer_at, LaidOut}
@@ -50,3 +53,8 @@ module _ (bytes : List ℕ) (done : transcript_outcome bytes ≡ Ok tt) where
             ∙ ap₂ (entries_at bytes) (sym (layer_begins i (omega arith))) (carries.layer_counts i h);
         begins = omega (arith, start_below bytes known 5 (omega arith));
       }
+
+  -- so of what was sent
+  pub laid_as_sent : ((i : ℕ) → get_or bytes i 0 < 2 ^ 8) → {begin : ℕ} {run : Run} → begin ≡ section_start bytes 5 + 4
+      → run ≡ run_in bytes → LaidOut bytes begin run
+  laid_as_sent known b r = rw (b, r) (laid_out (are_bytes bytes known))

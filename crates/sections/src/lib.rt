@@ -1,7 +1,7 @@
 // A transcript, and its sections: where they begin, and whether their counts and bytes are right.
 #![tactic(auto)]
 
-ghost use Rattle.std.specs.Prelude.{◌≡◌, suc, ◌≤◌};
+ghost use Rattle.std.specs.Prelude.{◌≡◌, suc, ◌+◌, ◌≤◌};
 ghost use Rattle.transcript.specs.Sections.{section_start, section_count, section_entries};
 ghost use Rattle.transcript.specs.Checks.{section_outcome, due_outcome};
 ghost use Rattle.sections.specs.Views.{EachByte, sections_in, parameters_in};
@@ -153,13 +153,21 @@ impl<'a> Section<'a> {
         self.at + 4 + 8 * self.count()
     }
 
+    // Where its entries begin, after its count.
+    #[tactic(auto, using(crate::proofs::Places::start_near))]
+    pub fn body(self) -> usize
+        ensures { result ≡ section_start self.entry.bytes.now self.entry.number + 4 }
+    {
+        self.at + 4
+    }
+
     // Its entries, where there are at most N.
     #[tactic(auto, using(crate::proofs::Places::start_near, crate::proofs::Places::end_near))]
     pub fn entries<const N: usize>(self) -> ShortList<N>
         requires { section_count self.bytes.now self.number ≤ N }
         ensures { result ≡ section_entries self.entry.bytes.now self.entry.number }
     {
-        entries::list(self.bytes, self.at + 4, self.count())
+        entries::list(self.bytes, self.body(), self.count())
     }
 
     // Refused unless its count is the one due (2).

@@ -10,11 +10,11 @@ use Rattle.fri.specs.Layout.{last_count}
 use Rattle.fri.proofs.Layers.{layouts}
 use Rattle.layout.proofs.Sizes.{few_rounds}
 use Rattle.transcript.specs.Numerals.{entries_at}
-use Rattle.transcript.specs.Sections.{section_start, section_count, layer_section, transcript_k, transcript_rate}
+use Rattle.transcript.specs.Sections.{section_start, section_count, section_entries, layer_section, transcript_k, transcript_rate}
 use Rattle.transcript.specs.Sections.{transcript_step, transcript_steps, transcript_rounds, run_in}
 use Rattle.transcript.specs.Checks.{transcript_outcome}
 use Rattle.transcript.specs.Theorems.{Carries}
-use Rattle.transcript.proofs.Numerals.{are_bytes}
+use Rattle.transcript.proofs.Numerals.{are_bytes, length_entries}
 use Rattle.transcript.proofs.Carried as carried
 use Rattle.transcript.proofs.Sections.{start_next, start_below}
 use Rattle.sections.specs.Views.{EachByte, parameters_in}
@@ -28,6 +28,10 @@ module _ (bytes : List ℕ) (passed : transcript_outcome bytes ≡ Ok tt) where
 
   pub coset_few : section_count bytes 2 ≤ 21
   coset_few = omega (arith, c.coset_count, c.parameters.k_most)
+
+  -- the offset, at least
+  pub coset_some : 1 ≤ length (section_entries bytes 2)
+  coset_some = omega (arith, c.coset_count, length_entries bytes (section_start bytes 2 + 4) (section_count bytes 2))
 
   pub challenges_few : section_count bytes 3 ≤ 20
   challenges_few = omega (arith, c.challenges_count, rounds_few)

@@ -1,13 +1,13 @@
 // The small lists of a transcript: all but the layers, whose entries stay in the bytes.
 #![tactic(auto)]
 
-ghost use Rattle.std.specs.Prelude.{◌≡◌, ◌≤◌, length, get_or, drop};
-ghost use Rattle.transcript.specs.Sections.{run_in};
+ghost use Rattle.std.specs.Prelude.{◌≡◌};
+ghost use Rattle.layout.specs.Parameters.{run_of};
+ghost use Rattle.transcript.specs.Sections.{run_in, queries_in};
 ghost use Rattle.small_lists.specs.Lists.{lists_in};
 
 use field::Element;
 use layer_sections::Passed;
-use layout::Shape;
 use round_checks::sent::Sent;
 use short_list::ShortList;
 
@@ -21,18 +21,18 @@ pub struct Lists {
 }
 
 impl Lists {
-    // What was sent of the run, but for its layers, and the queries.
-    pub fn sent<'a>(&'a self, shape: Shape) -> Sent<'a>
-        requires { 1 ≤ length self.now.coset }
-        ensures shape { result.shape.parameters ≡ shape.parameters }
-        ensures offset { result.offset.0 ≡ get_or self.now.coset 0 0 }
-        ensures basis { result.basis.now ≡ drop 1 self.now.coset }
-        ensures lists { (result.challenges.now ≡ self.now.challenges) × (result.queries.now ≡ self.now.queries)
-            × (result.last.now ≡ self.now.last) }
+    // What was sent of the run that the transcript carries, but for its layers, and the queries.
+    #[tactic(auto, using(crate::proofs::Places::coset_some))]
+    pub fn sent<'a>(&'a self, passed: Passed) -> Sent<'a>
+        requires { self.now ≡ lists_in passed.transcript.bytes.now }
+        ensures run { let run = run_in passed.entry.transcript.bytes.now in
+            run_of result.shape.parameters result.offset.0 result.basis.now result.challenges.now run.word run.store
+            result.last.now ≡ run }
+        ensures queries { result.queries.now ≡ queries_in passed.entry.transcript.bytes.now }
     {
         let coset = self.coset.as_slice();
         Sent::new(
-            shape,
+            passed.shape,
             Element(coset[0]),
             &coset[1..],
             self.challenges.as_slice(),
