@@ -3,25 +3,24 @@
 // printed.
 #![tactic(auto)]
 
-ghost use Rattle.std.specs.Prelude.{◌≡◌, ◌+◌, ◌≤◌, length, take};
+ghost use Rattle.std.specs.Prelude.{◌≡◌, ◌+◌, length};
 ghost use Rattle.transcript.specs.Judge.{input_limit};
 ghost use Rattle.sheet_text.specs.Sheet.{sheet_of, largest_sheet};
 ghost use Rattle.input.specs.Reading.{Over, Prints};
 
-
-// What is printed, at the front of the second list, and its length. The first list has room for the limit and one byte
-// more, the second for the largest sheet of any transcript.
-fn answer(input: &[u8], reading: Option<usize>, out: &mut [u8]) -> usize
+// What is printed, at the front of the second list. The first list has room for the limit and one byte more, the second
+// for the largest sheet of any transcript.
+fn answer<'a>(input: &[u8], reading: Option<usize>, out: &'a mut [u8]) -> &'a [u8]
     requires size { length input.now ≡ input_limit + 1 }
     requires over { Over (length input.now) reading }
     requires room { length out.old ≡ largest_sheet }
-    ensures text { Prints sheet_of reading input.now (take result out.new) }
-    ensures fits { (result ≤ length out.new) × (result ≡ length (take result out.new)) }
+    ensures { Prints sheet_of reading input.now result.now }
 {
-    let Some(count) = reading else {
-        return 0;
+    let length = match reading {
+        Some(count) => marking::sheet_input(&input[..count], out),
+        None => 0,
     };
-    marking::sheet_input(&input[..count], out)
+    &out[..length]
 }
 
 // To be read here, since no contract can say it: the reading is what `read` answered, and it is printed once.
@@ -29,6 +28,6 @@ fn main(rt: HostRuntime) {
     let mut input = [0u8; 65537];
     let reading = input::read(rt.stdin(), &mut input);
     let mut out = [0u8; 272384];
-    let length = answer(&input, reading, &mut out);
-    input::print(rt.stdout(), &out[..length], &input, reading);
+    let lines = answer(&input, reading, &mut out);
+    input::print(rt.stdout(), lines, &input, reading);
 }
