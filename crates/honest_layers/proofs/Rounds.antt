@@ -133,7 +133,8 @@ module _ (claim : Claim) where
     pub coset_next : layer_coset_of (next_offset step coset.offset.0 coset.basis) (next_basis step coset.basis)
         ≡ coset_in run (suc i)
     coset_next =
-        ap (λ (c : LayerCoset). layer_coset_of (next_offset step c.offset.0 c.basis) (next_basis step c.basis)) at.coset_is
+        ap (λ (c : LayerCoset). layer_coset_of (next_offset step c.offset.0 c.basis) (next_basis step c.basis))
+        at.coset_is
         ∙ ap₂ (λ (o : ℕ) (l : List ℕ). layer_coset_of o l)
         (offset_next claim.parameters run.offset run.basis i inside)
         (basis_next claim.parameters run.offset run.basis i inside)

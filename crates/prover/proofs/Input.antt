@@ -110,7 +110,8 @@ module _ (claim : Claim) (store last : List ℕ) where
   same_store = same_joined (r - 1)
 
   -- what is interpolated is layer r, over its coset
-  pub interpolant_is : (here : Coset) (coset : LayerCoset) → (here.offset ≡ coset.offset) × (here.basis.now ≡ coset.basis)
+  pub interpolant_is : (here : Coset) (coset : LayerCoset)
+      → (here.offset ≡ coset.offset) × (here.basis.now ≡ coset.basis)
       → coset ≡ coset_in given r → (layer : List ℕ) → layer ≡ honest_layer given r
       → interpolated here.offset.0 here.basis.now layer ≡ last_interpolant called
   unfolding last_interpolant

@@ -46,7 +46,8 @@ module _ (run : Run) (queries : List ℕ) (size : ℕ) where
     -- the checks after them, by the formula that says how long the transcript is, and by the step given
     decided : and_then of_size (and_then of_basis of_queries) ≡ write_outcome run queries size
     decided =
-        ap (λ (n : ℕ). and_then (refused_unless (eqb size n) (WrongLength lent.Bytes) (Ok tt)) (and_then of_basis of_queries))
+        ap (λ (n : ℕ). and_then (refused_unless (eqb size n) (WrongLength lent.Bytes) (Ok tt))
+        (and_then of_basis of_queries))
         (sym (transcript_size run (lists_valid run done) (lists_fit run done) queries))
         ∙ then_passed (of_lists run) after_lists done ∙ lists_then run after_lists
 
@@ -59,7 +60,9 @@ module _ (run : Run) (queries : List ℕ) (size : ℕ) where
       pub size_refused : size ≢ due → Err (WrongLength lent.Bytes) ≡ write_outcome run queries size
       size_refused n =
           then_refused of_size (and_then of_basis of_queries) (WrongLength lent.Bytes)
-          (sym (refused_by (eqb size needed) (WrongLength lent.Bytes) (Ok tt) (ne_eqb size needed (λ e. n (e ∙ sym due_is)))))
+          (sym
+          (refused_by (eqb size needed) (WrongLength lent.Bytes) (Ok tt)
+          (ne_eqb size needed (λ e. n (e ∙ sym due_is)))))
           ∙ decided
 
       pub size_passed : size ≡ due

@@ -59,7 +59,8 @@ split_at_mut-next-requires t c =
 
 pub fold_layer-requires-2 : goal.fold_layer-requires-2
 fold_layer-requires-2 t c =
-    foldable c.args.claim.now c.requires c.as_coset-2.result.basis.now c.as_coset-2.ensures.1 (length c.split_at_mut-next.result.0.now)
+    foldable c.args.claim.now c.requires c.as_coset-2.result.basis.now c.as_coset-2.ensures.1
+    (length c.split_at_mut-next.result.0.now)
     (c.split_at_mut-next.ensures.front_len ∙ next_shifted c.args.claim.now c.requires)
 
 pub next-requires-2 : goal.next-requires-2
