@@ -9,7 +9,7 @@ ghost use Rattle.c_answers.specs.Answers.{answer_of_verdict, answered};
 
 use c_answers::Answer;
 use field::Element;
-use layout::Parameters;
+use layout::{Claim, Parameters};
 
 #[unsafe(no_mangle)]
 pub extern "C" fn rz_judge(
@@ -33,18 +33,15 @@ pub extern "C" fn rz_judge(
     if answer.len() != Answer::LENGTH {
         return;
     }
-    let parameters = Parameters { k, rate, step };
-    let verdict = list_judge::judge(
-        parameters,
-        Element(offset),
+    let claim = Claim {
+        parameters: Parameters { k, rate, step },
+        offset: Element(offset),
         basis,
         challenges,
-        queries,
         word,
-        store,
-        last,
-    );
-    Answer::of_verdict(verdict).write(answer);
+    };
+    let verdict = list_judge::judge(&claim, queries, store, last);
+    Answer::from(verdict).write(answer);
 }
 
 #[unsafe(no_mangle)]
@@ -56,5 +53,5 @@ pub extern "C" fn rz_judge_transcript(bytes: &[u8], answer: &mut [u64])
         return;
     }
     let verdict = reader::judge(bytes);
-    Answer::of_verdict(verdict).write(answer);
+    Answer::from(verdict).write(answer);
 }

@@ -2,13 +2,12 @@
 // the writer makes of them.
 #![tactic(auto)]
 
-ghost use Rattle.layout.specs.Parameters.{run_of};
+ghost use Rattle.layout.specs.Parameters.{run_claimed};
 ghost use Rattle.end_to_end.specs.Judged.{ProvedThenJudged, ProvedThenWritten};
 
-use refusal::Cause;
-use field::Element;
 use fri::Verdict;
-use layout::Parameters;
+use layout::Claim;
+use refusal::Cause;
 
 // What the prover answered, and the verdict on what it left.
 #[derive(Drop)]
@@ -28,30 +27,16 @@ pub struct ProvedWrittenJudged {
 // Proves, and judges what the two lent lists hold then, whatever the prover answered. Where the word has low degree,
 // the other input is valid and no two queries share a first-layer coset, it is proved and accepted.
 pub fn prove_and_judge(
-    parameters: Parameters,
-    offset: Element,
-    basis: &[u64],
-    challenges: &[u64],
+    claim: &Claim,
     queries: &[u64],
-    word: &[u64],
     store: &mut [u64],
     last: &mut [u64],
 ) -> ProvedAndJudged
-    ensures { let run = run_of parameters offset.0 basis.now challenges.now word.now
-        store.old last.old in
+    ensures { let run = run_claimed claim.now store.old last.old in
         ProvedThenJudged run queries.now result store.new last.new }
 {
-    let outcome = prover::prove(parameters, offset, basis, challenges, word, store, last);
-    let verdict = list_judge::judge(
-        parameters,
-        offset,
-        basis,
-        challenges,
-        queries,
-        word,
-        &store[..],
-        &last[..],
-    );
+    let outcome = prover::prove(claim, store, last);
+    let verdict = list_judge::judge(claim, queries, store, last);
     ProvedAndJudged { outcome, verdict }
 }
 
@@ -59,34 +44,18 @@ pub fn prove_and_judge(
 // whatever prover and writer answered. Where the word has low degree, the other input is valid, no two queries share a
 // first-layer coset and list 8 has the needed length, it is proved, written and accepted.
 pub fn prove_write_and_judge(
-    parameters: Parameters,
-    offset: Element,
-    basis: &[u64],
-    challenges: &[u64],
+    claim: &Claim,
     queries: &[u64],
-    word: &[u64],
     store: &mut [u64],
     last: &mut [u64],
     bytes: &mut [u8],
 ) -> ProvedWrittenJudged
-    ensures { let run = run_of parameters offset.0 basis.now challenges.now word.now
-        store.old last.old in
-        ProvedThenWritten run queries.now bytes.old result store.new last.new
-        bytes.new }
+    ensures { let run = run_claimed claim.now store.old last.old in
+        ProvedThenWritten run queries.now bytes.old result store.new last.new bytes.new }
 {
-    let proved = prover::prove(parameters, offset, basis, challenges, word, store, last);
-    let written = writer::write(
-        parameters,
-        offset,
-        basis,
-        challenges,
-        queries,
-        word,
-        &store[..],
-        &last[..],
-        bytes,
-    );
-    let verdict = reader::judge(&bytes[..]);
+    let proved = prover::prove(claim, store, last);
+    let written = writer::write(claim, queries, store, last, bytes);
+    let verdict = reader::judge(bytes);
     ProvedWrittenJudged {
         proved,
         written,

@@ -1,14 +1,13 @@
 -- `end_to_end::prove_and_judge` meets its contract. Assumes nothing.
 use Rattle.end_to_end.proofs.Theorems.{proved_is_accepted}
-use Rattle.layout.specs.Parameters.{run_of}
+use Rattle.layout.specs.Parameters.{run_claimed}
 use Rattle.end_to_end.proofs.prove_and_judge.Goals as goal
 
 pub returns : goal.returns
 returns c =
     let a = c.args in
     let run =
-    run_of a.parameters a.offset.0 a.basis.now a.challenges.now a.word.now a.store.now
-    a.last.now
+    run_claimed a.claim.now a.store.now a.last.now
     in
     let f = c.prove-outcome in
     let store = f.new.store in
