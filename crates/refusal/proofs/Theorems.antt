@@ -32,7 +32,7 @@ given QueryCountOutOfRange = inl (omega arith, omega arith)
 given (QueryOutOfRange query) = inl (omega arith, omega arith)
 given (RoundCheckFails query round) = inl (omega arith, omega arith)
 given (DegreeTooLarge degree) = inl (omega arith, omega arith)
-given (WrongLength list) = inl (omega arith, omega arith)
+given (WrongLength _) = inl (omega arith, omega arith)
 given InputTooLong = inl (omega arith, omega arith)
 given (CosetShared query) = inr refl
 
@@ -74,7 +74,7 @@ round_or_none QueryCountOutOfRange = inr refl
 round_or_none (QueryOutOfRange query) = inr refl
 round_or_none (RoundCheckFails query round) = inl (refl, refl)
 round_or_none (DegreeTooLarge degree) = inr refl
-round_or_none (WrongLength list) = inr refl
+round_or_none (WrongLength _) = inr refl
 round_or_none InputTooLong = inr refl
 round_or_none (CosetShared query) = inr refl
 

@@ -25,12 +25,12 @@ number_of QueryCountOutOfRange = 9
 number_of (QueryOutOfRange query) = 10
 number_of (RoundCheckFails query round) = 11
 number_of (DegreeTooLarge degree) = 12
-number_of (WrongLength list) = 13
+number_of (WrongLength _) = 13
 number_of InputTooLong = 14
 number_of (CosetShared query) = 17
 
 -- the number of a lent list, by which the table's column "Returned" tells it
-abbrev pub number_of_list : (list : Lent) → ℕ
+abbrev pub number_of_list : (which : Lent) → ℕ
 number_of_list lent.Basis = 1
 number_of_list lent.Challenges = 2
 number_of_list lent.Word = 3
@@ -54,7 +54,7 @@ place_of QueryCountOutOfRange = None
 place_of (QueryOutOfRange query) = Some query
 place_of (RoundCheckFails query round) = Some query
 place_of (DegreeTooLarge degree) = Some degree
-place_of (WrongLength list) = Some (number_of_list list)
+place_of (WrongLength which) = Some (number_of_list which)
 place_of InputTooLong = None
 place_of (CosetShared query) = Some query
 
@@ -72,7 +72,7 @@ round_of QueryCountOutOfRange = None
 round_of (QueryOutOfRange query) = None
 round_of (RoundCheckFails query round) = Some round
 round_of (DegreeTooLarge degree) = None
-round_of (WrongLength list) = None
+round_of (WrongLength _) = None
 round_of InputTooLong = None
 round_of (CosetShared query) = None
 

@@ -1,6 +1,6 @@
 -- `input::read` meets its contract. Assumes nothing.
-use Rattle.std.proofs.Common.{◌≡◌, ◌+◌, ◌≤◌, ◌-◌, length, take, ℕ, subst, sym, arith}
-use Rattle.std.specs.Io.KnownBytes.{Consumes, ReadConsumes}
+use Rattle.std.proofs.Common.{◌-◌, length, take, subst, sym, arith}
+use Rattle.std.specs.Io.KnownBytes.{Consumes}
 use borrow.Rule.Slice.PartMut.{put_mid}
 use Rattle.input.proofs.Known.{read_on, fits_joined, turn, taken}
 use Rattle.input.proofs.read.Goals as goal
