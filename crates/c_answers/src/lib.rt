@@ -27,10 +27,7 @@ const NONE: u64 = 0xffffffffffffffff;
 fn or_none(p: Option<usize>) -> u64
     ensures { result ≡ or_none p }
 {
-    match p {
-        Some(n) => n as u64,
-        None => NONE,
-    }
+    p.map_or(NONE, |n| n as u64)
 }
 
 impl Answer {
