@@ -11,5 +11,6 @@ use Rattle.transcript.proofs.Theorems.{judging_bytes}
 use Rattle.transcript.proofs.Carried.{passed_carries}
 
 module _ (bytes : List ℕ) where
-  pub passed : transcript_outcome bytes ≡ Ok tt → verdict_of (run_in bytes) (queries_in bytes) ≡ transcript_verdict bytes
+  pub passed : transcript_outcome bytes ≡ Ok tt
+      → verdict_of (run_in bytes) (queries_in bytes) ≡ transcript_verdict bytes
   passed done = sym (judging_bytes.carried bytes (passed_carries bytes done))

@@ -4,7 +4,8 @@
 
 ghost use Rattle.std.specs.Prelude.{◌≡◌, IfOk};
 ghost use Rattle.refusal.specs.Outcome.{outcome_of};
-ghost use Rattle.transcript.specs.Checks.{parameters_section, coset_section, queries_section, lists_outcome, front_outcome};
+ghost use Rattle.transcript.specs.Checks.{parameters_section, coset_section, queries_section};
+ghost use Rattle.transcript.specs.Checks.{lists_outcome, front_outcome};
 ghost use Rattle.sections.specs.Views.{parameters_in};
 
 use layout::Shape;

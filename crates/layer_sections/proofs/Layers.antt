@@ -15,7 +15,8 @@ use Rattle.transcript.specs.Checks.{due_outcome, layers_from, layers_outcome, en
 use Rattle.sections.proofs.Places.{layers_one, layers_none}
 
 -- the sections of layers i to `end` - 1, of which those before i have passed
-module _ (bytes : List ℕ) (i end : ℕ) (so_far : layers_from bytes i (end - i) ≡ layers_from bytes 0 (transcript_rounds bytes)) where
+module _ (bytes : List ℕ) (i end : ℕ)
+    (so_far : layers_from bytes i (end - i) ≡ layers_from bytes 0 (transcript_rounds bytes)) where
   abbrev pub due : Outcome
   due = due_outcome bytes (layer_section i) (2 ^ dimension (transcript_k bytes) (transcript_steps bytes) i)
 

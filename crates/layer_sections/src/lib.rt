@@ -61,7 +61,8 @@ fn layer_count(shape: Shape, i: usize) -> usize
 
 // The last coefficients, after which nothing follows (3).
 fn checked_end(front: Shaped, last: Section) -> Result<(), Cause>
-    requires { (last.bytes.now ≡ front.transcript.bytes.now) × (last.number ≡ layer_section (transcript_rounds last.bytes.now)) }
+    requires { (last.bytes.now ≡ front.transcript.bytes.now)
+        × (last.number ≡ layer_section (transcript_rounds last.bytes.now)) }
     ensures { result ≡ end_outcome front.entry.transcript.bytes.now }
 {
     last.checked_due(front.shape.last_count())?;

@@ -22,14 +22,16 @@ module _ (bytes : List ℕ) where
     pub start_near : at + 12 ≤ 2 ^ 40
     start_near = omega (arith, start_below bytes (are_bytes bytes known) s few)
 
-    -- it ends after its count and as many entries
-    pub end_near : at + 4 + 8 * section_count bytes s ≤ 2 ^ 41
-    end_near =
-        omega (
-          arith,
-          start_below bytes (are_bytes bytes known) s few,
-          count_fits bytes (are_bytes bytes known) (section_start bytes s),
-        )
+    -- so does its end, after its count and as many entries
+    pub near : (at + 12 ≤ 2 ^ 40) × (at + 4 + 8 * section_count bytes s ≤ 2 ^ 41)
+    near = (
+      start_near,
+      omega (
+        arith,
+        start_below bytes (are_bytes bytes known) s few,
+        count_fits bytes (are_bytes bytes known) (section_start bytes s),
+      ),
+    )
 
   pub end_at : (s at : ℕ) → 1 ≤ s → at ≡ section_start bytes s
       → at + 4 + 8 * section_count bytes s ≡ section_start bytes (suc s)

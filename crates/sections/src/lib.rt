@@ -146,11 +146,11 @@ impl<'a> Section<'a> {
 
     // Where it ends. A count has 4 bytes, so that a section has less than 2^35 bytes, and all of them, at most 5 + 19,
     // end before 2^40.
-    #[tactic(auto, using(crate::proofs::Places::start_near, crate::proofs::Places::end_near, crate::proofs::Places::end_at))]
+    #[tactic(auto, using(crate::proofs::Places::near, crate::proofs::Places::end_at))]
     pub fn end(self) -> usize
         ensures { result ≡ section_start self.entry.bytes.now (suc self.entry.number) }
     {
-        self.at + 4 + 8 * self.count()
+        self.body() + 8 * self.count()
     }
 
     // Where its entries begin, after its count.
@@ -162,7 +162,7 @@ impl<'a> Section<'a> {
     }
 
     // Its entries, where there are at most N.
-    #[tactic(auto, using(crate::proofs::Places::start_near, crate::proofs::Places::end_near))]
+    #[tactic(auto, using(crate::proofs::Places::near))]
     pub fn entries<const N: usize>(self) -> ShortList<N>
         requires { section_count self.bytes.now self.number ≤ N }
         ensures { result ≡ section_entries self.entry.bytes.now self.entry.number }
@@ -183,11 +183,10 @@ impl<'a> Section<'a> {
     }
 
     // Refused with the cause unless its count passes a test.
-    #[tactic(auto, using(crate::proofs::Places::start_near))]
     pub fn checked(self, test: bool, cause: Cause) -> Result<(), Cause>
         ensures { result ≡ section_outcome self.entry.bytes.now self.entry.number test cause }
     {
-        if self.at + 4 > self.bytes.len() {
+        if self.body() > self.bytes.len() {
             return Err(Cause::BytesEnd {
                 section: self.number,
             });

@@ -10,7 +10,8 @@ use Rattle.fri.specs.Layout.{last_count}
 use Rattle.fri.proofs.Layers.{layouts}
 use Rattle.layout.proofs.Sizes.{few_rounds}
 use Rattle.transcript.specs.Numerals.{entries_at}
-use Rattle.transcript.specs.Sections.{section_start, section_count, section_entries, layer_section, transcript_k, transcript_rate}
+use Rattle.transcript.specs.Sections.{section_start, section_count, section_entries}
+use Rattle.transcript.specs.Sections.{layer_section, transcript_k, transcript_rate}
 use Rattle.transcript.specs.Sections.{transcript_step, transcript_steps, transcript_rounds, run_in}
 use Rattle.transcript.specs.Checks.{transcript_outcome}
 use Rattle.transcript.specs.Theorems.{Carries}
@@ -26,18 +27,16 @@ module _ (bytes : List ℕ) (passed : transcript_outcome bytes ≡ Ok tt) where
   rounds_few : transcript_rounds bytes ≤ 19
   rounds_few = few_rounds (parameters_in bytes) c.parameters
 
-  pub coset_few : section_count bytes 2 ≤ 21
-  coset_few = omega (arith, c.coset_count, c.parameters.k_most)
+  pub lists_few : (section_count bytes 2 ≤ 21) × (section_count bytes 3 ≤ 20) × (section_count bytes 4 ≤ 256)
+  lists_few = (
+    omega (arith, c.coset_count, c.parameters.k_most),
+    omega (arith, c.challenges_count, rounds_few),
+    carried.queries_few bytes passed,
+  )
 
   -- the offset, at least
   pub coset_some : 1 ≤ length (section_entries bytes 2)
   coset_some = omega (arith, c.coset_count, length_entries bytes (section_start bytes 2 + 4) (section_count bytes 2))
-
-  pub challenges_few : section_count bytes 3 ≤ 20
-  challenges_few = omega (arith, c.challenges_count, rounds_few)
-
-  pub queries_few : section_count bytes 4 ≤ 256
-  queries_few = carried.queries_few bytes passed
 
   -- ---- the last coefficients: d is 1, 2 or 4
 

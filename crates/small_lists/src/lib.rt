@@ -44,7 +44,7 @@ impl Lists {
 
 // Those of a transcript whose sections pass. Nothing follows the last coefficients, so that they are found from the
 // end.
-#[tactic(auto, using(crate::proofs::Places::coset_few, crate::proofs::Places::challenges_few, crate::proofs::Places::queries_few))]
+#[tactic(auto, using(crate::proofs::Places::lists_few))]
 pub fn read(passed: Passed) -> Lists
     ensures { result ≡ lists_in passed.entry.transcript.bytes.now }
 {
