@@ -116,7 +116,9 @@ fn checked_lengths(
         return Err(Cause::WrongLength { list: Lent::Values });
     }
     if length7 != k - step {
-        return Err(Cause::WrongLength { list: Lent::NextBasis });
+        return Err(Cause::WrongLength {
+            list: Lent::NextBasis,
+        });
     }
     Ok(())
 }

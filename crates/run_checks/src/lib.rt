@@ -33,7 +33,9 @@ pub fn checked_lists(claim: &Claim, store: &[u64], last: &[u64]) -> Result<Shape
         return Err(Cause::WrongLength { list: Lent::Basis });
     }
     if claim.challenges.len() != due.rounds {
-        return Err(Cause::WrongLength { list: Lent::Challenges });
+        return Err(Cause::WrongLength {
+            list: Lent::Challenges,
+        });
     }
     if claim.word.len() != 1 << claim.parameters.k {
         return Err(Cause::WrongLength { list: Lent::Word });

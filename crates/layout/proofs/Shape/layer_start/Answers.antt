@@ -45,5 +45,5 @@ loop-before-preserved c =
     let p = c.args.self.parameters in
     let l = c.loop-before in
     let size = size_is p c.args.self.valid l.before c.dimension.result c.dimension.ensures in
-      ap₂ (λ (m n : ℕ). m + n) l.invariant size ∙ sym (start_next p.k (steps_by p) l.before (omega arith))
-          ∙ ap (layer_start p.k (steps_by p)) (sym (add-one l.before))
+    ap₂ (λ (m n : ℕ). m + n) l.invariant size ∙ sym (start_next p.k (steps_by p) l.before (omega arith))
+    ∙ ap (layer_start p.k (steps_by p)) (sym (add-one l.before))
