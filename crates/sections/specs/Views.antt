@@ -1,6 +1,5 @@
 -- What the code has of a transcript by value.
-use Rattle.std.specs.Prelude.{◌≡◌, List, ℕ, ◌^◌, ◌<◌, get_or}
-use Rattle.layout.specs.Parameters.{Valid}
+use Rattle.std.specs.Prelude.{List, ℕ, ◌^◌, ◌<◌, get_or}
 use Rattle.layout.specs.declared.Parameters.{Parameters}
 use Rattle.transcript.specs.Sections.{section_start, transcript_k, transcript_rate, transcript_step}
 use Rattle.sections.specs.declared.Sections.{Sections}
@@ -22,8 +21,3 @@ sections_in bytes =
 -- k, R and η
 abbrev pub parameters_in : (bytes : List ℕ) → Parameters
 parameters_in bytes = record { k = transcript_k bytes; rate = transcript_rate bytes; step = transcript_step bytes }
-
--- parameters that were read from section 1 and are in range
-pub record ParametersOf (bytes : List ℕ) (parameters : Parameters) : Type 0 where
-  pub read : parameters ≡ parameters_in bytes
-  pub valid : Valid parameters
