@@ -9,7 +9,7 @@ ghost use Rattle.c_transcript.specs.Calls.{WriteAnswered};
 
 use c_answers::Answer;
 use field::Element;
-use layout::Parameters;
+use layout::{Claim, Parameters};
 
 #[unsafe(no_mangle)]
 pub extern "C" fn rz_sheet(bytes: &[u8], out: &mut [u8]) -> u64
@@ -50,17 +50,13 @@ pub extern "C" fn rz_write_transcript(
     if answer.len() != Answer::LENGTH {
         return;
     }
-    let parameters = Parameters { k, rate, step };
-    let outcome = writer::write(
-        parameters,
-        Element(offset),
+    let claim = Claim {
+        parameters: Parameters { k, rate, step },
+        offset: Element(offset),
         basis,
         challenges,
-        queries,
         word,
-        store,
-        last,
-        bytes,
-    );
-    Answer::of_outcome(outcome).write(answer);
+    };
+    let outcome = writer::write(&claim, queries, store, last, bytes);
+    Answer::from(outcome).write(answer);
 }
