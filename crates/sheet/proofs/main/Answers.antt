@@ -3,5 +3,5 @@ use Prim.Native.Nat.{ℕ}
 use lib.ListN.{length-replicate}
 use Rattle.sheet.proofs.main.Goals as goal
 
-pub answer-length-requires-clause-room : goal.answer-length-requires-clause-room
-answer-length-requires-clause-room c = length-replicate {A = ℕ} 272384 0
+pub answer-lines-requires-clause-room : goal.answer-lines-requires-clause-room
+answer-lines-requires-clause-room c = length-replicate {A = ℕ} 272384 0
