@@ -1,1 +1,2 @@
+mod Arrays
 pub mod Cosets

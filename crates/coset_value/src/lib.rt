@@ -1,17 +1,116 @@
-// The value of a coset's interpolant at a challenge. It is found by halving the coset: points 2 i and 2 i + 1 become one
-// point, and their entries the value of the line through the two. The points are moved by the challenge before that,
-// each is its sum with it: the maps X · (X - e) that halve the points are additive, so the halved points are moved as
-// well, by the image of the challenge, and no halving needs the challenge itself.
+// A coset of the fold, and the value of its interpolant at a challenge. It is found by halving the coset: points 2 i
+// and 2 i + 1 become one point, and their entries the value of the line through the two. The points are moved by the
+// challenge before that, each is its sum with it: the maps X · (X - e) that halve the points are additive, so the
+// halved points are moved as well, by the image of the challenge, and no halving needs the challenge itself.
 #![tactic(auto)]
 
-ghost use Rattle.std.specs.Prelude.{◌≡◌, ◌≢◌, map, suc, ◌+◌, ◌*◌, ◌^◌, ◌≤◌, ◌<◌, length, get_or};
+ghost use Rattle.std.specs.Prelude.{◌≡◌, ◌≢◌, map, suc, ◌*◌, ◌/◌, ◌^◌, ◌≤◌, length, get_or, take};
 ghost use Rattle.gf64.specs.Field.{sum, inverse};
 ghost use Rattle.poly.specs.Carrier.{gf64};
 ghost use Rattle.poly.specs.Polynomial.{All, padded};
 ghost use Rattle.coset.specs.Coset.{points};
 ghost use Rattle.fold.specs.Halving.{line_at, halved_points, halved_entries, value_at};
+ghost use Rattle.coset_value.specs.Cosets.{elements, numbers, coset_of, coset_read};
 
 use field::Element;
+
+// Two, four or eight points, or one in the end, with the entries there; behind the count are zeros.
+#[derive(Clone, Copy)]
+pub struct Coset {
+    pub points: [Element; 8],
+    pub entries: [Element; 8],
+    pub count: usize,
+}
+
+impl Coset {
+    // Point i is the first point plus entry i of the span; part is the coset's part of the word.
+    pub fn read(span: &[u64], first: Element, part: &[u64]) -> Coset
+        requires { (length span.now ≤ 8) × (length part.now ≡ length span.now) }
+        ensures { result ≡ coset_read span.now first.0 part.now }
+    {
+        let mut points = [Element::ZERO; 8];
+        let mut entries = [Element::ZERO; 8];
+        for i in 0..span.len() {
+            points[i] = first.sum(Element(span[i]));
+            entries[i] = Element(part[i]);
+        }
+        Coset {
+            points,
+            entries,
+            count: span.len(),
+        }
+    }
+
+    // The value at the challenge of the polynomial with these entries, where the points are those of a coset of the
+    // fold and the inverses those of the elements e of the step's maps X · (X - e) (`Halvings.entry`).
+    pub fn value_at(self, challenge: Element, inverses: &[u64]) -> Element
+        requires { (1 ≤ length inverses.now) × (length inverses.now ≤ 3)
+            × (self.count ≡ 2 ^ length inverses.now) }
+        ensures { result.0 ≡ value_at inverses.now (map (sum challenge.0) (numbers self.points))
+            (numbers self.entries) }
+    {
+        let last = inverses.len() - 1;
+        let mut coset = self.moved(challenge);
+        for t in 0..last {
+            coset = coset.halved(Element(inverses[t]));
+        }
+        coset.line(0, Element(inverses[last]))
+    }
+
+    // Each point becomes its sum with the challenge.
+    fn moved(self, challenge: Element) -> Coset
+        requires { self.count ≤ 8 }
+        ensures { let moved = map (sum challenge.0) (take self.count (numbers self.points)) in
+            result ≡ record { points = elements (padded gf64 8 moved); entries = self.entries; count = self.count } }
+    {
+        let mut points = [Element::ZERO; 8];
+        for i in 0..self.count {
+            points[i] = challenge.sum(self.points[i]);
+        }
+        Coset {
+            points,
+            entries: self.entries,
+            count: self.count,
+        }
+    }
+
+    // One entry for each two neighbours, at their images under X · (X - e), where e is the difference of the two.
+    fn halved(self, inverse: Element) -> Coset
+        requires { self.count ≤ 8 }
+        ensures { let half = self.count / 2 in
+            let points = numbers self.points in
+            let entries = numbers self.entries in
+            result ≡ coset_of (halved_points half points) (halved_entries inverse.0 half points entries) half }
+    {
+        let half = self.count / 2;
+        let mut points = [Element::ZERO; 8];
+        let mut entries = [Element::ZERO; 8];
+        for i in 0..half {
+            points[i] = self.points[i * 2].product(self.points[i * 2 + 1]);
+            entries[i] = self.line(i, inverse);
+        }
+        Coset {
+            points,
+            entries,
+            count: half,
+        }
+    }
+
+    // The value at the challenge, or its image, of the line through points 2 i and 2 i + 1, where inverse is that of
+    // their difference.
+    fn line(self, i: usize, inverse: Element) -> Element
+        requires { i ≤ 3 }
+        ensures { let point = get_or (numbers self.points) (i * 2) 0 in
+            let u = get_or (numbers self.entries) (i * 2) 0 in
+            let v = get_or (numbers self.entries) (suc (i * 2)) 0 in
+            result.0 ≡ line_at inverse.0 point u v }
+    {
+        let u = self.entries[i * 2];
+        let v = self.entries[i * 2 + 1];
+        let slope = u.sum(v).product(inverse);
+        u.sum(self.points[i * 2].product(slope))
+    }
+}
 
 // What a coset of 2, 4 or 8 points is halved by: the inverses of the elements e of the step's maps X · (X - e), one for
 // each halving (`Halvings.entry`), and the span, by whose entries its points differ from the first.
@@ -25,79 +124,14 @@ pub struct Halvings<'a> {
 }
 
 impl<'a> Halvings<'a> {
-    // The value at the challenge of the polynomial with these entries. The coset's first point is given, moved by the
-    // challenge.
-    pub fn value_at(self, moved: Element, part: &[u64]) -> Element
+    // The value at the challenge of the polynomial with these entries, where the coset's first point is given.
+    pub fn value_at(self, first: Element, challenge: Element, part: &[u64]) -> Element
         requires { length part.now ≡ length self.span.now }
-        ensures { result.0 ≡ value_at self.entry.inverses.now (map (sum moved.0) self.entry.span.now) part.now }
+        ensures { let h = self.entry in
+            let moved = sum challenge.0 first.0 in
+            result.0 ≡ value_at h.inverses.now (map (sum moved) h.span.now) part.now }
     {
-        let Halvings { inverses, span, .. } = self;
-        let first = Element(inverses[0]);
-        match inverses.len() {
-            1 => MovedCoset::<2>::read(moved, span, part).line(0, first),
-            2 => MovedCoset::<4>::read(moved, span, part)
-                .halved::<2>(first)
-                .line(0, Element(inverses[1])),
-            _ => MovedCoset::<8>::read(moved, span, part)
-                .halved::<4>(first)
-                .halved::<2>(Element(inverses[1]))
-                .line(0, Element(inverses[2])),
-        }
-    }
-}
-
-// The moved points of a coset, and the entries there.
-#[derive(Clone, Copy)]
-struct MovedCoset<const N: usize> {
-    points: [u64; N],
-    entries: [u64; N],
-}
-
-impl<const N: usize> MovedCoset<N> {
-    // Point i is the first point plus entry i of the span.
-    fn read(first: Element, span: &[u64], part: &[u64]) -> MovedCoset<N>
-        requires { (length span.now ≡ N) × (length part.now ≡ N) }
-        ensures { (result.points ≡ map (sum first.0) span.now) × (result.entries ≡ part.now) }
-    {
-        let mut points = [0u64; N];
-        for (i, s) in span.iter().enumerate() {
-            points[i] = first.sum(Element(*s)).0;
-        }
-        let mut entries = [0u64; N];
-        entries.copy_from_slice(part);
-        MovedCoset { points, entries }
-    }
-
-    // One entry for each two neighbours, at their images under X · (X - e), where e is the difference of the two.
-    fn halved<const M: usize>(self, inverse: Element) -> MovedCoset<M>
-        requires { N ≡ 2 * M }
-        ensures { (result.points ≡ halved_points M self.entry.points)
-            × (result.entries ≡ halved_entries inverse.0 M self.entry.points self.entry.entries) }
-    {
-        let mut points = [0u64; M];
-        let mut entries = [0u64; M];
-        for i in 0..M {
-            points[i] = Element(self.points[i * 2])
-                .product(Element(self.points[i * 2 + 1]))
-                .0;
-            entries[i] = self.line(i, inverse).0;
-        }
-        MovedCoset { points, entries }
-    }
-
-    // The value at the challenge, or its image, of the line through points 2 i and 2 i + 1, where inverse is that of
-    // their difference.
-    fn line(self, i: usize, inverse: Element) -> Element
-        requires { i * 2 + 1 < N }
-        ensures { let point = get_or self.entry.points (i * 2) 0 in
-            let u = get_or self.entry.entries (i * 2) 0 in
-            let v = get_or self.entry.entries (suc (i * 2)) 0 in
-            result.0 ≡ line_at inverse.0 point u v }
-    {
-        let u = Element(self.entries[i * 2]);
-        let v = Element(self.entries[i * 2 + 1]);
-        let slope = u.sum(v).product(inverse);
-        u.sum(Element(self.points[i * 2]).product(slope))
+        Coset::read(self.span, first, part).value_at(challenge, self.inverses)
     }
 }
 

@@ -131,12 +131,11 @@ impl Round {
         let inverses = self.inverses;
         let between = span[here.index % size];
         let first = here.point.sum(Element(between));
-        let moved = self.challenge.sum(first);
         let halvings = Halvings {
             inverses: &inverses[..step],
             span: &span[..size],
         };
-        halvings.value_at(moved, part)
+        halvings.value_at(first, self.challenge, part)
     }
 }
 

@@ -2,6 +2,7 @@
 #![tactic(auto)]
 
 ghost use Rattle.std.specs.Prelude.{◌≡◌, ◌*◌, ◌^◌, ◌≤◌, length};
+ghost use Rattle.gf64.specs.Field.{sum};
 ghost use Rattle.fold.specs.Fold.{folded};
 ghost use Rattle.fold.specs.Halving.{coset_values};
 ghost use Rattle.word_fold.specs.Fitting.{WordFits};
@@ -31,30 +32,39 @@ pub fn fill_values(
         inverses: &inverses[..step],
         span: &span[..size],
     };
-    let moved = coset.offset.sum(challenge);
-    fill_cosets(halvings, moved, &coset.basis[step..], word, values);
+    fill_cosets(
+        halvings,
+        coset.offset,
+        &coset.basis[step..],
+        word,
+        challenge,
+        values,
+    );
 }
 
 // One value for each coset. The upper basis is that from the step's place on, over which the cosets' first points go,
-// from the offset on, moved by the challenge.
+// from the offset on.
 fn fill_cosets(
     halvings: Halvings<'_>,
-    moved: Element,
+    offset: Element,
     upper: &[u64],
     word: &[u64],
+    challenge: Element,
     values: &mut [u64],
 )
     requires { (length upper.now ≤ 20) × (length values.old ≡ 2 ^ length upper.now)
         × (length word.now ≡ 2 ^ length upper.now * length halvings.span.now) }
     ensures { let h = halvings.entry in
-        values.new ≡ coset_values h.inverses.now h.span.now moved.0 upper.now word.now }
+        let moved = sum offset.0 challenge.0 in
+        values.new ≡ coset_values h.inverses.now h.span.now moved upper.now word.now }
 {
     let sums = points::prefix_sums(upper);
     let size = halvings.span.len();
-    let mut first = moved;
+    let mut first = offset;
     for j in 0..values.len() {
         let start = j * size;
-        values[j] = halvings.value_at(first, &word[start..start + size]).0;
+        let part = &word[start..start + size];
+        values[j] = halvings.value_at(first, challenge, part).0;
         first = points::stepped(&sums, first, j + 1);
     }
 }

@@ -13,18 +13,20 @@ use Rattle.word_fold.proofs.fill_cosets.Goals as goal
 pub loop-j-init : goal.loop-j-init
 loop-j-init c =
     let a = c.args in
-    let h = a.halvings in (
-      filled_start (coset_values h.inverses.now h.span.now a.moved.0 a.upper.now a.word.now) a.values.now,
-      λ l. sym (point_first a.moved.0 a.upper.now),
+    let h = a.halvings in
+    let moved = sum a.offset.0 a.challenge.0 in (
+      filled_start (coset_values h.inverses.now h.span.now moved a.upper.now a.word.now) a.values.now,
+      λ l. sym (point_first a.offset.0 a.upper.now),
     )
 
 pub loop-j-preserved : goal.loop-j-preserved
 loop-j-preserved c =
     let a = c.args in
     let h = a.halvings in
-    let due = coset_values h.inverses.now h.span.now a.moved.0 a.upper.now a.word.now in
+    let moved = sum a.offset.0 a.challenge.0 in
+    let due = coset_values h.inverses.now h.span.now moved a.upper.now a.word.now in
     let as_many : length due ≡ length a.values.now =
-    length-coset_values h.inverses.now h.span.now a.moved.0 a.upper.now a.word.now ∙ sym c.requires.1 in
+    length-coset_values h.inverses.now h.span.now moved a.upper.now a.word.now ∙ sym c.requires.1 in
     let l = c.loop-j in
     let below : l.j < length a.values.now = omega arith in
     let m = length h.span.now in
@@ -33,20 +35,21 @@ loop-j-preserved c =
       ap (λ (held : List ℕ). set held l.j c.value_at.result.0) l.invariant.0
           ∙ filled_next due a.values.now l.j c.value_at.result.0 below as_many
           (c.value_at.ensures
-          ∙ coset_values_at h.inverses.now h.span.now a.moved.0 a.upper.now a.word.now l.j l.first.0
+          ∙ coset_values_at h.inverses.now h.span.now a.offset.0 a.challenge.0 a.upper.now a.word.now l.j l.first.0
           (take (l.j * m + m - l.j * m) (drop (l.j * m) a.word.now)) inside first
           (lent_part (l.j * m) m a.word.now)),
       λ more. c.stepped-first.ensures
           ∙ ap (λ (sums : List ℕ). sum l.first.0 (get_or sums (count_trailing_zeros 64 (l.j + 1)) 0))
           c.prefix_sums-sums.ensures
-          ∙ point_stepped a.moved.0 a.upper.now l.j l.first.0 c.requires.0 first (omega (arith, c.requires.1)),
+          ∙ point_stepped a.offset.0 a.upper.now l.j l.first.0 c.requires.0 first (omega (arith, c.requires.1)),
     )
 
 pub returns : goal.returns
 returns c =
     let a = c.args in
     let h = a.halvings in
-    let due = coset_values h.inverses.now h.span.now a.moved.0 a.upper.now a.word.now in
+    let moved = sum a.offset.0 a.challenge.0 in
+    let due = coset_values h.inverses.now h.span.now moved a.upper.now a.word.now in
     let as_many : length due ≡ length a.values.now =
-    length-coset_values h.inverses.now h.span.now a.moved.0 a.upper.now a.word.now ∙ sym c.requires.1 in
+    length-coset_values h.inverses.now h.span.now moved a.upper.now a.word.now ∙ sym c.requires.1 in
     c.loop-j.invariant.0 ∙ filled_all due a.values.now c.loop-j.j (omega arith) as_many

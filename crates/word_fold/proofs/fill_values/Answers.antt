@@ -12,8 +12,7 @@ use Rattle.coset.proofs.Sizes.{size_shifted}
 use Rattle.fold.specs.Theorems.{IsWord}
 use Rattle.fold.proofs.AllCosets.{Ready, length_span_taken, length_upper, cosets_fit}
 use Rattle.fold.proofs.AllCosets.{entries_fit}
-use Rattle.fold.proofs.AllCosets.{upper_of, all_cosets}
-use Rattle.fold.specs.Halving.{coset_values}
+use Rattle.fold.proofs.AllCosets.{all_cosets}
 use borrow.Author.Rules.{rules}
 use native.Mathlib.Omega.{arith}
 use Rattle.word_fold.proofs.fill_values.Goals as goal
@@ -102,8 +101,5 @@ returns c =
     in
     let a = c.args in
     c.fill_cosets.ensures
-    ∙ ap (λ (moved : ℕ). coset_values (take (length a.elements.now) c.inverses_of-inverses.result)
-    (take (1 * 2 ^ length a.elements.now % 2 ^ 64) c.span_of-span.result) moved
-    (upper_of a.elements.now a.coset.basis.now) a.word.now) c.sum-moved.ensures
     ∙ all_cosets (ready at) a.coset.offset.0 a.word.now a.challenge.0 is_word
     challenged

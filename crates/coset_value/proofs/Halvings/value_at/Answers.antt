@@ -1,37 +1,30 @@
--- `Halvings::value_at` meets its contract: a coset of 2, 4 or 8 points is halved until a line is left. Assumes nothing.
-use Rattle.std.proofs.Common.{◌∙◌, arith, ℕ, List, map, get_or}
-use mathlib.Core.Path.{ap₂}
+-- `Halvings::value_at` meets its contract. Assumes nothing.
+use Rattle.std.proofs.Common.{◌∙◌, ap, arith, ◌≤◌, length, map}
+use lib.Pow.{pow_mono}
 use Rattle.gf64.specs.Field.{sum}
-use Rattle.fold.specs.Halving.{halved_points, halved_entries}
-use Rattle.coset_value.proofs.Cosets.{line_of, value_of_2, value_of_4, value_of_8}
+use Rattle.fold.specs.Halving.{value_at}
+use Rattle.coset_value.specs.declared.Coset.{Coset}
+use Rattle.coset_value.specs.declared.Halvings.{Halvings}
+use Rattle.coset_value.specs.Cosets.{numbers}
+use Rattle.coset_value.proofs.Cosets.{value_read}
 use Rattle.coset_value.proofs.Halvings.value_at.Goals as goal
 
-pub returns-in-1 : goal.returns-in-1
-returns-in-1 c =
-    let h = c.args.self in
-    c.line.ensures
-    ∙ ap₂ (line_of (get_or h.inverses.now 0 0)) c.read.ensures.0 c.read.ensures.1
-    ∙ value_of_2 h.inverses.now (map (sum c.args.moved.0) h.span.now) c.args.part.now (omega arith)
+few_points : (h : Halvings) → length h.span.now ≤ 8
+few_points h = omega (arith, h.span_fits, pow_mono {i = length h.inverses.now} {j = 3} h.few)
 
-pub returns-in-2 : goal.returns-in-2
-returns-in-2 c =
-    let h = c.args.self in
-    let is = h.inverses.now in
-    c.line-in-2.ensures
-    ∙ ap₂ (line_of (get_or is 1 0)) c.halved.ensures.0 c.halved.ensures.1
-    ∙ ap₂ (λ (ps es : List ℕ). line_of (get_or is 1 0) (halved_points 2 ps) (halved_entries (get_or is 0 0) 2 ps es))
-    c.read-in-2.ensures.0 c.read-in-2.ensures.1
-    ∙ value_of_4 is (map (sum c.args.moved.0) h.span.now) c.args.part.now (omega arith)
+pub read-requires : goal.read-requires
+read-requires c = (few_points c.args.self, c.requires)
 
-pub returns-in_default : goal.returns-in_default
-returns-in_default c =
+pub value_at-requires : goal.value_at-requires
+value_at-requires c =
     let h = c.args.self in
-    let is = h.inverses.now in
-    c.line-in_default.ensures
-    ∙ ap₂ (line_of (get_or is 2 0)) c.halved-in_default-2.ensures.0 c.halved-in_default-2.ensures.1
-    ∙ ap₂ (λ (ps es : List ℕ). line_of (get_or is 2 0) (halved_points 2 ps) (halved_entries (get_or is 1 0) 2 ps es))
-    c.halved-in_default.ensures.0 c.halved-in_default.ensures.1
-    ∙ ap₂ (λ (ps es : List ℕ). line_of (get_or is 2 0) (halved_points 2 (halved_points 4 ps))
-    (halved_entries (get_or is 1 0) 2 (halved_points 4 ps) (halved_entries (get_or is 0 0) 4 ps es)))
-    c.read-in_default.ensures.0 c.read-in_default.ensures.1
-    ∙ value_of_8 is (map (sum c.args.moved.0) h.span.now) c.args.part.now (omega arith)
+    (h.some, h.few, ap (λ (r : Coset). r.count) c.read.ensures ∙ h.span_fits)
+
+pub returns : goal.returns
+returns c =
+    let a = c.args in
+    let h = a.self in
+    c.value_at.ensures
+    ∙ ap (λ (r : Coset). value_at h.inverses.now (map (sum a.challenge.0) (numbers r.points)) (numbers r.entries))
+    c.read.ensures
+    ∙ value_read h.inverses.now a.challenge.0 h.span.now a.first.0 a.part.now h.span_fits (few_points h)

@@ -67,7 +67,6 @@ returns c =
     let here = c.args.here in
     let size = size_is step c.requires.1 in
     c.value_at.ensures
-    ∙ ap₂ (λ (p n : ℕ). value_at (take step c.args.self.inverses) (map (sum p) (take n span)) c.args.part.now)
-    (c.sum-moved.ensures
-    ∙ ap (sum x) (c.sum-first.ensures ∙ ap (λ (n : ℕ). sum here.point.0 (get_or span (here.index % n) 0)) size))
+    ∙ ap₂ (λ (p n : ℕ). value_at (take step c.args.self.inverses) (map (sum (sum x p)) (take n span)) c.args.part.now)
+    (c.sum-first.ensures ∙ ap (λ (n : ℕ). sum here.point.0 (get_or span (here.index % n) 0)) size)
     size
