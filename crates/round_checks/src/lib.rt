@@ -6,7 +6,7 @@ ghost use Rattle.std.specs.Prelude.{◌≡◌, ◌≢◌, true, List, ℕ, ◌+�
 ghost use Rattle.poly.specs.Polynomial.{All};
 ghost use Rattle.coset.specs.Span.{Independent};
 ghost use Rattle.coset.specs.Steps.{step_elements};
-ghost use Rattle.fri.specs.Rounds.{value_computed, value_found, failing_round};
+ghost use Rattle.fri.specs.Rounds.{value_computed, value_found};
 ghost use Rattle.fri.specs.Judge.{checks_outcome, verdict_of};
 ghost use Rattle.layout.specs.declared.Parameters.{Parameters};
 ghost use Rattle.layout.specs.Parameters.{steps_by};
@@ -241,23 +241,6 @@ impl<'a, L: Layers> Judging<'a, L> {
         }
     }
 
-    // The first round whose check fails for the query at index j.
-    fn failing_round(&self, j: u64) -> Option<usize>
-        requires { j < 2 ^ self.now.sent.shape.parameters.k }
-        ensures { let run = run_sent self.now.sent (L.word self.now.layers) (L.store self.now.layers) in
-            result ≡ failing_round run j }
-    {
-        let mut here = self.first(j);
-        for i in 0..self.count {
-            let (check, next) = self.check(i, here);
-            if check.computed != check.found {
-                return Some(i);
-            }
-            here = next;
-        }
-        None
-    }
-
     // The round checks, lowest query first, then lowest round, up to the first that fails. Up to that round a query
     // has read a coset in each, and, for the value found, one in the next, if there is one.
     pub fn verdict(&self) -> Verdict
@@ -266,15 +249,18 @@ impl<'a, L: Layers> Judging<'a, L> {
     {
         let mut answer = Ok(());
         let mut cosets: usize = 0;
-        for (query, j) in self.sent.queries.iter().enumerate() {
-            match self.failing_round(*j) {
-                Some(round) => {
+        'queries: for (query, j) in self.sent.queries.iter().enumerate() {
+            let mut here = self.first(*j);
+            for round in 0..self.count {
+                let (check, next) = self.check(round, here);
+                if check.computed != check.found {
                     answer = Err(Cause::RoundCheckFails { query, round });
                     cosets += (round + 2).min(self.count);
-                    break;
+                    break 'queries;
                 }
-                None => cosets += self.count,
+                here = next;
             }
+            cosets += self.count;
         }
         let reads = (cosets << self.sent.shape.parameters.step) as u64;
         Verdict { answer, reads }
