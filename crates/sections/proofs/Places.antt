@@ -2,15 +2,14 @@
 use mathlib.Core.Path.{◌≡◌, refl, sym, ap, ◌∙◌}
 use mathlib.Core.List.{List}
 use Prim.Native.Nat.{ℕ, suc, ◌+◌, ◌*◌, ◌^◌, ◌≤◌, ◌<◌}
-use native.Mathlib.Numerals.{add-one}
 use native.Mathlib.Omega.{arith}
-use lib.ListN.{get_or, drop}
+use lib.ListN.{get_or}
 use Rattle.std.specs.Prelude.{Ok}
 use Rattle.refusal.specs.Checks.{and_then}
 use Rattle.fri.specs.Layout.{dimension}
-use Rattle.transcript.specs.Numerals.{entry_at, entries_at}
+use Rattle.transcript.specs.Numerals.{entry_at}
 use Rattle.transcript.specs.Sections.{section_start, section_count, section_entries, layer_section, transcript_k}
-use Rattle.transcript.specs.Sections.{transcript_steps, run_in}
+use Rattle.transcript.specs.Sections.{transcript_steps}
 use Rattle.transcript.specs.Checks.{due_outcome, layers_from}
 use Rattle.sections.specs.Views.{EachByte}
 use Rattle.transcript.proofs.Numerals.{entry_of, count_fits, are_bytes}
@@ -51,18 +50,6 @@ module _ (bytes : List ℕ) where
         sym
         (entry_of bytes (section_start bytes 1 + 4) (section_count bytes 1) i (omega (arith, three))
         ∙ ap (entry_at bytes) same)
-
-  -- ---- section 2
-
-  -- the basis is what follows the offset
-  pub basis_is : (k : ℕ) → section_count bytes 2 ≡ k + 1
-      → entries_at bytes (section_start bytes 2 + 12) k ≡ (run_in bytes).basis
-  unfolding entries_at
-  basis_is k e =
-      let same : section_start bytes 2 + 4 + 8 ≡ section_start bytes 2 + 12 = omega arith in
-      sym
-      (ap (λ (n : ℕ). drop 1 (entries_at bytes (section_start bytes 2 + 4) n)) (e ∙ add-one k)
-      ∙ ap (λ (a : ℕ). entries_at bytes a k) same)
 
   -- ---- the layers
 
