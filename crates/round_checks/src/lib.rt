@@ -2,7 +2,7 @@
 // for each round, before the queries, and a query's way through the layers, wherever these lie.
 #![tactic(auto)]
 
-ghost use Rattle.std.specs.Prelude.{◌≡◌, ◌≢◌, true, List, ℕ, ◌+◌, ◌^◌, ◌≤◌, ◌<◌, length, get_or};
+ghost use Rattle.std.specs.Prelude.{◌≡◌, ◌≢◌, eqb, List, ℕ, ◌+◌, ◌^◌, ◌≤◌, ◌<◌, length, get_or};
 ghost use Rattle.poly.specs.Polynomial.{All};
 ghost use Rattle.coset.specs.Span.{Independent};
 ghost use Rattle.coset.specs.Steps.{step_elements};
@@ -64,6 +64,14 @@ pub struct QueryPoint {
 pub struct RoundCheck {
     pub computed: Element,
     pub found: Element,
+}
+
+impl RoundCheck {
+    pub fn passes(self) -> bool
+        ensures { result ≡ eqb self.computed.0 self.found.0 }
+    {
+        self.computed == self.found
+    }
 }
 
 // All that is there before the queries.
@@ -253,7 +261,7 @@ impl<'a, L: Layers> Judging<'a, L> {
             let mut here = self.first(*j);
             for round in 0..self.count {
                 let (check, next) = self.check(round, here);
-                if check.computed != check.found {
+                if !check.passes() {
                     answer = Err(Cause::RoundCheckFails { query, round });
                     cosets += (round + 2).min(self.count);
                     break 'queries;

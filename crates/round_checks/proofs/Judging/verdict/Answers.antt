@@ -9,7 +9,7 @@ use Rattle.fri.specs.declared.Verdict.{Verdict}
 use Rattle.round_checks.proofs.Judged.{query_inside, cosets_few, one_more, accepted, refused}
 use Rattle.round_checks.proofs.Passing.{fails, goes_on, all_pass}
 use Rattle.round_checks.proofs.Judging.verdict.Goals as goal
-use Rattle.round_checks.proofs.Judging.verdict.Goals.{else-queries-test, then-queries-test+then-loop-round-test+then-ne}
+use Rattle.round_checks.proofs.Judging.verdict.Goals.{else-queries-test, then-queries-test+then-loop-round-test+then-not-passes}
 
 pub check-requires-clause-reached : goal.check-requires-clause-reached
 check-requires-clause-reached g c =
@@ -35,7 +35,7 @@ loop-round-preserved g c =
       earlier = c.loop-round.invariant.earlier;
       here =
           goes_on c.loop-round.invariant.here (c.check.ensures (get_or judging.sent.queries.now c.queries.query 0))
-          (query_inside judging.prepared c.queries.query) c.ne.ensures c.if-ne.false;
+          (query_inside judging.prepared c.queries.query) c.passes.ensures c.if-not-passes.false;
     }
 
 pub overflow_add-cosets-in-queries : goal.overflow_add-cosets-in-queries
@@ -59,11 +59,11 @@ returns g c =
           ap₂ {C = Verdict} (λ (a : Outcome) (n : ℕ). record { answer = a; reads = n * 2 ^ step % 2 ^ 64 })
           (w.answer-is ∙ c.queries.invariant.0) w.cosets-is
           ∙ accepted judging.prepared c.queries.invariant.1 w.queries-test.false
-      | then-queries-test+then-loop-round-test+then-ne w ↦
+      | then-queries-test+then-loop-round-test+then-not-passes w ↦
           ap₂ {C = Verdict} (λ (a : Outcome) (n : ℕ). record { answer = a; reads = n * 2 ^ step % 2 ^ 64 })
           w.answer-is (w.cosets-is ∙ ap (λ (n : ℕ). w.loop-round.cosets + n) w.min-cosets.ensures)
           ∙ refused judging.prepared w.loop-round.invariant.earlier.1 w.queries-test.true
           (fails w.loop-round.invariant.here (w.check.ensures (get_or judging.sent.queries.now c.queries.query 0))
-          (query_inside judging.prepared c.queries.query) w.ne.ensures
-          (omega (arith, judging.prepared.count_is, w.loop-round-test.true)) w.if-ne.true)
+          (query_inside judging.prepared c.queries.query) w.passes.ensures
+          (omega (arith, judging.prepared.count_is, w.loop-round-test.true)) w.if-not-passes.true)
     ]
