@@ -33,7 +33,8 @@ pub enum Cause {
     RoundCheckFails { query: usize, round: usize },
     // 12: layer r has degree d or more; that degree
     DegreeTooLarge { degree: usize },
-    // 13: a lent list has the wrong length; that list
+    // 13: a lent list has the wrong length: 1 basis, 2 challenges, 3 word or encoder coefficients, 4 store, 5 last
+    // coefficients, 6 output values, 7 next basis, 8 bytes of a transcript
     WrongLength { list: Lent },
     // 14: the program's input has over 65,536 bytes
     InputTooLong,
