@@ -115,7 +115,7 @@ impl Coset {
 // What a coset of 2, 4 or 8 points is halved by: the inverses of the elements e of the step's maps X · (X - e), one for
 // each halving (`Halvings.entry`), and the span, by whose entries its points differ from the first.
 #[derive(Clone, Copy)]
-pub struct Halvings<'a> {
+pub struct FoldStep<'a> {
     pub inverses: &'a [u64],
     pub span: &'a [u64],
     pub ghost some: { 1 ≤ length inverses.now },
@@ -123,7 +123,7 @@ pub struct Halvings<'a> {
     pub ghost span_fits: { length span.now ≡ 2 ^ length inverses.now },
 }
 
-impl<'a> Halvings<'a> {
+impl<'a> FoldStep<'a> {
     // The value at the challenge of the polynomial with these entries, where the coset's first point is given.
     pub fn value_at(self, first: Element, challenge: Element, part: &[u64]) -> Element
         requires { length part.now ≡ length self.span.now }

@@ -17,7 +17,7 @@ ghost use Rattle.std.proofs.Props.{props};
 
 pub mod sent;
 
-use coset_value::Halvings;
+use coset_value::FoldStep;
 use field::Element;
 use fri::Verdict;
 use layer_cosets::LayerCoset;
@@ -139,11 +139,11 @@ impl Round {
         let inverses = self.inverses;
         let between = span[here.index % size];
         let first = here.point.sum(Element(between));
-        let halvings = Halvings {
+        let fold_step = FoldStep {
             inverses: &inverses[..step],
             span: &span[..size],
         };
-        halvings.value_at(first, self.challenge, part)
+        fold_step.value_at(first, self.challenge, part)
     }
 }
 

@@ -7,7 +7,7 @@ ghost use Rattle.fold.specs.Fold.{folded};
 ghost use Rattle.fold.specs.Halving.{coset_values};
 ghost use Rattle.word_fold.specs.Fitting.{WordFits};
 
-use coset_value::Halvings;
+use coset_value::FoldStep;
 use field::Element;
 use points::Coset;
 
@@ -28,12 +28,12 @@ pub fn fill_values(
     let size = 1 << step;
     let inverses = coset_value::inverses_of(elements);
     let span = coset_value::span_of(&coset.basis[..step]);
-    let halvings = Halvings {
+    let fold_step = FoldStep {
         inverses: &inverses[..step],
         span: &span[..size],
     };
     fill_cosets(
-        halvings,
+        fold_step,
         coset.offset,
         &coset.basis[step..],
         word,
@@ -45,7 +45,7 @@ pub fn fill_values(
 // One value for each coset. The upper basis is that from the step's place on, over which the cosets' first points go,
 // from the offset on.
 fn fill_cosets(
-    halvings: Halvings<'_>,
+    fold_step: FoldStep<'_>,
     offset: Element,
     upper: &[u64],
     word: &[u64],
@@ -53,18 +53,18 @@ fn fill_cosets(
     values: &mut [u64],
 )
     requires { (length upper.now ≤ 20) × (length values.old ≡ 2 ^ length upper.now)
-        × (length word.now ≡ 2 ^ length upper.now * length halvings.span.now) }
-    ensures { let h = halvings.entry in
+        × (length word.now ≡ 2 ^ length upper.now * length fold_step.span.now) }
+    ensures { let h = fold_step.entry in
         let moved = sum offset.0 challenge.0 in
         values.new ≡ coset_values h.inverses.now h.span.now moved upper.now word.now }
 {
     let sums = points::prefix_sums(upper);
-    let size = halvings.span.len();
+    let size = fold_step.span.len();
     let mut first = offset;
     for j in 0..values.len() {
         let start = j * size;
         let part = &word[start..start + size];
-        values[j] = halvings.value_at(first, challenge, part).0;
+        values[j] = fold_step.value_at(first, challenge, part).0;
         first = points::stepped(&sums, first, j + 1);
     }
 }

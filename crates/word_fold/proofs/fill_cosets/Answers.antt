@@ -13,7 +13,7 @@ use Rattle.word_fold.proofs.fill_cosets.Goals as goal
 pub loop-j-init : goal.loop-j-init
 loop-j-init c =
     let a = c.args in
-    let h = a.halvings in
+    let h = a.fold_step in
     let moved = sum a.offset.0 a.challenge.0 in (
       filled_start (coset_values h.inverses.now h.span.now moved a.upper.now a.word.now) a.values.now,
       λ l. sym (point_first a.offset.0 a.upper.now),
@@ -22,7 +22,7 @@ loop-j-init c =
 pub loop-j-preserved : goal.loop-j-preserved
 loop-j-preserved c =
     let a = c.args in
-    let h = a.halvings in
+    let h = a.fold_step in
     let moved = sum a.offset.0 a.challenge.0 in
     let due = coset_values h.inverses.now h.span.now moved a.upper.now a.word.now in
     let as_many : length due ≡ length a.values.now =
@@ -47,7 +47,7 @@ loop-j-preserved c =
 pub returns : goal.returns
 returns c =
     let a = c.args in
-    let h = a.halvings in
+    let h = a.fold_step in
     let moved = sum a.offset.0 a.challenge.0 in
     let due = coset_values h.inverses.now h.span.now moved a.upper.now a.word.now in
     let as_many : length due ≡ length a.values.now =

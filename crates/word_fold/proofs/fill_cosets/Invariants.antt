@@ -9,7 +9,7 @@ use Rattle.word_fold.proofs.fill_cosets.Given as goal
 
 abbrev pub invariant-loop-j : goal.invariant-loop-j
 invariant-loop-j l =
-    let h = l.halvings in
+    let h = l.fold_step in
     let moved = sum l.initial.first.0 l.challenge.0 in
     (l.values ≡ filled (coset_values h.inverses.now h.span.now moved l.upper l.word) l.initial.values l.j)
     × (l.j < length l.initial.values → l.first.0 ≡ point l.initial.first.0 l.upper l.j)

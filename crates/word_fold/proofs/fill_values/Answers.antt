@@ -65,15 +65,15 @@ slice_bounds-span-end c =
     let few = pow_mono {i = length c.args.elements.now} {j = 3} c.requires.step.few in
     omega (arith, eight at, (ready at).sized, few)
 
-pub slice_bounds-halvings-end-2 : goal.slice_bounds-halvings-end-2
-slice_bounds-halvings-end-2 c =
-    let at = (goal.at.slice_bounds-halvings-end-2 c).After-span_of-span in
+pub slice_bounds-fold_step-end-2 : goal.slice_bounds-fold_step-end-2
+slice_bounds-fold_step-end-2 c =
+    let at = (goal.at.slice_bounds-fold_step-end-2 c).After-span_of-span in
     let r = ready at in
     r.sized ∙ sym (length_span_taken r)
 
-pub invariant_of-halvings : goal.invariant_of-halvings
-invariant_of-halvings c =
-    let at = (goal.at.invariant_of-halvings c).After-span_of-span in
+pub invariant_of-fold_step : goal.invariant_of-fold_step
+invariant_of-fold_step c =
+    let at = (goal.at.invariant_of-fold_step c).After-span_of-span in
     let fit = cosets_fit (ready at) in record { some = fit.some; few = fit.few; span_fits = fit.span_fits }
 
 pub fill_cosets-requires : goal.fill_cosets-requires

@@ -38,13 +38,13 @@ slice_bounds-span-end c =
     let eight : length c.args.self.span ≡ 8 = search rules in
     omega (arith, eight, size_eight c.args.step c.requires.1)
 
-pub slice_bounds-halvings-end-2 : goal.slice_bounds-halvings-end-2
-slice_bounds-halvings-end-2 c =
+pub slice_bounds-fold_step-end-2 : goal.slice_bounds-fold_step-end-2
+slice_bounds-fold_step-end-2 c =
     let eight : length c.args.self.span ≡ 8 = search rules in
     sym (span-lent c.args.step c.args.self.span c.requires.1 eight)
 
-pub invariant_of-halvings : goal.invariant_of-halvings
-invariant_of-halvings c =
+pub invariant_of-fold_step : goal.invariant_of-fold_step
+invariant_of-fold_step c =
     let eight : length c.args.self.span ≡ 8 = search rules in
     let three : length c.args.self.inverses ≡ 3 = search rules in
     let taken = inverses-lent c.args.step c.args.self.inverses c.requires.1 three in

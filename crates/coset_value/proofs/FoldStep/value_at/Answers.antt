@@ -1,15 +1,15 @@
--- `Halvings::value_at` meets its contract. Assumes nothing.
+-- `FoldStep::value_at` meets its contract. Assumes nothing.
 use Rattle.std.proofs.Common.{◌∙◌, ap, arith, ◌≤◌, length, map}
 use lib.Pow.{pow_mono}
 use Rattle.gf64.specs.Field.{sum}
 use Rattle.fold.specs.Halving.{value_at}
 use Rattle.coset_value.specs.declared.Coset.{Coset}
-use Rattle.coset_value.specs.declared.Halvings.{Halvings}
+use Rattle.coset_value.specs.declared.FoldStep.{FoldStep}
 use Rattle.coset_value.specs.Cosets.{numbers}
 use Rattle.coset_value.proofs.Cosets.{value_read}
-use Rattle.coset_value.proofs.Halvings.value_at.Goals as goal
+use Rattle.coset_value.proofs.FoldStep.value_at.Goals as goal
 
-few_points : (h : Halvings) → length h.span.now ≤ 8
+few_points : (h : FoldStep) → length h.span.now ≤ 8
 few_points h = omega (arith, h.span_fits, pow_mono {i = length h.inverses.now} {j = 3} h.few)
 
 pub read-requires : goal.read-requires
