@@ -54,9 +54,6 @@ loop-t-preserved c =
           ∙ l.invariant.2,
     )
 
-pub line-requires : goal.line-requires
-line-requires c = omega arith
-
 pub returns : goal.returns
 returns c =
     let start = c in

@@ -15,11 +15,6 @@ few_points h = omega (arith, h.span_fits, pow_mono {i = length h.inverses.now} {
 pub read-requires : goal.read-requires
 read-requires c = (few_points c.args.self, c.requires)
 
-pub value_at-requires : goal.value_at-requires
-value_at-requires c =
-    let h = c.args.self in
-    (h.some, h.few, ap (λ (r : Coset). r.count) c.read.ensures ∙ h.span_fits)
-
 pub returns : goal.returns
 returns c =
     let a = c.args in
