@@ -3,6 +3,7 @@ use mathlib.Core.Path.{◌≡◌, refl, sym, ap, ◌∙◌}
 use mathlib.Core.List.{List, [], ◌∷◌, map}
 use Prim.Native.Nat.{ℕ, zero, suc, ◌+◌, ◌<◌, ◌≤◌}
 use lib.ListN.{length, get_or, set, replicate, get_or-map, length-map}
+use Rattle.std.proofs.lemmas.List.{map-set}
 use Rattle.poly.specs.Carrier.{gf64}
 use Rattle.poly.specs.Polynomial.{padded}
 use Rattle.poly.proofs.Filling.{filled, filled_start, padded_next, filled_padded}
@@ -21,6 +22,10 @@ length-numbers es = length-map es (λ (e : Element). e.0)
 pub number_at : (es : List Element) (i : ℕ) → (get_or es i (element 0)).0 ≡ get_or (numbers es) i 0
 unfolding numbers
 number_at es i = sym (get_or-map (λ (e : Element). e.0) es i (element 0))
+
+pub numbers_set : (es : List Element) (i : ℕ) (e : Element) → numbers (set es i e) ≡ set (numbers es) i e.0
+unfolding numbers
+numbers_set es i e = map-set (λ (e : Element). e.0) es i e
 
 set-element : (l : List ℕ) (i : ℕ) (e : Element) → set (elements l) i e ≡ elements (set l i e.0)
 unfolding elements

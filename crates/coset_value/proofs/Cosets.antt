@@ -152,22 +152,6 @@ module _ (inverses : List ℕ) where
 -- ---- points that are moved by the challenge
 
 module _ (inverses : List ℕ) (x : ℕ) where
-  -- those in use, as `moved` has them
-  pub value_moved : (points entries : List ℕ) (count : ℕ) → count ≡ 2 ^ length inverses → count ≤ length points
-      → value_at inverses (numbers (elements (padded gf64 8 (map (sum x) (take count points))))) entries
-      ≡ value_at inverses (map (sum x) points) entries
-  value_moved points entries count n fits =
-      ap (λ (ps : List ℕ). value_at inverses ps entries) (numbers_of (padded gf64 8 (map (sum x) (take count points))))
-      ∙ value_same inverses (padded gf64 8 (map (sum x) (take count points))) (map (sum x) points) entries entries
-      (λ i h. at i (omega arith)) (λ i h. refl)
-    where
-      at : (i : ℕ) → i < count
-          → get_or (padded gf64 8 (map (sum x) (take count points))) i 0 ≡ get_or (map (sum x) points) i 0
-      at i h =
-          get_or-padded 8 (map (sum x) (take count points)) i
-          ∙ get_d_map (sum x) (take count points) i (omega (arith, length-take-le count points fits))
-          ∙ ap (sum x) (get_or-take count points i 0 h) ∙ sym (get_d_map (sum x) points i (omega arith))
-
   -- the value of a coset that was read: its first point is moved, and with it every point
   pub value_read : (span : List ℕ) (first : ℕ) (part : List ℕ) → length span ≡ 2 ^ length inverses → length span ≤ 8
       → value_at inverses (map (sum x) (numbers (coset_read span first part).points))

@@ -4,7 +4,7 @@
 // halved points are moved as well, by the image of the challenge, and no halving needs the challenge itself.
 #![tactic(auto)]
 
-ghost use Rattle.std.specs.Prelude.{◌≡◌, ◌≢◌, map, suc, ◌*◌, ◌/◌, ◌^◌, ◌≤◌, length, get_or, take};
+ghost use Rattle.std.specs.Prelude.{◌≡◌, ◌≢◌, map, suc, ◌*◌, ◌/◌, ◌^◌, ◌≤◌, length, get_or};
 ghost use Rattle.gf64.specs.Field.{sum, inverse};
 ghost use Rattle.poly.specs.Carrier.{gf64};
 ghost use Rattle.poly.specs.Polynomial.{All, padded};
@@ -57,29 +57,24 @@ impl Coset {
         coset.line(0, Element(inverses[last]))
     }
 
-    // Each point becomes its sum with the challenge.
+    // Each point becomes its sum with the challenge. Those behind the count do too: no value depends on them.
     fn moved(self, challenge: Element) -> Coset
-        requires { self.count ≤ 8 }
-        ensures { let moved = map (sum challenge.0) (take self.count (numbers self.points)) in
-            result ≡ record { points = elements (padded gf64 8 moved); entries = self.entries; count = self.count } }
+        ensures points { numbers result.points ≡ map (sum challenge.0) (numbers self.points) }
+        ensures others { (result.entries ≡ self.entries) × (result.count ≡ self.count) }
     {
-        let mut points = [Element::ZERO; 8];
-        for i in 0..self.count {
-            points[i] = challenge.sum(self.points[i]);
+        let mut points = self.points;
+        for point in points.iter_mut() {
+            *point = challenge.sum(*point);
         }
-        Coset {
-            points,
-            entries: self.entries,
-            count: self.count,
-        }
+        Coset { points, ..self }
     }
 
     // One entry for each two neighbours, at their images under X · (X - e), where e is the difference of the two.
-    fn halved(self, inverse: Element) -> Coset
-        requires { self.count ≤ 8 }
-        ensures { let half = self.count / 2 in
-            let points = numbers self.points in
-            let entries = numbers self.entries in
+    fn halved(&self, inverse: Element) -> Coset
+        requires { self.now.count ≤ 8 }
+        ensures { let half = self.now.count / 2 in
+            let points = numbers self.now.points in
+            let entries = numbers self.now.entries in
             result ≡ coset_of (halved_points half points) (halved_entries inverse.0 half points entries) half }
     {
         let half = self.count / 2;
@@ -98,11 +93,11 @@ impl Coset {
 
     // The value at the challenge, or its image, of the line through points 2 i and 2 i + 1, where inverse is that of
     // their difference.
-    fn line(self, i: usize, inverse: Element) -> Element
+    fn line(&self, i: usize, inverse: Element) -> Element
         requires { i ≤ 3 }
-        ensures { let point = get_or (numbers self.points) (i * 2) 0 in
-            let u = get_or (numbers self.entries) (i * 2) 0 in
-            let v = get_or (numbers self.entries) (suc (i * 2)) 0 in
+        ensures { let point = get_or (numbers self.now.points) (i * 2) 0 in
+            let u = get_or (numbers self.now.entries) (i * 2) 0 in
+            let v = get_or (numbers self.now.entries) (suc (i * 2)) 0 in
             result.0 ≡ line_at inverse.0 point u v }
     {
         let u = self.entries[i * 2];

@@ -1,13 +1,12 @@
--- `Coset::moved` meets its contract. The loop's invariant: i moved points stand in the array, zeros follow. Assumes
--- nothing.
-use mathlib.Core.Path.{◌≡◌}
-use mathlib.Core.List.{map}
-use lib.ListN.{take}
+-- `Coset::moved` meets its contract. The loop's invariant: the first points are moved, the others as they were.
+-- Assumes nothing.
+use Rattle.std.proofs.Common.{◌≡◌, map}
 use Rattle.gf64.specs.Field.{sum}
+use Rattle.poly.proofs.Filling.{filled}
 use Rattle.coset_value.specs.Cosets.{numbers}
-use Rattle.coset_value.proofs.Arrays.{begun}
 use Rattle.coset_value.proofs.Coset.moved.Given as goal
 
-abbrev pub invariant-loop-i : goal.invariant-loop-i
-invariant-loop-i l =
-    l.points ≡ begun (map (sum l.challenge.0) (take l.self.count (numbers l.self.points))) l.i
+abbrev pub invariant-loop-point : goal.invariant-loop-point
+invariant-loop-point l =
+    let points = numbers l.self.points in
+    numbers l.point-items ≡ filled (map (sum l.challenge.0) points) points l.point-index
