@@ -1,13 +1,13 @@
 -- The coset value: equal where its three parts are; what halving it gives, what moving its points gives, and the
 -- values of the cosets one after the other. Assumes nothing.
-use mathlib.Core.Path.{◌≡◌, refl, sym, ap, ap₂, ◌∙◌}
+use mathlib.Core.Path.{◌≡◌, sym, ap, ap₂, ◌∙◌}
 use mathlib.Core.List.{List, [], ◌∷◌, map}
 use Prim.Native.Nat.{ℕ, suc, ◌+◌, ◌*◌, ◌-◌, ◌/◌, ◌^◌, ◌<◌, ◌≤◌}
 use native.Mathlib.Nat.{zero-add, pow-suc}
 use native.Mathlib.Numerals.{add-one}
 use native.Mathlib.Omega.{arith}
 use lib.ListN.{length, get_or, take, drop, length-map, length-drop, drop_of_length-le}
-use lib.Seq.{drop-cons, length-take-le, get_or-take}
+use lib.Seq.{drop-cons}
 use Rattle.gf64.specs.Field.{sum, product}
 use Rattle.gf64.proofs.Xor.{xor_assoc}
 use Rattle.poly.specs.Carrier.{gf64}

@@ -70,11 +70,11 @@ impl Coset {
     }
 
     // One entry for each two neighbours, at their images under X · (X - e), where e is the difference of the two.
-    fn halved(&self, inverse: Element) -> Coset
-        requires { self.now.count ≤ 8 }
-        ensures { let half = self.now.count / 2 in
-            let points = numbers self.now.points in
-            let entries = numbers self.now.entries in
+    fn halved(self, inverse: Element) -> Coset
+        requires { self.count ≤ 8 }
+        ensures { let half = self.count / 2 in
+            let points = numbers self.points in
+            let entries = numbers self.entries in
             result ≡ coset_of (halved_points half points) (halved_entries inverse.0 half points entries) half }
     {
         let half = self.count / 2;
@@ -93,11 +93,11 @@ impl Coset {
 
     // The value at the challenge, or its image, of the line through points 2 i and 2 i + 1, where inverse is that of
     // their difference.
-    fn line(&self, i: usize, inverse: Element) -> Element
+    fn line(self, i: usize, inverse: Element) -> Element
         requires { i ≤ 3 }
-        ensures { let point = get_or (numbers self.now.points) (i * 2) 0 in
-            let u = get_or (numbers self.now.entries) (i * 2) 0 in
-            let v = get_or (numbers self.now.entries) (suc (i * 2)) 0 in
+        ensures { let point = get_or (numbers self.points) (i * 2) 0 in
+            let u = get_or (numbers self.entries) (i * 2) 0 in
+            let v = get_or (numbers self.entries) (suc (i * 2)) 0 in
             result.0 ≡ line_at inverse.0 point u v }
     {
         let u = self.entries[i * 2];

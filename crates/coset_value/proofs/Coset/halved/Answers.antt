@@ -18,21 +18,21 @@ use Rattle.coset_value.proofs.Coset.halved.Goals as goal
 pub loop-i-init : goal.loop-i-init
 loop-i-init c =
     let a = c.args in
-    let half = a.self.now.count / 2 in
-    let points = numbers a.self.now.points in (
+    let half = a.self.count / 2 in
+    let points = numbers a.self.points in (
       refl,
       omega (arith, c.requires),
       begun_start (halved_points half points),
-      begun_start (halved_entries a.inverse.0 half points (numbers a.self.now.entries)),
+      begun_start (halved_entries a.inverse.0 half points (numbers a.self.entries)),
     )
 
 pub loop-i-preserved : goal.loop-i-preserved
 loop-i-preserved c =
     let a = c.args in
     let l = c.loop-i in
-    let half = a.self.now.count / 2 in
-    let points = numbers a.self.now.points in
-    let entries = numbers a.self.now.entries in
+    let half = a.self.count / 2 in
+    let points = numbers a.self.points in
+    let entries = numbers a.self.entries in
     let count = length-halved_points half points in
     let count' = length-halved_entries a.inverse.0 half points entries in (
       l.invariant.0,
@@ -40,8 +40,8 @@ loop-i-preserved c =
       begun_next (halved_points half points) l.points l.i c.product.result l.invariant.2
           (omega (arith, count)) (omega (arith, count, l.invariant.1))
           (c.product.ensures.value
-          ∙ ap₂ product (number_at a.self.now.points (l.i * 2))
-          (number_at a.self.now.points (l.i * 2 + 1) ∙ ap (λ (n : ℕ). get_or points n 0) (add-one (l.i * 2)))
+          ∙ ap₂ product (number_at a.self.points (l.i * 2))
+          (number_at a.self.points (l.i * 2 + 1) ∙ ap (λ (n : ℕ). get_or points n 0) (add-one (l.i * 2)))
           ∙ sym (halved_points_at half points l.i (omega arith))),
       begun_next (halved_entries a.inverse.0 half points entries) l.entries l.i c.line.result l.invariant.3
           (omega (arith, count')) (omega (arith, count', l.invariant.1))
@@ -52,9 +52,9 @@ pub returns : goal.returns
 returns c =
     let a = c.args in
     let l = c.loop-i in
-    let half = a.self.now.count / 2 in
-    let points = numbers a.self.now.points in
-    let entries = numbers a.self.now.entries in
+    let half = a.self.count / 2 in
+    let points = numbers a.self.points in
+    let entries = numbers a.self.entries in
     let count = length-halved_points half points in
     let count' = length-halved_entries a.inverse.0 half points entries in
     let lines = halved_entries a.inverse.0 half points entries in

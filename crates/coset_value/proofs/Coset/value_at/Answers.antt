@@ -1,16 +1,14 @@
 -- `Coset::value_at` meets its contract. The loop's invariant: what is left of the halvings gives the value from the
 -- coset so far. Assumes nothing.
 use mathlib.Core.Path.{◌≡◌, refl, sym, ap, ap₂, ◌∙◌}
-use Prim.Native.Nat.{ℕ, suc, ◌+◌, ◌-◌, ◌/◌, ◌^◌, ◌≤◌}
+use Prim.Native.Nat.{ℕ, suc, ◌+◌, ◌-◌, ◌/◌, ◌^◌}
 use native.Mathlib.Numerals.{add-one}
 use lib.Pow.{pow_mono}
 use lib.ListN.{length, get_or, drop}
 use Rattle.fold.specs.Halving.{line_at, value_at}
 use Rattle.coset_value.specs.declared.Coset.{Coset}
 use Rattle.coset_value.specs.Cosets.{numbers}
-use Rattle.coset_value.proofs.Arrays.{length-numbers}
 use Rattle.coset_value.proofs.Cosets.{value_next, value_last, halved_count}
-use borrow.Author.Rules.{rules}
 use native.Mathlib.Omega.{arith}
 use Rattle.coset_value.proofs.Coset.value_at.Goals as goal
 
