@@ -14,7 +14,7 @@ ghost use Rattle.coset_value.specs.Cosets.{elements, numbers, coset_of, coset_re
 
 use field::Element;
 
-// Two, four or eight points, or one in the end, with the entries there; behind the count are zeros.
+// Two, four or eight points, or one in the end, with the entries there. No value depends on what is behind the count.
 #[derive(Clone, Copy)]
 pub struct Coset {
     pub points: [Element; 8],
@@ -57,7 +57,7 @@ impl Coset {
         coset.line(0, Element(inverses[last]))
     }
 
-    // Each point becomes its sum with the challenge. Those behind the count do too: no value depends on them.
+    // Each point becomes its sum with the challenge, those behind the count as well.
     fn moved(self, challenge: Element) -> Coset
         ensures points { numbers result.points ≡ map (sum challenge.0) (numbers self.points) }
         ensures others { (result.entries ≡ self.entries) × (result.count ≡ self.count) }
