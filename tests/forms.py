@@ -4,11 +4,16 @@ tests/calls.awk and tests/local_lists.awk:
 
     function NAME
     call CALLER CALLED           for each call of a function by its name
+    uses CALLER IMPL             for each impl whose methods the caller calls, or hands to a generic function that calls them: a closure
+                                 is the impl of a trait of functions
+    method IMPL FUNCTION         for each function that is a method of an impl
     unknown CALLER               for each call of something else, and each function that is named and not called
     local NAME ELEMENTS LIST     for each local of the function that is or holds a list; ? for one that is not known
 
-A local counts with the elements of the longest list that it holds, also by the fields of structs and enums; a list of
-lists counts with all the lists that it holds. What stands behind a reference is lent, and counted where it is local.
+What a generic function calls by a bound is among what its caller uses. A local counts with the elements of the longest
+list that it holds, also by the fields of structs and enums; a list of lists counts with all the lists that it holds.
+What stands behind a reference is lent, and counted where it is local; a value of a type that is a parameter, or a list
+whose length is one, is counted where a caller has it.
 """
 import json
 import sys
@@ -18,9 +23,17 @@ class Unknown(Exception):
     pass
 
 
+def impls_in(dicts):
+    """The impls by which the bounds of a call are met."""
+    for it in dicts:
+        if list(it) == ["Impl"]:
+            yield it["Impl"][0]
+            yield from impls_in(it["Impl"][2])
+
+
 def called_in(body):
-    """The functions that are called by their names, and how many calls or names there are beside these."""
-    called, named = [], 0
+    """The functions that are called by their names, the impls used, and how many calls or names there are beside these."""
+    called, used, named = [], [], 0
     left = [body]
     while left:
         at = left.pop()
@@ -29,48 +42,69 @@ def called_in(body):
         elif isinstance(at, dict):
             for key, value in at.items():
                 if key == "Call":
-                    callee = value[0]
-                    if isinstance(callee, dict) and list(callee) == ["Fn"]:
-                        called.append(callee["Fn"][0])
-                        left.extend(reversed([callee["Fn"][1:], *value[1:]]))
+                    (word, callee), = value[0].items() if isinstance(value[0], dict) else [("", None)]
+                    if word == "Fn":
+                        called.append(callee[0])
+                        used.extend(impls_in(callee[1]["dicts"]))
+                    elif word == "Method":
+                        used.extend(impls_in([callee[0], *callee[2]["dicts"]]))
                     else:
                         named += 1
-                        left.extend(reversed(value[1:]))
+                    left.extend(reversed(value[1:]))
                 elif key == "Fn":
                     named += 1
                 else:
                     left.append(value)
-    return called, named
+    return called, used, named
 
 
-def elements(kind, shapes, in_list=False):
+def elements(kind, shapes, in_list=False, given=()):
     """The elements of the longest list in a type, or of all its lists if it stands in a list; 0 where there is none."""
     if isinstance(kind, str):
         if kind not in ("Unit", "Bool", "Ptr"):
             raise Unknown(kind)
         return 0
     (word, value), = kind.items()
-    if word in ("Int", "Float", "Ref"):
+    if word in ("Int", "Float", "Ref", "Const"):
         return 0
+    if word == "Param":
+        return elements(*given[value]) if value < len(given) else 0
     if word == "Array":
         element, size = value
-        if not isinstance(size, dict) or list(size) != ["Lit"]:
+        (how, length), = size.items()
+        if how == "Param":
+            if length >= len(given) or "Const" not in given[length][0]:
+                return 0
+            how, length = "Lit", given[length][0]["Const"]
+        if how != "Lit":
             raise Unknown("the length of a list is no number")
-        return size["Lit"] * (elements(element, shapes, True) or 1)
+        return length * (elements(element, shapes, True, given) or 1)
     if word == "Named":
         named, arguments = value
-        if arguments or named["name"] not in shapes:
-            raise Unknown(named["name"])
+        handed = [(filled(it, given), shapes, in_list) for it in arguments]
+        if named["name"] not in shapes:
+            return max([elements(*it) for it in handed], default=0)
         (form, value), = shapes[named["name"]].items()
         if form not in ("Fields", "Variants"):
             raise Unknown(form)
         parts = value if form == "Fields" else [part for variant in value for part in variant]
+        found = [elements(part, shapes, in_list, handed) for part in parts]
     elif word == "Struct":
-        parts = value[1]
+        found = [elements(part, shapes, in_list, given) for part in value[1]]
     else:
         raise Unknown(word)
-    found = [elements(part, shapes, in_list) for part in parts]
     return sum(found) if in_list else max(found, default=0)
+
+
+def filled(kind, given):
+    """A type with what stands for its parameters."""
+    if isinstance(kind, list):
+        return [filled(it, given) for it in kind]
+    if not isinstance(kind, dict):
+        return kind
+    if list(kind) == ["Param"] and kind["Param"] < len(given):
+        return given[kind["Param"]][0]
+    return {key: filled(value, given) for key, value in kind.items()}
 
 
 def shown(kind):
@@ -80,7 +114,7 @@ def shown(kind):
     if word == "Int":
         return f"u{value}"
     if word == "Array":
-        return f"[{shown(value[0])}; {value[1]['Lit']}]"
+        return f"[{shown(value[0])}; {value[1].get('Lit', 'N')}]"
     if word == "Named":
         return value[0]["name"]
     return value[0] if word == "Struct" else word
@@ -101,9 +135,14 @@ def lent_in(body):
 
 def rows_of(name, function):
     yield "function", name
-    called, named = called_in(function["body"])
+    called, used, named = called_in(function["body"])
     for other in called:
         yield "call", name, other
+    for impl in used:
+        yield "uses", name, impl
+    method_of = function["generics"]["method_of"]
+    if method_of and "Impl" in method_of:
+        yield "method", method_of["Impl"][0], name
     for _ in range(named):
         yield "unknown", name
     shapes = {it["name"]: it["shape"] for it in function["types"]}
