@@ -1,6 +1,5 @@
 -- The samples, as the reference prints them.
-use Rattle.std.specs.Prelude.{List, [], ◌∷◌}
-use Rattle.std.specs.Prelude.{Some, None}
+use Rattle.std.specs.Prelude.{List, [], ◌∷◌, Some, None}
 use Rattle.samples.specs.Samples.{LayoutSample, IndexSample, CosetSample, LookupSample}
 use Rattle.samples.specs.Samples.{JudgedSample, ProvedSample}
 

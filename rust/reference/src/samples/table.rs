@@ -6,8 +6,7 @@ use std::fmt::{self, Display, Formatter};
 
 pub(super) const HEADER: &str = "\
 -- The samples, as the reference prints them.
-use Rattle.std.specs.Prelude.{List, [], ◌∷◌}
-use Rattle.refusal.specs.declared.Position.TheVariants.{At, Absent}
+use Rattle.std.specs.Prelude.{List, [], ◌∷◌, Some, None}
 use Rattle.samples.specs.Samples.{LayoutSample, IndexSample, CosetSample, LookupSample}
 use Rattle.samples.specs.Samples.{JudgedSample, ProvedSample}
 ";
@@ -40,7 +39,7 @@ pub(super) fn number(number: impl Display) -> Value {
 }
 
 pub(super) fn position(number: Option<u64>) -> Value {
-    Value::Plain(number.map_or("Absent".to_string(), |number| format!("At {number}")))
+    Value::Plain(number.map_or("None".to_string(), |number| format!("Some {number}")))
 }
 
 pub(super) fn list<Item: Display>(items: impl IntoIterator<Item = Item>) -> Value {
