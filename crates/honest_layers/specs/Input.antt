@@ -1,8 +1,8 @@
 -- What the prover works on after the checks: the run of a claim without what the two lent lists held, since honest
 -- layers do not depend on that.
-use Rattle.std.specs.Prelude.{◌≡◌, List, [], ℕ, suc, ◌+◌, ◌^◌, ◌≤◌, length}
+use Rattle.std.specs.Prelude.{◌≡◌, List, [], ℕ, suc, ◌^◌, ◌≤◌, length, take}
 use Rattle.coset.specs.Span.{Independent}
-use Rattle.fri.specs.Layout.{dimension, layer_start, store_length}
+use Rattle.fri.specs.Layout.{dimension, layer_start, store_length, joined_layers}
 use Rattle.fri.specs.Run.{Run, steps_in, rounds_in}
 use Rattle.fri.specs.Layers.{basis_in, offset_in, honest_layer}
 use Rattle.fri.specs.Demand.{ValidParameters}
@@ -37,13 +37,17 @@ module _ (claim : Claim) where
     pub last_fits : last ≡ 2 ^ dimension run.k (steps_in run) (rounds_in run)
     pub independent : Independent run.basis
 
-  -- layer i with its coset, i < r, and as many entries in the rest of the store as come behind it
-  pub record LayerAt (i : ℕ) (coset : LayerCoset) (layer : List ℕ) (rest last : ℕ) : Type 0 where
+  -- layers 1 to i, i < r, joined, and the coset of layer i
+  pub record Joined (i offset : ℕ) (basis joined : List ℕ) : Type 0 where
     pub claim_fits : Sound
+    pub word : length run.word ≡ 2 ^ run.k
     pub round : suc i ≤ rounds_in run
-    pub coset_is : coset ≡ coset_in run i
-    pub independent : Independent coset.basis
-    pub layer_is : layer ≡ honest_layer run i
-    pub layer_fits : length layer ≡ 2 ^ dimension run.k (steps_in run) i
-    pub rest_fits : layer_start run.k (steps_in run) (suc i) + rest ≡ store_length run.k (steps_in run)
-    pub last_fits : last ≡ 2 ^ dimension run.k (steps_in run) (rounds_in run)
+    pub offset_is : offset ≡ offset_in run i
+    pub basis_is : basis ≡ basis_in run i
+    pub joined_is : joined ≡ joined_layers (honest_layer run) i
+
+  -- and where they stand in front of the store, layer i + 1 due from `start` on
+  pub record Filled (i offset : ℕ) (basis : List ℕ) (start : ℕ) (store : List ℕ) : Type 0 where
+    pub joined : Joined i offset basis (take start store)
+    pub start_is : start ≡ layer_start run.k (steps_in run) (suc i)
+    pub store_fits : length store ≡ store_length run.k (steps_in run)

@@ -1,13 +1,13 @@
 // The layers of a prover: the word folded at one challenge after the other.
 #![tactic(auto)]
 
-ghost use Rattle.std.specs.Prelude.{◌≡◌, ◌++◌, ◌-◌, ◌^◌, ◌≤◌, length};
+ghost use Rattle.std.specs.Prelude.{◌≡◌, suc, ◌-◌, ◌^◌, ◌≤◌, length, take};
 ghost use Rattle.coset.specs.Span.{Independent};
 ghost use Rattle.fold.specs.Fold.{folded};
-ghost use Rattle.fri.specs.Layout.{joined_layers};
-ghost use Rattle.fri.specs.Run.{rounds_in};
+ghost use Rattle.fri.specs.Layout.{dimension, layer_start, joined_layers};
+ghost use Rattle.fri.specs.Run.{steps_in, rounds_in};
 ghost use Rattle.fri.specs.Layers.{honest_layer, honest_store};
-ghost use Rattle.honest_layers.specs.Input.{input_of, Passed, coset_in, LayerAt};
+ghost use Rattle.honest_layers.specs.Input.{input_of, Passed, coset_in, Joined, Filled};
 
 use field::Element;
 use layer_cosets::LayerCoset;
@@ -24,37 +24,47 @@ pub fn fold_layers(claim: &Claim, store: &mut [u64], last: &mut [u64]) -> LayerC
     ensures last { let run = input_of claim.now in
         last.new ≡ honest_layer run (rounds_in run) }
 {
-    let coset = LayerCoset::first(claim.offset, claim.basis);
-    fold_from(claim, 0, coset, claim.word, store, last)
+    let step = claim.parameters.step;
+    let last_round = claim.challenges.len() - 1;
+    let mut coset = LayerCoset::first(claim.offset, claim.basis);
+    let mut start: usize = 0;
+    for i in 0..last_round {
+        start = fold_round(claim, i, coset.as_coset(), start, store);
+        coset = coset.next(step);
+    }
+    fold_joined(claim, last_round, coset.as_coset(), store, last);
+    coset.next(step)
 }
 
-// The layers behind layer i, which is given with its coset: those up to layer r - 1 into what is left of the store.
-fn fold_from(
-    claim: &Claim,
-    i: usize,
-    coset: LayerCoset,
-    layer: &[u64],
-    store: &mut [u64],
-    last: &mut [u64],
-) -> LayerCoset
-    requires { LayerAt claim.now i coset layer.now (length store.old) (length last.old) }
-    ensures answer { let run = input_of claim.now in
-        result ≡ coset_in run (rounds_in run) }
-    ensures independent { Independent result.basis }
-    ensures store { let run = input_of claim.now in
-        joined_layers (honest_layer run) i ++ store.new ≡ honest_store run }
-    ensures last { let run = input_of claim.now in
-        last.new ≡ honest_layer run (rounds_in run) }
+// Folds layer i into layer i + 1 of the store, which begins at `start`, behind layers 1 to i. The answer is its end.
+fn fold_round(claim: &Claim, i: usize, coset: Coset, start: usize, store: &mut [u64]) -> usize
+    requires filled { Filled claim.now i coset.offset.0 coset.basis.now start store.old }
+    requires another { suc (suc i) ≤ rounds_in (input_of claim.now) }
+    ensures end { let run = input_of claim.now in
+        result ≡ layer_start run.k (steps_in run) (suc (suc i)) }
+    ensures store { take result store.new ≡ joined_layers (honest_layer (input_of claim.now)) (suc i) }
+{
+    let size = 1 << (coset.basis.len() - claim.parameters.step);
+    let (joined, behind) = store.split_at_mut(start);
+    fold_joined(claim, i, coset, joined, &mut behind[..size]);
+    start + size
+}
+
+// Folds layer i, the word or the last one of layers 1 to i, which are joined, into layer i + 1.
+fn fold_joined(claim: &Claim, i: usize, coset: Coset, joined: &[u64], next: &mut [u64])
+    requires joined { Joined claim.now i coset.offset.0 coset.basis.now joined.now }
+    requires next_fits { let run = input_of claim.now in
+        length next.old ≡ 2 ^ dimension run.k (steps_in run) (suc i) }
+    ensures { next.new ≡ honest_layer (input_of claim.now) (suc i) }
 {
     let step = claim.parameters.step;
     let challenge = Element(claim.challenges[i]);
-    if i + 1 == claim.challenges.len() {
-        fold_layer(coset.as_coset(), step, challenge, layer, last);
-        return coset.next(step);
+    if i == 0 {
+        fold_layer(coset, step, challenge, claim.word, next);
+        return;
     }
-    let (next, rest) = store.split_at_mut(layer.len() >> step);
-    fold_layer(coset.as_coset(), step, challenge, layer, next);
-    fold_from(claim, i + 1, coset.next(step), next, rest, last)
+    let start = joined.len() - (1 << coset.basis.len());
+    fold_layer(coset, step, challenge, &joined[start..], next);
 }
 
 // Folds a layer into the next one.
