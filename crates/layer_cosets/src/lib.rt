@@ -12,7 +12,7 @@ use points::Coset;
 use short_list::ShortList;
 
 // Offset and basis.
-#[derive(Drop)]
+#[derive(Clone, Copy)]
 pub struct LayerCoset {
     pub offset: Element,
     pub basis: ShortList<20>,

@@ -1,23 +1,34 @@
 // A list of at most N numbers, held in fixed memory.
 #![tactic(auto)]
 
-ghost use Rattle.std.specs.Prelude.{◌≡◌, ◌≤◌, List, ℕ, length, take};
+ghost use Rattle.std.specs.Prelude.{◌≡◌, ◌≤◌, length, take};
 
 use std::marker::Model;
 
-// The list stands at the front of the array; what follows it is not seen.
-#[derive(Drop)]
+// The list stands at the front of the array; zeros follow it.
+#[derive(Clone, Copy)]
 pub struct ShortList<const N: usize> {
     room: [u64; N],
     count: usize,
 }
 
 impl<const N: usize> Model for ShortList<N> {
+    ghost use Rattle.std.specs.Prelude.{◌≡◌, ◌≤◌, ◌-◌, ◌++◌, List, ℕ, length, take, drop, replicate};
+    ghost use Rattle.short_list.specs.Room.{room_is, count_is};
+
     ghost Value = { List ℕ };
 
     ghost view = { λ list. take list.count list.room };
 
-    ghost invariant = { λ list. list.count ≤ N };
+    ghost invariant = { λ list. (list.count ≤ N) × (length list.room ≡ N)
+        × (drop list.count list.room ≡ replicate (N - list.count) 0) };
+
+    ghost inverse = { λ list. record { room = list ++ replicate (N - length list) 0; count = length list } };
+
+    ghost inverse_ok = { λ list h i. record {
+      room = room_is N list.count list.room h.0 h.1 h.2 i;
+      count = count_is N list.count list.room h.0 h.1 i;
+    } };
 }
 
 impl<const N: usize> ShortList<N> {
@@ -26,7 +37,8 @@ impl<const N: usize> ShortList<N> {
         requires { count ≤ N }
         ensures { result ≡ take count room.entry }
     {
-        ShortList { room, count }
+        let entries = &room[..];
+        ShortList::of(&entries[..count])
     }
 
     // A copy of a list.
@@ -37,7 +49,7 @@ impl<const N: usize> ShortList<N> {
         let mut room = [0u64; N];
         let count = list.len();
         room[..count].copy_from_slice(list);
-        ShortList::front(room, count)
+        ShortList { room, count }
     }
 
     pub fn as_slice(&self) -> &[u64]
