@@ -3,7 +3,7 @@
 // nothing is printed.
 #![tactic(auto)]
 
-ghost use Rattle.std.specs.Prelude.{◌≡◌, ◌+◌, length};
+ghost use Rattle.std.specs.Prelude.{◌≡◌, ◌+◌, ◌≤◌, length};
 ghost use Rattle.transcript.specs.Judge.{input_limit};
 ghost use Rattle.input.specs.Reading.{Over, Prints};
 ghost use Rattle.judge.specs.Printed.{verdict_lines};
@@ -14,7 +14,8 @@ use report::Text;
 fn answer(input: &[u8], reading: Option<usize>) -> Text
     requires size { length input.now ≡ input_limit + 1 }
     requires over { Over (length input.now) reading }
-    ensures { Prints verdict_lines reading input.now result }
+    ensures text { Prints verdict_lines reading input.now result }
+    ensures few { length result ≤ 128 }
 {
     let Some(count) = reading else {
         return Text::new();

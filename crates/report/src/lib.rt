@@ -1,7 +1,7 @@
 // What the program `judge` prints of a verdict: a header and a line.
 #![tactic(auto)]
 
-ghost use Rattle.std.specs.Prelude.{◌≡◌, ◌++◌, ◌+◌, ◌≤◌, []};
+ghost use Rattle.std.specs.Prelude.{◌≡◌, ◌++◌, ◌+◌, ◌-◌, ◌≤◌, [], length, take, drop, replicate};
 ghost use Rattle.line_text.specs.Digits.{bytes};
 ghost use Rattle.placing.specs.Put.{Puts, HasRoom};
 ghost use Rattle.line_text.specs.Lines.{or_hyphen, numbers_text, line_of, lines_of};
@@ -41,15 +41,25 @@ impl Text {
     }
 
     pub fn as_bytes(&self) -> &[u8]
-        ensures { result.now ≡ self.now }
+        ensures text { result.now ≡ self.now }
+        ensures few { length result.now ≤ 128 }
     {
         &self.bytes[..self.length]
+    }
+
+    // The text at the front of the array, and zeros after it.
+    pub fn array(&self) -> [u8; 128]
+        ensures text { take (length self.now) result ≡ self.now }
+        ensures rest { drop (length self.now) result ≡ replicate (128 - length self.now) 0 }
+    {
+        self.bytes
     }
 }
 
 // The header and the line.
 pub fn lines(verdict: Verdict) -> Text
-    ensures { result ≡ lines_of verdict }
+    ensures text { result ≡ lines_of verdict }
+    ensures few { length result ≤ 128 }
 {
     let mut bytes = [0u8; 128];
     let mut cursor = Cursor {

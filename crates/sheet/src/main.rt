@@ -3,7 +3,7 @@
 // printed.
 #![tactic(auto)]
 
-ghost use Rattle.std.specs.Prelude.{◌≡◌, ◌+◌, length};
+ghost use Rattle.std.specs.Prelude.{◌≡◌, ◌+◌, ◌≤◌, length};
 ghost use Rattle.transcript.specs.Judge.{input_limit};
 ghost use Rattle.sheet_text.specs.Sheet.{sheet_of, largest_sheet};
 ghost use Rattle.input.specs.Reading.{Over, Prints};
@@ -14,7 +14,8 @@ fn answer<'a>(input: &[u8], reading: Option<usize>, out: &'a mut [u8]) -> &'a [u
     requires size { length input.now ≡ input_limit + 1 }
     requires over { Over (length input.now) reading }
     requires room { length out.old ≡ largest_sheet }
-    ensures { Prints sheet_of reading input.now result.now }
+    ensures text { Prints sheet_of reading input.now result.now }
+    ensures few { length result.now ≤ length out.old }
 {
     let length = match reading {
         Some(count) => marking::sheet_input(&input[..count], out),

@@ -11,5 +11,9 @@ pub returns : goal.returns
 returns c =
     let first : (whole : List ℕ) → verdict_lines (take (length c.args.input.now) whole) ≡ verdict_lines whole =
     λ whole. ap lines_of (long_inputs.first whole (length c.args.input.now) (omega (arith, c.requires.size))) in
-    prints_whole verdict_lines _ _ c.args.input.now _ first c.in-Some.is
-    (c.lines.ensures ∙ ap lines_of c.judge_input.ensures)
+    record {
+      text =
+          prints_whole verdict_lines _ _ c.args.input.now _ first c.in-Some.is
+          (c.lines.ensures.text ∙ ap lines_of c.judge_input.ensures);
+      few = c.lines.ensures.few;
+    }

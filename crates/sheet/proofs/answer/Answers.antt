@@ -54,8 +54,8 @@ slice_bounds-result-end c =
       | in-None w ↦ w.length-is ∙ sym (ap length (none_taken n out w.length-is))
     ]
 
-pub returns : goal.returns
-returns c =
+pub returns-clause-text : goal.returns-clause-text
+returns-clause-text c =
     let out = c.match-reading.out in
     let n = c.match-reading.length in
     elim c.match-reading.branch [
@@ -71,4 +71,20 @@ returns c =
       | in-None w ↦
           subst (λ (at : Option ℕ). Prints sheet_of at c.args.input.now (take n out)) (sym w.in-None.is)
           (none_taken n out w.length-is)
+    ]
+
+-- no more bytes than the list has
+pub returns-clause-few : goal.returns-clause-few
+returns-clause-few c =
+    let out = c.match-reading.out in
+    let n = c.match-reading.length in
+    elim c.match-reading.branch [
+      | in-Some w ↦
+          let read = take w.in-Some.count c.args.input.now in
+          let count = w.length-is ∙ w.sheet_input-length.ensures.length in
+          let room : length (sheet_of read) ≤ length c.args.out.now =
+          subst (λ (m : ℕ). length (sheet_of read) ≤ m) (sym c.requires.room) (sheets.program.largest read) in
+          let whole = (placed _ c.args.out.now out n count (w.out-is ∙ w.sheet_input-length.ensures.list) room).1.1 in
+          omega (arith, whole, count, room)
+      | in-None w ↦ omega (arith, ap length (none_taken n out w.length-is))
     ]
