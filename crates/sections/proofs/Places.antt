@@ -13,7 +13,7 @@ use Rattle.transcript.specs.Sections.{transcript_steps}
 use Rattle.transcript.specs.Checks.{due_outcome, layers_from}
 use Rattle.sections.specs.Views.{EachByte}
 use Rattle.transcript.proofs.Numerals.{entry_of, count_fits, are_bytes}
-use Rattle.transcript.proofs.Sections.{first_start, start_next, start_below}
+use Rattle.transcript.proofs.Sections.{first_start, start_below}
 
 module _ (bytes : List ℕ) where
   module _ (known : EachByte bytes) (s at : ℕ) (few : s ≤ 25) (begins : at ≡ section_start bytes s) where
@@ -31,10 +31,6 @@ module _ (bytes : List ℕ) where
         count_fits bytes (are_bytes bytes known) (section_start bytes s),
       ),
     )
-
-  pub end_at : (s at : ℕ) → 1 ≤ s → at ≡ section_start bytes s
-      → at + 4 + 8 * section_count bytes s ≡ section_start bytes (suc s)
-  end_at s at h e = omega (arith, start_next bytes s h)
 
   pub begins_first : 0 ≡ section_start bytes 1
   begins_first = sym (first_start bytes)

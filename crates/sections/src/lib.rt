@@ -1,8 +1,8 @@
 // A transcript, and its sections: where they begin, and whether their counts and bytes are right.
 #![tactic(auto)]
 
-ghost use Rattle.std.specs.Prelude.{◌≡◌, suc, ◌+◌, ◌≤◌};
-ghost use Rattle.transcript.specs.Sections.{section_start, section_count, section_entries};
+ghost use Rattle.std.specs.Prelude.{◌≡◌, suc, ◌+◌, ◌^◌, ◌≤◌};
+ghost use Rattle.transcript.specs.Sections.{section_start, section_end, section_count, section_entries};
 ghost use Rattle.transcript.specs.Checks.{section_outcome, due_outcome};
 ghost use Rattle.sections.specs.Views.{EachByte, sections_in, parameters_in};
 
@@ -38,6 +38,15 @@ pub struct Section<'a> {
     ghost known: { EachByte bytes.now },
     ghost begins: { at ≡ section_start bytes.now number },
     ghost numbered: { (1 ≤ number) × (number ≤ 25) },
+}
+
+// Where a section ends that begins there. A count has 4 bytes, so that a section has less than 2^35 bytes, and all of
+// them, at most 5 + 19, end before 2^40.
+pub fn end_of(bytes: &[u8], at: usize) -> usize
+    requires { at ≤ 2 ^ 40 }
+    ensures { result ≡ section_end bytes.now at }
+{
+    at + 4 + 8 * entries::count_at(bytes, at)
 }
 
 impl<'a> Transcript<'a> {
@@ -144,13 +153,12 @@ impl<'a> Section<'a> {
         entries::count_at(self.bytes, self.at)
     }
 
-    // Where it ends. A count has 4 bytes, so that a section has less than 2^35 bytes, and all of them, at most 5 + 19,
-    // end before 2^40.
-    #[tactic(auto, using(crate::proofs::Places::near, crate::proofs::Places::end_at))]
+    // Where it ends.
+    #[tactic(auto, using(crate::proofs::Places::start_near, transcript::proofs::Sections::end_is))]
     pub fn end(self) -> usize
         ensures { result ≡ section_start self.entry.bytes.now (suc self.entry.number) }
     {
-        self.body() + 8 * self.count()
+        end_of(self.bytes, self.at)
     }
 
     // Where its entries begin, after its count.
