@@ -2,7 +2,7 @@
 // for each round, before the queries, and a query's way through the layers, wherever these lie.
 #![tactic(auto)]
 
-ghost use Rattle.std.specs.Prelude.{◌≡◌, ◌≢◌, eqb, List, ℕ, ◌+◌, ◌^◌, ◌≤◌, ◌<◌, length, get_or};
+ghost use Rattle.std.specs.Prelude.{◌≡◌, ◌≢◌, eqb, List, ℕ, ◌+◌, ◌^◌, ◌≤◌, ◌<◌, min, length, get_or};
 ghost use Rattle.poly.specs.Polynomial.{All};
 ghost use Rattle.coset.specs.Span.{Independent};
 ghost use Rattle.coset.specs.Steps.{step_elements};
@@ -85,9 +85,18 @@ pub struct Judging<'a, L: Layers> {
     pub ghost prepared: { Prepared (run_sent sent (L.word layers) (L.store layers)) sent.queries.now count table } by { Prim.hlevel (props, elements_prop) },
 }
 
+// Where `count` is r: how many cosets a query has read when the check of round i fails, those up to round i and, for
+// the value found, the next one, if there is one.
+pub fn read_until(i: usize, count: usize) -> usize
+    requires { i < count }
+    ensures { result ≡ min (i + 2) count }
+{
+    i + (count - i).min(2)
+}
+
 // All rounds. What is inverted is inverted here, before the queries: the elements of each round's maps. None of them is
 // zero, since the bases of all layers are independent.
-fn set_up(shape: Shape, basis: &[u64], challenges: &[u64]) -> [Round; 19]
+pub fn set_up(shape: Shape, basis: &[u64], challenges: &[u64]) -> [Round; 19]
     requires { let p = shape.parameters in
         (length basis.now ≡ p.k) × Independent basis.now × (length challenges.now ≡ length (steps_by p)) }
     ensures { let round = round_at shape.parameters basis.now challenges.now in
@@ -130,7 +139,7 @@ impl Round {
 
     // The fold of the coset that holds the query's index, which has these entries. Its first point is the query's plus
     // entry (index mod 2^step) of the span, by which the query's point differs from it.
-    fn folded(self, step: usize, here: QueryPoint, part: &[u64]) -> Element
+    pub fn folded(self, step: usize, here: QueryPoint, part: &[u64]) -> Element
         requires { (1 ≤ step) × (step ≤ 3) × (length part.now ≡ 2 ^ step) }
         ensures { result.0 ≡ value_folded step self here part.now }
     {
@@ -149,7 +158,7 @@ impl Round {
 
 impl QueryPoint {
     // In layer 0.
-    fn first(offset: Element, basis: &[u64], index: usize) -> QueryPoint
+    pub fn first(offset: Element, basis: &[u64], index: usize) -> QueryPoint
         ensures { result ≡ query_point_at offset.0 basis.now index }
     {
         QueryPoint {
@@ -159,7 +168,7 @@ impl QueryPoint {
     }
 
     // In the next layer.
-    fn next(self, round: Round, step: usize) -> QueryPoint
+    pub fn next(self, round: Round, step: usize) -> QueryPoint
         requires { step ≤ 3 }
         ensures { result ≡ next_query_point step round.elements self }
     {
@@ -212,7 +221,7 @@ impl<'a, L: Layers> Judging<'a, L> {
     }
 
     // The fold, at the round's challenge, of the coset of layer i that holds the query's index.
-    fn computed(&self, i: usize, here: QueryPoint) -> Element
+    pub fn computed(&self, i: usize, here: QueryPoint) -> Element
         requires round { i < self.now.count }
         requires reached { let run = run_sent self.now.sent (L.word self.now.layers) (L.store self.now.layers) in
             Reached run i here }
@@ -232,7 +241,7 @@ impl<'a, L: Layers> Judging<'a, L> {
 
     // The value that the fold must equal: an entry of the next layer, where that is stored, or, in the last round, the
     // last polynomial's.
-    fn found(&self, i: usize, next: QueryPoint) -> Element
+    pub fn found(&self, i: usize, next: QueryPoint) -> Element
         requires round { i < self.now.count }
         requires reached { let run = run_sent self.now.sent (L.word self.now.layers) (L.store self.now.layers) in
             Reached run (i + 1) next }
@@ -249,8 +258,7 @@ impl<'a, L: Layers> Judging<'a, L> {
         }
     }
 
-    // The round checks, lowest query first, then lowest round, up to the first that fails. Up to that round a query
-    // has read a coset in each, and, for the value found, one in the next, if there is one.
+    // The round checks, lowest query first, then lowest round, up to the first that fails.
     pub fn verdict(&self) -> Verdict
         ensures { let run = run_sent self.now.sent (L.word self.now.layers) (L.store self.now.layers) in
             result ≡ verdict_of run self.now.sent.queries.now }
@@ -263,7 +271,7 @@ impl<'a, L: Layers> Judging<'a, L> {
                 let (check, next) = self.check(round, here);
                 if !check.passes() {
                     answer = Err(Cause::RoundCheckFails { query, round });
-                    cosets += (round + 2).min(self.count);
+                    cosets += read_until(round, self.count);
                     break 'queries;
                 }
                 here = next;

@@ -23,7 +23,7 @@ pub overflow_add-cosets : goal.overflow_add-cosets
 overflow_add-cosets g c =
     omega (
       arith,
-      c.min-cosets.ensures,
+      c.read_until-cosets.ensures,
       min-le_right (c.loop-round.round + 2) c.args.self.now.count,
       cosets_few c.args.self.now.prepared c.loop-round.invariant.earlier.1,
     )
@@ -61,7 +61,7 @@ returns g c =
           ∙ accepted judging.prepared c.queries.invariant.1 w.queries-test.false
       | then-queries-test+then-loop-round-test+then-not-passes w ↦
           ap₂ {C = Verdict} (λ (a : Outcome) (n : ℕ). record { answer = a; reads = n * 2 ^ step % 2 ^ 64 })
-          w.answer-is (w.cosets-is ∙ ap (λ (n : ℕ). w.loop-round.cosets + n) w.min-cosets.ensures)
+          w.answer-is (w.cosets-is ∙ ap (λ (n : ℕ). w.loop-round.cosets + n) w.read_until-cosets.ensures)
           ∙ refused judging.prepared w.loop-round.invariant.earlier.1 w.queries-test.true
           (fails w.loop-round.invariant.here (w.check.ensures (get_or judging.sent.queries.now c.queries.query 0))
           (query_inside judging.prepared c.queries.query) w.passes.ensures
