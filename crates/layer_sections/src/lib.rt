@@ -20,8 +20,8 @@ use sections::{Section, Transcript};
 pub struct Passed<'a> {
     pub transcript: Transcript<'a>,
     pub shape: Shape,
-    ghost read: { shape.parameters ≡ parameters_in transcript.bytes.now },
-    ghost passed: { transcript_outcome transcript.bytes.now ≡ Ok tt },
+    pub ghost read: { shape.parameters ≡ parameters_in transcript.bytes.now },
+    pub ghost passed: { transcript_outcome transcript.bytes.now ≡ Ok tt },
 }
 
 // All sections.

@@ -25,7 +25,7 @@ pub struct Parameters {
 #[derive(Clone, Copy)]
 pub struct Shape {
     pub parameters: Parameters,
-    ghost valid: { Valid parameters },
+    pub ghost valid: { Valid parameters },
 }
 
 // What a prover is given: parameters, a coset by offset and basis, a challenge for each round, and the word.

@@ -15,8 +15,8 @@ use short_list::ShortList;
 pub struct Transcript<'a> {
     pub bytes: &'a [u8],
     pub sections: Sections,
-    ghost known: { EachByte bytes.now },
-    ghost found: { sections ≡ sections_in bytes.now },
+    pub ghost known: { EachByte bytes.now },
+    pub ghost found: { sections ≡ sections_in bytes.now },
 }
 
 // Where sections 2, 3, 4 and 5 begin; section 1 begins at 0.
@@ -35,9 +35,9 @@ pub struct Section<'a> {
     pub bytes: &'a [u8],
     pub number: usize,
     pub at: usize,
-    ghost known: { EachByte bytes.now },
-    ghost begins: { at ≡ section_start bytes.now number },
-    ghost numbered: { (1 ≤ number) × (number ≤ 25) },
+    pub ghost known: { EachByte bytes.now },
+    pub ghost begins: { at ≡ section_start bytes.now number },
+    pub ghost numbered: { (1 ≤ number) × (number ≤ 25) },
 }
 
 // Where a section ends that begins there. A count has 4 bytes, so that a section has less than 2^35 bytes, and all of
