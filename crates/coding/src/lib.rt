@@ -36,6 +36,7 @@ pub fn encode(
 // The 2^k coefficients of the one polynomial of degree below 2^k that has the word's values at the points, in point
 // order. Refused as encoding is, where list 3 is the word and list 6 the coefficients, each of length 2^k. A refusal
 // leaves the coefficients as they were.
+#[tactic(auto, using(poly::proofs::Filling::front_whole))]
 pub fn interpolate(
     offset: Element,
     basis: &[u64],
@@ -48,7 +49,7 @@ pub fn interpolate(
 {
     let size = size_of(basis.len());
     checked(basis, word.len() == size, coefficients.len() == size)?;
-    coefficients.copy_from_slice(word);
+    poly::copy(word, coefficients);
     coset_transform::interpolate_in_place(Coset::new(offset, basis), coefficients);
     Ok(())
 }
@@ -81,7 +82,7 @@ fn fill(from: &[u64], to: &mut [u64])
     ensures { to.new ≡ padded gf64 (length to.old) from.now }
 {
     let (front, rest) = to.split_at_mut(from.len());
-    front.copy_from_slice(from);
+    poly::copy(from, front);
     rest.fill(0);
 }
 

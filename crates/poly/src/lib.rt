@@ -1,7 +1,7 @@
 // Polynomials over the field of 2^64 elements, as lists of coefficients, constant first.
 #![tactic(auto)]
 
-ghost use Rattle.std.specs.Prelude.{◌≡◌};
+ghost use Rattle.std.specs.Prelude.{◌≡◌, ◌++◌, ◌≤◌, length, drop};
 ghost use Rattle.poly.specs.Carrier.{gf64};
 ghost use Rattle.poly.specs.Polynomial.{evaluate};
 ghost use Rattle.poly.specs.Degree.{degree_bound};
@@ -22,5 +22,16 @@ pub fn degree_bound(coefficients: &[u64]) -> usize
     match coefficients.iter().rposition(|c| *c != 0) {
         Some(last) => last + 1,
         None => 0,
+    }
+}
+
+// Copies a list into the front of another one. Entry by entry, of which the back end makes memcpy: of std's
+// `copy_from_slice` it makes memmove, which the library for C would then need besides.
+pub fn copy(from: &[u64], to: &mut [u64])
+    requires { length from.now ≤ length to.old }
+    ensures { to.new ≡ from.now ++ drop (length from.now) to.old }
+{
+    for (i, entry) in from.iter().enumerate() {
+        to[i] = *entry;
     }
 }
