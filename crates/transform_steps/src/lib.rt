@@ -28,9 +28,17 @@ pub fn add_multiples(c: Element, slice: &mut [u64])
     if slice.len() < 6 {
         add_images(|x| c.product(Element(x)).0, slice);
     } else {
-        let table = Multiplier::of(c);
-        add_images(|x| table.times(x), slice);
+        add_by_table(c, slice);
     }
+}
+
+// A function of its own, as `scale_by_table` is, so that a short list needs no room for the table.
+fn add_by_table(c: Element, slice: &mut [u64])
+    requires { length slice.old % 2 ≡ 0 }
+    ensures { slice.new ≡ second_added c.0 (length slice.old / 2) slice.old }
+{
+    let table = Multiplier::of(c);
+    add_images(|x| table.times(x), slice);
 }
 
 // Each entry of the first half plus the image of the one of the second half.
@@ -64,9 +72,15 @@ pub fn scale(c: Element, part: &mut [u64])
     if part.len() < 3 {
         map_images(|x| c.product(Element(x)).0, part);
     } else {
-        let table = Multiplier::of(c);
-        map_images(|x| table.times(x), part);
+        scale_by_table(c, part);
     }
+}
+
+fn scale_by_table(c: Element, part: &mut [u64])
+    ensures { part.new ≡ scale gf64 c.0 part.old }
+{
+    let table = Multiplier::of(c);
+    map_images(|x| table.times(x), part);
 }
 
 // Every entry's image in its place.
