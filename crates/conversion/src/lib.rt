@@ -12,7 +12,8 @@ use field::Element;
 
 // One level after the other.
 pub fn convert(levels: usize, maps: Maps<'_>, slice: &mut [u64])
-    requires { (levels ≤ length maps.elements.now) × (levels ≤ 20) × (length slice.old ≡ 2 ^ levels) }
+    requires { (levels ≤ length maps.elements.now) × (levels ≤ length maps.inverses.now) × (levels ≤ 20)
+        × (length slice.old ≡ 2 ^ levels) }
     ensures { let ratio = ratio_of maps.entry.elements.now maps.entry.inverses.now in
         slice.new ≡ converted ratio 0 levels slice.old }
 {
@@ -24,7 +25,8 @@ pub fn convert(levels: usize, maps: Maps<'_>, slice: &mut [u64])
 }
 
 pub fn convert_back(levels: usize, maps: Maps<'_>, slice: &mut [u64])
-    requires { (levels ≤ length maps.elements.now) × (levels ≤ 20) × (length slice.old ≡ 2 ^ levels) }
+    requires { (levels ≤ length maps.elements.now) × (levels ≤ length maps.inverses.now) × (levels ≤ 20)
+        × (length slice.old ≡ 2 ^ levels) }
     ensures { let ratio = ratio_of maps.entry.inverses.now maps.entry.elements.now in
         slice.new ≡ converted_back ratio 0 levels slice.old }
 {

@@ -11,20 +11,20 @@ ghost use Rattle.transform.specs.Transform.{split_in_halves, joined_from_halves}
 
 use field::Element;
 
-// What the z_j are made of: the elements e_j, and their inverses.
+// What the z_j are made of: the elements e_j, and their inverses. The recursion is handed a reference, so that no
+// level of it holds a copy.
 #[derive(Clone, Copy)]
 pub struct Maps<'a> {
     pub elements: &'a [u64],
     pub inverses: &'a [u64],
-    pub ghost same: { length inverses.now ≡ length elements.now },
 }
 
 impl<'a> Maps<'a> {
     // z_n at x.
     #[tactic(auto, unfolding(transform::specs::Transform::normalised_at))]
-    fn value(self, n: usize, x: Element) -> Element
-        requires { n < length self.elements.now }
-        ensures { result.0 ≡ normalised_at self.entry.elements.now self.entry.inverses.now n x.0 }
+    fn value(&self, n: usize, x: Element) -> Element
+        requires { (n < length self.now.elements.now) × (n < length self.now.inverses.now) }
+        ensures { result.0 ≡ normalised_at self.now.elements.now self.now.inverses.now n x.0 }
     {
         next_coset::composed_maps(&self.elements[..n], x).product(Element(self.inverses[n]))
     }
@@ -37,12 +37,13 @@ pub fn split(
     n: usize,
     offset: Element,
     basis: &[u64],
-    maps: Maps<'_>,
+    maps: &Maps<'_>,
     slice: &mut [u64],
 )
-    requires { (n ≤ length basis.now) × (n ≤ length maps.elements.now) × (length slice.old ≡ 2 ^ n)
+    requires { (n ≤ length basis.now) × (n ≤ length maps.now.elements.now)
+        × (n ≤ length maps.now.inverses.now) × (length slice.old ≡ 2 ^ n)
         × DegreeBelow gf64 (2 ^ used) slice.old }
-    ensures { let z = normalised_at maps.entry.elements.now maps.entry.inverses.now in
+    ensures { let z = normalised_at maps.now.elements.now maps.now.inverses.now in
         slice.new ≡ split_in_halves z basis.now n offset.0 slice.old }
 {
     if n == 0 {
@@ -58,10 +59,11 @@ pub fn split(
 
 // Halves a, b become a + c b, a + c b + b, where c is z_n at the offset. Above the dimension in use b is zero.
 #[tactic(auto, using(transform::proofs::Recursion::second_none))]
-fn step(used: usize, n: usize, offset: Element, maps: Maps<'_>, slice: &mut [u64])
-    requires { (n < length maps.elements.now) × (length slice.old ≡ 2 ^ n + 2 ^ n)
+fn step(used: usize, n: usize, offset: Element, maps: &Maps<'_>, slice: &mut [u64])
+    requires { (n < length maps.now.elements.now) × (n < length maps.now.inverses.now)
+        × (length slice.old ≡ 2 ^ n + 2 ^ n)
         × DegreeBelow gf64 (2 ^ used) slice.old }
-    ensures { let c = normalised_at maps.entry.elements.now maps.entry.inverses.now n offset.0 in
+    ensures { let c = normalised_at maps.now.elements.now maps.now.inverses.now n offset.0 in
         slice.new ≡ first_added (2 ^ n) (second_added c (2 ^ n) slice.old) }
 {
     if n < used {
@@ -72,9 +74,10 @@ fn step(used: usize, n: usize, offset: Element, maps: Maps<'_>, slice: &mut [u64
 
 // From values to the products of the z_j.
 #[tactic(auto, using(crate::proofs::Halving::halving))]
-pub fn join(n: usize, offset: Element, basis: &[u64], maps: Maps<'_>, slice: &mut [u64])
-    requires { (n ≤ length basis.now) × (n ≤ length maps.elements.now) × (length slice.old ≡ 2 ^ n) }
-    ensures { let z = normalised_at maps.entry.elements.now maps.entry.inverses.now in
+pub fn join(n: usize, offset: Element, basis: &[u64], maps: &Maps<'_>, slice: &mut [u64])
+    requires { (n ≤ length basis.now) × (n ≤ length maps.now.elements.now)
+        × (n ≤ length maps.now.inverses.now) × (length slice.old ≡ 2 ^ n) }
+    ensures { let z = normalised_at maps.now.elements.now maps.now.inverses.now in
         slice.new ≡ joined_from_halves z basis.now n offset.0 slice.old }
 {
     if n == 0 {
@@ -87,9 +90,10 @@ pub fn join(n: usize, offset: Element, basis: &[u64], maps: Maps<'_>, slice: &mu
     step_back(last, offset, maps, slice);
 }
 
-fn step_back(n: usize, offset: Element, maps: Maps<'_>, slice: &mut [u64])
-    requires { (n < length maps.elements.now) × (length slice.old ≡ 2 ^ n + 2 ^ n) }
-    ensures { let c = normalised_at maps.entry.elements.now maps.entry.inverses.now n offset.0 in
+fn step_back(n: usize, offset: Element, maps: &Maps<'_>, slice: &mut [u64])
+    requires { (n < length maps.now.elements.now) × (n < length maps.now.inverses.now)
+        × (length slice.old ≡ 2 ^ n + 2 ^ n) }
+    ensures { let c = normalised_at maps.now.elements.now maps.now.inverses.now n offset.0 in
         slice.new ≡ second_added c (2 ^ n) (first_added (2 ^ n) slice.old) }
 {
     transform_steps::add_first(slice);

@@ -29,7 +29,7 @@ pub fn evaluate_in_place(coset: Coset<'_>, used: usize, slice: &mut [u64])
     let size = usize::pow(2, used as u32);
     conversion::convert(used, maps, &mut slice[..size]);
     let k = coset.basis.len();
-    coset_halves::split(used, k, coset.offset, coset.basis, maps, slice);
+    coset_halves::split(used, k, coset.offset, coset.basis, &maps, slice);
 }
 
 // From the values at the points to the coefficients.
@@ -44,7 +44,7 @@ pub fn interpolate_in_place(coset: Coset<'_>, slice: &mut [u64])
         inverses: inverses.as_slice(),
     };
     let k = coset.basis.len();
-    coset_halves::join(k, coset.offset, coset.basis, maps, slice);
+    coset_halves::join(k, coset.offset, coset.basis, &maps, slice);
     conversion::convert_back(k, maps, slice);
 }
 

@@ -9,7 +9,7 @@ use Rattle.coset_halves.proofs.+join.Goals as goal
 pub returns : goal.returns
 returns t c =
     let a = c.args in
-    let next = join_next (normalised_at a.maps.elements.now a.maps.inverses.now) a.basis.now a.n a.offset.0
+    let next = join_next (normalised_at a.maps.now.elements.now a.maps.now.inverses.now) a.basis.now a.n a.offset.0
     (length a.slice.now / 2) a.slice.now (omega arith)
-    (half_power a.n (length a.slice.now) (omega arith) c.requires.2) in
+    (half_power a.n (length a.slice.now) (omega arith) c.requires.3) in
     cc

@@ -2,20 +2,22 @@
 use mathlib.Core.Path.{◌∙◌}
 use native.Mathlib.Omega.{arith}
 use borrow.Author.Rules.{rules}
-use Rattle.transform.proofs.InPlace.{elements_counted, interpolated_with}
+use Rattle.transform.proofs.InPlace.{elements_counted, inverses_counted, interpolated_with}
 use Rattle.coset_transform.proofs.interpolate_in_place.Goals as goal
 
 pub join-requires : goal.join-requires
 join-requires c =
     let basis = c.args.coset.basis.now in
     let counted = elements_counted basis c.as_slice.result.now (cc) in
-    (omega arith, omega arith, c.requires)
+    let inverted = inverses_counted basis c.as_slice.result.now c.as_slice-2.result.now (cc) (cc) in
+    (omega arith, omega arith, omega arith, c.requires)
 
 pub convert_back-requires : goal.convert_back-requires
 convert_back-requires c =
     let basis = c.args.coset.basis.now in
     let counted = elements_counted basis c.as_slice.result.now (cc) in
-    (omega arith, c.args.coset.few, c.join.auto.slice ∙ c.requires)
+    let inverted = inverses_counted basis c.as_slice.result.now c.as_slice-2.result.now (cc) (cc) in
+    (omega arith, omega arith, c.args.coset.few, c.join.auto.slice ∙ c.requires)
 
 pub returns : goal.returns
 returns c =
