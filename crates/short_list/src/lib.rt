@@ -32,13 +32,14 @@ impl<const N: usize> Model for ShortList<N> {
 }
 
 impl<const N: usize> ShortList<N> {
-    // The first entries of an array.
-    pub fn front(room: [u64; N], count: usize) -> ShortList<N>
+    // The first entries of an array. What follows them becomes zeros.
+    pub fn front(mut room: [u64; N], count: usize) -> ShortList<N>
         requires { count ≤ N }
         ensures { result ≡ take count room.entry }
     {
-        let entries = &room[..];
-        ShortList::of(&entries[..count])
+        let entries = &mut room[..];
+        entries[count..].fill(0);
+        ShortList { room, count }
     }
 
     // A copy of a list.
@@ -49,7 +50,7 @@ impl<const N: usize> ShortList<N> {
         let mut room = [0u64; N];
         let count = list.len();
         room[..count].copy_from_slice(list);
-        ShortList { room, count }
+        ShortList::front(room, count)
     }
 
     pub fn as_slice(&self) -> &[u64]
