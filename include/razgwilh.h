@@ -199,9 +199,9 @@ size_t rz_last_length(size_t k, size_t rate, size_t step);
 uint64_t rz_transcript_length(size_t k, size_t rate, size_t step, size_t queries);
 
 /* Beside the lists that it is lent a call takes stack, and no other memory. Nothing is allocated,
- * nothing is kept from one call to the next, and of C the library calls memcpy, memmove and memset
- * alone. That is seen from the archive, and what follows is measured or counted: none of it is
- * proved, since no contract speaks of memory.
+ * nothing is kept from one call to the next, and of C the library calls memcpy and memset alone.
+ * That is seen from the archive, and what follows is measured or counted: none of it is proved,
+ * since no contract speaks of memory.
  * At the largest sizes, which are k 20 with rate 1 and 256 queries, with the step that takes the
  * most, the functions take what follows; rz_invert_list is lent 2^20 elements there, and takes no
  * more stack for more:
@@ -211,8 +211,8 @@ uint64_t rz_transcript_length(size_t k, size_t rate, size_t step, size_t queries
  *   rz_product                           0    16     512
  *   rz_inverse_answer                    0    16     768
  *   rz_invert_list               8,388,608    64   1,024
- *   rz_encode_answer            16,777,376    64   6,656
- *   rz_interpolate_answer       16,777,376    64   6,144
+ *   rz_encode_answer            16,777,376    64   4,096
+ *   rz_interpolate_answer       16,777,376    64   4,096
  *   rz_fold_answer              12,583,224    64   2,304
  *   rz_rounds                            0     0     256
  *   rz_store_length                      0     0     256
@@ -231,7 +231,7 @@ uint64_t rz_transcript_length(size_t k, size_t rate, size_t step, size_t queries
  * is part of the stack.
  * stack: the bytes of stack, the arguments and the function of this header included, measured
  * where gcc compiles that function without optimisation, and rounded up to a multiple of 256;
- * smaller sizes may take as much. A loader that looks up one of these in the first call that
+ * smaller sizes may take as much. A loader that looks up memcpy or memset in the first call that
  * needs it takes stack of its own, which is not counted. */
 
 /* 6. THE FUNCTIONS */
