@@ -1,19 +1,19 @@
 -- The coset value: equal where its three parts are; what halving it gives, what moving its points gives, and the
 -- values of the cosets one after the other. Assumes nothing.
-use mathlib.Core.Path.{◌≡◌, sym, ap, ap₂, ◌∙◌}
-use mathlib.Core.List.{List, [], ◌∷◌, map}
+use mathlib.Core.Path.{◌≡◌, refl, sym, ap, ap₂, ◌∙◌}
+use mathlib.Core.List.{List, [], ◌∷◌, ◌++◌, map}
 use Prim.Native.Nat.{ℕ, suc, ◌+◌, ◌*◌, ◌-◌, ◌/◌, ◌^◌, ◌<◌, ◌≤◌}
 use native.Mathlib.Nat.{zero-add, pow-suc}
 use native.Mathlib.Numerals.{add-one}
 use native.Mathlib.Omega.{arith}
 use lib.ListN.{length, get_or, take, drop, length-map, length-drop, drop_of_length-le}
-use lib.Seq.{drop-cons}
+use lib.Seq.{drop-cons, get_or-take}
 use Rattle.gf64.specs.Field.{sum, product}
 use Rattle.gf64.proofs.Xor.{xor_assoc}
 use Rattle.poly.specs.Carrier.{gf64}
 use Rattle.poly.specs.Polynomial.{padded}
 use Rattle.poly.proofs.Evaluation.{length-padded}
-use Rattle.poly.proofs.Filling.{get_d_map, get_or-padded}
+use Rattle.poly.proofs.Filling.{filled, take_filled, get_d_map, get_or-padded}
 use Rattle.coset.specs.Coset.{point, tabulated}
 use Rattle.coset.proofs.Points.{length-tabulated, get_or-tabulated, tabulated_agree}
 use Rattle.coset.proofs.Dependence.{point_moved}
@@ -103,6 +103,19 @@ value_same (i ∷ inverses) points points' entries entries' p e =
 
     e' : Same (2 * count) entries entries'
     e' n h = e n (omega (arith, pow-suc 2 (length inverses)))
+
+-- the points behind the count change no value, as `moved` leaves them
+pub value_moved : (inverses : List ℕ) (x : ℕ) (points held entries : List ℕ) (count : ℕ) → count ≡ 2 ^ length inverses
+    → count ≤ length points → held ≡ take count (map (sum x) points) ++ drop count points
+    → value_at inverses held entries ≡ value_at inverses (map (sum x) points) entries
+unfolding filled
+value_moved inverses x points held entries count n fits e =
+    value_same inverses held (map (sum x) points) entries entries
+    (λ i h. sym (get_or-take count held i 0 (omega arith))
+    ∙ ap (λ (l : List ℕ). get_or l i 0)
+    (ap (take count) e ∙ take_filled (map (sum x) points) points count (omega (arith, length-map points (sum x))))
+    ∙ get_or-take count (map (sum x) points) i 0 (omega arith))
+    (λ i h. refl)
 
 -- zeros behind a list change no value
 value_padded : (inverses : List ℕ) (m : ℕ) (points entries : List ℕ)

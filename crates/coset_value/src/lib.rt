@@ -4,7 +4,8 @@
 // halved points are moved as well, by the image of the challenge, and no halving needs the challenge itself.
 #![tactic(auto)]
 
-ghost use Rattle.std.specs.Prelude.{◌≡◌, ◌≢◌, map, suc, ◌*◌, ◌/◌, ◌^◌, ◌≤◌, length, get_or};
+ghost use Rattle.std.specs.Prelude.{◌≡◌, ◌≢◌, ◌++◌, map, suc, ◌*◌, ◌/◌, ◌^◌, ◌≤◌, length, get_or};
+ghost use Rattle.std.specs.Prelude.{take, drop};
 ghost use Rattle.gf64.specs.Field.{sum, inverse};
 ghost use Rattle.poly.specs.Carrier.{gf64};
 ghost use Rattle.poly.specs.Polynomial.{All, padded};
@@ -57,14 +58,17 @@ impl Coset {
         coset.line(0, Element(inverses[last]))
     }
 
-    // Each point becomes its sum with the challenge, those behind the count as well.
+    // Each point becomes its sum with the challenge; what is behind the count stays.
     fn moved(self, challenge: Element) -> Coset
-        ensures points { numbers result.points ≡ map (sum challenge.0) (numbers self.points) }
+        requires { self.count ≤ 8 }
+        ensures points { let points = numbers self.points in
+            let moved = map (sum challenge.0) points in
+            numbers result.points ≡ take self.count moved ++ drop self.count points }
         ensures others { (result.entries ≡ self.entries) × (result.count ≡ self.count) }
     {
         let mut points = self.points;
-        for point in points.iter_mut() {
-            *point = challenge.sum(*point);
+        for i in 0..self.count {
+            points[i] = challenge.sum(points[i]);
         }
         Coset { points, ..self }
     }

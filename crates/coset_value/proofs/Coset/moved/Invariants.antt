@@ -6,7 +6,7 @@ use Rattle.poly.proofs.Filling.{filled}
 use Rattle.coset_value.specs.Cosets.{numbers}
 use Rattle.coset_value.proofs.Coset.moved.Given as goal
 
-abbrev pub invariant-loop-point : goal.invariant-loop-point
-invariant-loop-point l =
+abbrev pub invariant-loop-i : goal.invariant-loop-i
+invariant-loop-i l =
     let points = numbers l.self.points in
-    numbers l.point-items ≡ filled (map (sum l.challenge.0) points) points l.point-index
+    numbers l.points ≡ filled (map (sum l.challenge.0) points) points l.i

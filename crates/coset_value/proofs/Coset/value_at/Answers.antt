@@ -1,16 +1,25 @@
 -- `Coset::value_at` meets its contract. The loop's invariant: what is left of the halvings gives the value from the
 -- coset so far. Assumes nothing.
-use mathlib.Core.Path.{◌≡◌, refl, sym, ap, ap₂, ◌∙◌}
-use Prim.Native.Nat.{ℕ, suc, ◌+◌, ◌-◌, ◌/◌, ◌^◌}
+use mathlib.Core.Path.{◌≡◌, refl, sym, ap, ◌∙◌}
+use mathlib.Core.List.{List, map}
+use Prim.Native.Nat.{ℕ, suc, ◌+◌, ◌-◌, ◌/◌, ◌^◌, ◌≤◌}
 use native.Mathlib.Numerals.{add-one}
 use lib.Pow.{pow_mono}
 use lib.ListN.{length, get_or, drop}
+use borrow.Author.Rules.{rules}
+use Rattle.gf64.specs.Field.{sum}
+use Rattle.field.specs.declared.Element.{Element}
 use Rattle.fold.specs.Halving.{line_at, value_at}
 use Rattle.coset_value.specs.declared.Coset.{Coset}
 use Rattle.coset_value.specs.Cosets.{numbers}
-use Rattle.coset_value.proofs.Cosets.{value_next, value_last, halved_count}
+use Rattle.coset_value.proofs.Arrays.{length-numbers}
+use Rattle.coset_value.proofs.Cosets.{value_next, value_last, value_moved, halved_count}
 use native.Mathlib.Omega.{arith}
 use Rattle.coset_value.proofs.Coset.value_at.Goals as goal
+
+pub moved-coset-requires : goal.moved-coset-requires
+moved-coset-requires c =
+    omega (arith, c.requires.2, pow_mono {i = length c.args.inverses.now} {j = 3} c.requires.1)
 
 pub loop-t-init : goal.loop-t-init
 loop-t-init c =
@@ -56,9 +65,16 @@ returns c =
     let points = numbers l.coset.points in
     let entries = numbers l.coset.entries in
     let end : suc l.t ≡ length inverses = omega (arith, l.invariant.0, start.requires.0) in
+    let most = pow_mono {i = length inverses} {j = 3} start.requires.1 in
+    let eight : length a.self.points ≡ 8 = search rules in
+    let fits : a.self.count ≤ length (numbers a.self.points) =
+    omega (arith, eight, length-numbers a.self.points, start.requires.2, most) in
     c.line.ensures
     ∙ ap (λ (n : ℕ). line_at (get_or inverses n 0) (get_or points 0 0) (get_or entries 0 0) (get_or entries 1 0))
     (omega (arith, end))
     ∙ value_last inverses l.t points entries end
     ∙ l.invariant.2
-    ∙ ap₂ (value_at inverses) c.moved-coset.ensures.points (ap numbers c.moved-coset.ensures.others.0)
+    ∙ value_moved inverses a.challenge.0 (numbers a.self.points) (numbers c.moved-coset.result.points)
+    (numbers c.moved-coset.result.entries) a.self.count start.requires.2 fits c.moved-coset.ensures.points
+    ∙ ap (λ (es : List Element). value_at inverses (map (sum a.challenge.0) (numbers a.self.points)) (numbers es))
+    c.moved-coset.ensures.others.0
