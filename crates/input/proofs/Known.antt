@@ -1,14 +1,14 @@
 -- What a read behind earlier ones makes of a list, and of the bytes that a reader still has. Assumes nothing.
-use Rattle.std.proofs.Common.{◌≡◌, ℕ, ◌+◌, ◌-◌, ◌≤◌, List, ◌++◌, length, take, drop, refl, sym, ap, ◌∙◌, append_assoc, subst, arith, length-append}
+use Rattle.std.proofs.Common.{◌≡◌, ℕ, ◌+◌, ◌-◌, ◌≤◌, List, ◌∷◌, ◌++◌, length, take, drop, refl, sym, ap, ◌∙◌, append_assoc, subst, arith, length-append}
 use Rattle.std.specs.Prelude.{Option, Some, None, Result, Ok, Err, Bool, true, false, cond, eqb, ◌||◌}
 use Rattle.std.specs.declared.ops.ControlFlow.{ControlFlow}
 use Rattle.std.specs.declared.ops.ControlFlow.TheVariants.{Continue, Break}
 use Rattle.std.specs.Result.{result_ok}
-use Rattle.input.specs.Reading.{read_after}
+use Rattle.input.specs.Reading.{read_after, ComesTo, Reads, ReadBy}
 use Rattle.std.specs.Io.KnownBytes.{Consumes, ReadConsumes}
 use Rattle.std.specs.Io.{ReadsAtMost}
-use Rattle.std.proofs.lemmas.List.{length-take, take-append-drop, take-append-le}
-use Rattle.std.proofs.lemmas.Slice.{take-put_mid}
+use Rattle.std.proofs.lemmas.List.{length-take, length-drop, take-append-drop, take-append-le}
+use Rattle.std.proofs.lemmas.Slice.{take-put_mid, drop-put_mid}
 use Rattle.std.proofs.Math.Seq.{take-append-add}
 use borrow.Rule.Slice.PartMut.{put_mid}
 
@@ -76,3 +76,47 @@ pub taken : {E : Type 0} (before after : Option (List ℕ)) (result : Result ℕ
 taken before after (Ok m) part more e bytes bound =
     let same : m ≡ more = cc in (subst (λ n. Consumes before after (take n part)) same bytes.0, omega (arith, same, bound))
 taken before after (Err e') part more e bytes bound = absurd (cc)
+
+module _ (list part : List ℕ) (count : ℕ) (fits : count ≤ length list)
+    (whole : length part ≡ length (take (length list - count) (drop count list))) where
+  abbrev behind : List ℕ
+  behind = put_mid count (length list - count) list part
+
+  -- a list with another part behind its first bytes is as long as before
+  same_length : length behind ≡ length list
+  same_length =
+      let n = length list in
+      let rest : length part ≡ n - count =
+      omega (arith, whole, fits, length-take (n - count) (drop count list), length-drop count list)
+      in
+      let front = ap length (take-put_mid count (n - count) list part n (omega (arith, rest, fits)) fits) in
+      let last = ap length (drop-put_mid count (n - count) list part n (omega (arith, fits)) fits rest) in
+      omega (
+        arith,
+        rest,
+        fits,
+        front,
+        last,
+        length-append (take count list) part,
+        length-take count list,
+        length-take n behind,
+        length-drop n behind,
+        length-drop n list,
+      )
+
+  -- one read more is in front of those that come later, and behind those that came before
+  pub read_first : {S : Type 0} (Gave : S → Option ℕ → S → Type 0) (reading got given : Option ℕ)
+      (gots : List (Option ℕ)) (first source left : S) (known : Option (ControlFlow ℕ ℕ))
+      → ((gots : List (Option ℕ)) → Reads Gave (length list) reading gots count source
+      → ReadBy Gave (length list) reading first)
+      → Gave source given left → got ≡ given → known ≡ read_after count got (length behind)
+      → ComesTo reading (λ next. Reads Gave (length behind) reading gots next left) known
+      → ReadBy Gave (length behind) reading first
+  unfolding Reads
+  read_first Gave reading got given gots first source left known before gave e after comes =
+      let later = ComesTo reading (λ next. Reads Gave (length behind) reading gots next left) in
+      let here : Reads Gave (length behind) reading (got ∷ gots) count source =
+      (left, (subst (λ o. Gave source o left) (sym e) gave, subst later after comes))
+      in
+      subst (λ n. ReadBy Gave n reading first) (sym same_length)
+      (before (got ∷ gots) (subst (λ n. Reads Gave n reading (got ∷ gots) count source) same_length here))

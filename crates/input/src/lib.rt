@@ -1,21 +1,46 @@
-// Reading an input and printing what is answered to it, for the programs: all bytes of a reader, as far as a lent list
-// has room for them.
+// Reading an input, for the programs: all bytes of a reader, as far as a lent list has room for them.
 #![tactic(auto)]
 
-ghost use Rattle.std.specs.Prelude.{◌≡◌, ◌+◌, ◌≤◌, List, ℕ, length, IfSome};
-ghost use Rattle.input.specs.Reading.{read_after, Over, Filled, Prints};
+ghost use Rattle.std.specs.Prelude.{◌≡◌, ◌+◌, ◌≤◌, ℕ, Option, length, IfSome};
+ghost use Rattle.std.specs.Io.{ReadsAtMost};
+ghost use Rattle.std.specs.Io.KnownBytes.{ReadConsumes};
+ghost use Rattle.std.specs.Result.{result_ok};
+ghost use Rattle.input.specs.Reading.{read_after, Over, Filled, ReadBy};
 
-use std::io::{Print, Read, Stdout};
+use std::io::{Read, Result};
 use std::ops::ControlFlow;
 
+// A reader of which can be said what its reads gave.
+pub trait Source: Read {
+    // A read of the first gave so many bytes, or failed, and left the second. Code for every source has this of
+    // `read_once` alone.
+    ghost Gave: { Self → Option ℕ → Self → Type 0 };
+
+    // One read.
+    fn read_once(&mut self, list: &mut [u8]) -> Result<usize>
+        ensures bound { ReadsAtMost result list.new }
+        ensures bytes { ReadConsumes (Self.remaining self.old) (Self.remaining self.new) result list.new }
+        ensures gave { Gave self.old (result_ok result) self.new };
+}
+
+// To be read here, since no contract of the kit says which bytes a read gives, or where it fails: this is one read.
+impl<R: Read> Source for R {
+    ghost Gave = { λ _ _ _. Unit {0} };
+
+    fn read_once(&mut self, list: &mut [u8]) -> Result<usize> {
+        self.read(list)
+    }
+}
+
 // Reads until the list is full or the input ends, and answers how many bytes that is, or nothing where a read failed.
-pub fn read<R: Read + Drop>(mut source: R, input: &mut [u8]) -> Option<usize>
+pub fn read<R: Source + Drop>(mut source: R, input: &mut [u8]) -> Option<usize>
     ensures over { Over (length input.new) result }
     ensures filled { Filled (R.remaining source) result input.new }
+    ensures reads { ReadBy R.Gave (length input.new) result source }
 {
     let mut count: usize = 0;
     loop {
-        let got = source.read(&mut input[count..]).ok();
+        let got = source.read_once(&mut input[count..]).ok();
         match after(count, got, input.len())? {
             ControlFlow::Break(whole) => return Some(whole),
             ControlFlow::Continue(next) => count = next,
@@ -35,13 +60,4 @@ fn after(count: usize, got: Option<usize>, size: usize) -> Option<ControlFlow<us
         return Some(ControlFlow::Break(whole));
     }
     Some(ControlFlow::Continue(whole))
-}
-
-// The one place that prints. Input and reading are handed over so that the contract can say which lines these are: those
-// that a program prints of any input that begins with what was read.
-pub fn print(stdout: Stdout, lines: &[u8], input: &[u8], reading: Option<usize>)
-    ghost text: { List ℕ → List ℕ }
-    requires { Prints text reading input.now lines.now }
-{
-    let _written = stdout.write_all(lines);
 }

@@ -9,6 +9,7 @@ ghost use Rattle.input.specs.Reading.{Over, Prints};
 ghost use Rattle.judge.specs.Printed.{verdict_lines};
 
 use report::Text;
+use std::io::{Print, Stdout};
 
 // What is printed. The list has room for the limit and one byte more.
 fn answer(input: &[u8], reading: Option<usize>) -> Text
@@ -23,10 +24,19 @@ fn answer(input: &[u8], reading: Option<usize>) -> Text
     report::lines(reader::judge_input(&input[..count]))
 }
 
+// The one place that prints. Input and reading are handed over so that the contract can say which lines these are:
+// those of any input that begins with what was read. To be read here, since no contract can say it: they are written,
+// once.
+fn print(stdout: Stdout, lines: &[u8], input: &[u8], reading: Option<usize>)
+    requires { Prints verdict_lines reading input.now lines.now }
+{
+    let _written = stdout.write_all(lines);
+}
+
 // To be read here, since no contract can say it: the reading is what `read` answered, and it is printed once.
 fn main(rt: HostRuntime) {
     let mut input = [0u8; 65537];
     let reading = input::read(rt.stdin(), &mut input);
     let text = answer(&input, reading);
-    input::print(rt.stdout(), text.as_bytes(), &input, reading);
+    print(rt.stdout(), text.as_bytes(), &input, reading);
 }

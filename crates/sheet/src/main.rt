@@ -8,6 +8,8 @@ ghost use Rattle.transcript.specs.Judge.{input_limit};
 ghost use Rattle.sheet_text.specs.Sheet.{sheet_of, largest_sheet};
 ghost use Rattle.input.specs.Reading.{Over, Prints};
 
+use std::io::{Print, Stdout};
+
 // What is printed, at the front of the second list. The first list has room for the limit and one byte more, the second
 // for the largest sheet of any transcript.
 fn answer<'a>(input: &[u8], reading: Option<usize>, out: &'a mut [u8]) -> &'a [u8]
@@ -24,11 +26,20 @@ fn answer<'a>(input: &[u8], reading: Option<usize>, out: &'a mut [u8]) -> &'a [u
     &out[..length]
 }
 
+// The one place that prints. Input and reading are handed over so that the contract can say which lines these are:
+// those of any input that begins with what was read. To be read here, since no contract can say it: they are written,
+// once.
+fn print(stdout: Stdout, lines: &[u8], input: &[u8], reading: Option<usize>)
+    requires { Prints sheet_of reading input.now lines.now }
+{
+    let _written = stdout.write_all(lines);
+}
+
 // To be read here, since no contract can say it: the reading is what `read` answered, and it is printed once.
 fn main(rt: HostRuntime) {
     let mut input = [0u8; 65537];
     let reading = input::read(rt.stdin(), &mut input);
     let mut out = [0u8; 272384];
     let lines = answer(&input, reading, &mut out);
-    input::print(rt.stdout(), lines, &input, reading);
+    print(rt.stdout(), lines, &input, reading);
 }
