@@ -7,6 +7,7 @@ tests/calls.awk and tests/local_lists.awk:
     uses CALLER IMPL             for each impl whose methods the caller calls, or hands to a generic function that calls them: a closure
                                  is the impl of a trait of functions
     method IMPL FUNCTION         for each function that is a method of an impl
+    bound CALLER N METHOD        for each call by a bound of the caller: the numbers of bound and method, from 0
     unknown CALLER               for each call of something else, and each function that is named and not called
     local NAME ELEMENTS LIST     for each local of the function that is or holds a list; ? for one that is not known
 
@@ -32,8 +33,9 @@ def impls_in(dicts):
 
 
 def called_in(body):
-    """The functions that are called by their names, the impls used, and how many calls or names there are beside these."""
-    called, used, named = [], [], 0
+    """The functions that are called by their names, the impls used, the bounds with the number of the method that is
+    called by each, and how many calls or names there are beside these."""
+    called, used, by_bound, named = [], [], [], 0
     left = [body]
     while left:
         at = left.pop()
@@ -48,6 +50,8 @@ def called_in(body):
                         used.extend(impls_in(callee[1]["dicts"]))
                     elif word == "Method":
                         used.extend(impls_in([callee[0], *callee[2]["dicts"]]))
+                        if "Given" in callee[0]:
+                            by_bound.append((str(callee[0]["Given"]), str(callee[1])))
                     else:
                         named += 1
                     left.extend(reversed(value[1:]))
@@ -55,7 +59,7 @@ def called_in(body):
                     named += 1
                 else:
                     left.append(value)
-    return called, used, named
+    return called, used, by_bound, named
 
 
 def elements(kind, shapes, in_list=False, given=()):
@@ -135,11 +139,13 @@ def lent_in(body):
 
 def rows_of(name, function):
     yield "function", name
-    called, used, named = called_in(function["body"])
+    called, used, by_bound, named = called_in(function["body"])
     for other in called:
         yield "call", name, other
     for impl in used:
         yield "uses", name, impl
+    for bound in by_bound:
+        yield "bound", name, *bound
     method_of = function["generics"]["method_of"]
     if method_of and "Impl" in method_of:
         yield "method", method_of["Impl"][0], name
