@@ -218,7 +218,7 @@ uint64_t rz_transcript_length(size_t k, size_t rate, size_t step, size_t queries
  *   rz_store_length                      0     0     256
  *   rz_last_length                       0     0     256
  *   rz_transcript_length                 0     0     256
- *   rz_prove_answer             16,777,504   256  18,432
+ *   rz_prove_answer             16,777,504   256   6,144
  *   rz_layer_answer              8,388,576     5     512
  *   rz_judge_answer             16,779,552   266  10,496
  *   rz_write_transcript_answer  33,559,232    64   1,280
