@@ -128,10 +128,10 @@ fn there(root: &Path, name: &str) -> bool {
     name.starts_with("rust/target/") || names.iter().any(|name| root.join(name).exists())
 }
 
-/// Release notes and decisions may name what is gone.
+/// Release notes, decisions and looks back may name what is gone.
 fn tells_of_the_past(document: &Document) -> bool {
-    ["RELEASE_NOTES.md", "docs/DECISIONS.md", "docs/PORT.md", "docs/DESIGN-PASS.md"]
-        .contains(&&document.name[..])
+    let names = ["RELEASE_NOTES.md", "DECISIONS.md", "PORT.md", "DESIGN-PASS.md", "LOOK-BACK.md"];
+    names.contains(&document.name.trim_start_matches("docs/"))
 }
 
 /// Each name between backticks, as `Element::sum`, `Subspaces.zero` or `rz_fold`, is made of words
