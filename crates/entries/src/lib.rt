@@ -65,11 +65,12 @@ pub fn read(bytes: &[u8], at: usize, out: &mut [u64])
 }
 
 // So many entries, the first of which begins there.
+#[tactic(auto, using(short_list::proofs::Zeros::behind))]
 pub fn list<const N: usize>(bytes: &[u8], at: usize, count: usize) -> ShortList<N>
     requires { (count ≤ N) × (at + 8 * count ≤ 2 ^ 61) }
     ensures { result ≡ entries_at bytes.now at count }
 {
     let mut room = [0u64; N];
     read(bytes, at, &mut room[..count]);
-    ShortList::front(room, count)
+    ShortList::in_zeros(room, count)
 }

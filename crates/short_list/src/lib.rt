@@ -1,7 +1,7 @@
 // A list of at most N numbers, held in fixed memory.
 #![tactic(auto)]
 
-ghost use Rattle.std.specs.Prelude.{◌≡◌, ◌≤◌, length, take};
+ghost use Rattle.std.specs.Prelude.{◌≡◌, ◌≤◌, ◌-◌, length, take, drop, replicate};
 
 use std::marker::Model;
 
@@ -39,10 +39,20 @@ impl<const N: usize> ShortList<N> {
     {
         let entries = &mut room[..];
         entries[count..].fill(0);
+        ShortList::in_zeros(room, count)
+    }
+
+    // The same, where zeros follow already, so that nothing is cleared: a large room is not copied.
+    pub fn in_zeros(room: [u64; N], count: usize) -> ShortList<N>
+        requires few { count ≤ N }
+        requires zeros { drop count room ≡ replicate (N - count) 0 }
+        ensures { result ≡ take count room.entry }
+    {
         ShortList { room, count }
     }
 
     // A copy of a list.
+    #[tactic(auto, using(crate::proofs::Zeros::behind))]
     pub fn of(list: &[u64]) -> ShortList<N>
         requires { length list.now ≤ N }
         ensures { result ≡ list.now }
@@ -50,7 +60,7 @@ impl<const N: usize> ShortList<N> {
         let mut room = [0u64; N];
         let count = list.len();
         room[..count].copy_from_slice(list);
-        ShortList::front(room, count)
+        ShortList::in_zeros(room, count)
     }
 
     pub fn as_slice(&self) -> &[u64]
