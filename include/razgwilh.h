@@ -211,8 +211,8 @@ uint64_t rz_transcript_length(size_t k, size_t rate, size_t step, size_t queries
  *   rz_product                           0    16     512
  *   rz_inverse_answer                    0    16     768
  *   rz_invert_list               8,388,608    64   1,024
- *   rz_encode_answer            16,777,376    64   4,096
- *   rz_interpolate_answer       16,777,376    64   4,096
+ *   rz_encode_answer            16,777,376    64   4,352
+ *   rz_interpolate_answer       16,777,376    64   4,352
  *   rz_fold_answer              12,583,224    64   2,304
  *   rz_rounds                            0     0     256
  *   rz_store_length                      0     0     256

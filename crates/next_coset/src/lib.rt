@@ -55,6 +55,7 @@ pub fn fill_images(elements: &[u64], xs: &[u64], images: &mut [u64])
 }
 
 // The basis of the next coset.
+#[tactic(auto, using(short_list::proofs::Zeros::behind))]
 pub fn next_basis(basis: &[u64], step: usize) -> ShortList<20>
     requires { (step ≤ 3) × (step ≤ length basis.now) × (length basis.now ≤ 20) }
     ensures { result ≡ next_basis step basis.now }
@@ -62,5 +63,5 @@ pub fn next_basis(basis: &[u64], step: usize) -> ShortList<20>
     let elements = step_elements(basis, step);
     let mut next = [0u64; 20];
     fill_images(&elements[..step], &basis[step..], &mut next);
-    ShortList::front(next, basis.len() - step)
+    ShortList::in_zeros(next, basis.len() - step)
 }

@@ -25,7 +25,7 @@ returns c =
     let step = c.args.step in
     let basis = c.args.basis.now in
     let filled = c.fill_images.new.images in
-    c.front.ensures
+    c.in_zeros.ensures
     ∙ padded_taken 20 (length basis - step) (next_basis step basis) filled
     (next_padded 20 step basis c.step_elements-elements.result filled
     (all_elements basis (λ i. omega (arith, c.type_inv.basis i))) c.requires.1 c.step_elements-elements.ensures
