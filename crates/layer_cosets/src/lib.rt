@@ -10,12 +10,24 @@ ghost use Rattle.layer_cosets.specs.Cosets.{layer_coset_of};
 use field::Element;
 use points::Coset;
 use short_list::ShortList;
+use std::marker::Model;
 
 // Offset and basis.
 #[derive(Clone, Copy)]
 pub struct LayerCoset {
     pub offset: Element,
     pub basis: ShortList<20>,
+}
+
+// A clause sees the two, and they give the fields back: so a coset may be passed by value twice.
+impl Model for LayerCoset {
+    ghost use Rattle.layer_cosets.specs.OffsetAndBasis.{OffsetAndBasis};
+
+    ghost Value = { OffsetAndBasis };
+
+    ghost view = { λ coset. record { offset = coset.offset; basis = coset.basis } };
+
+    ghost inverse = { λ parts. record { offset = parts.offset; basis = parts.basis } };
 }
 
 impl LayerCoset {

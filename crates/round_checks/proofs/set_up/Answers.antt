@@ -45,7 +45,7 @@ over-requires c =
     let steps = steps_by p in
     let basis = c.args.basis.now in
     let elements = all_elements basis (λ i. omega (arith, c.type_inv.basis i)) in
-    let are = c.as_slice.ensures.list ∙ l.invariant.coset_is in (
+    let are = c.as_slice.ensures.list ∙ ap (λ (r : LayerCoset). r.basis) c.coset.view_is ∙ l.invariant.coset_is in (
       valid.step_most,
       step_fits p basis c.as_slice.result.now l.i valid c.requires.0 are (omega (arith, c.requires.2)),
       subst (λ (b : List ℕ). All (λ e. e ≢ 0) (step_elements p.step b)) (sym are)
@@ -75,7 +75,8 @@ loop-i-preserved c =
           (omega (arith, few_rounds p c.args.shape.valid, l.invariant.places)) l.invariant.held
           (c.over.ensures
           ∙ ap₂ (λ (b : List ℕ) (n : ℕ). round_over p.step b (get_or challenges l.i 0) n)
-          (c.as_slice.ensures.list ∙ l.invariant.coset_is) l.invariant.start_is);
+          (c.as_slice.ensures.list ∙ ap (λ (r : LayerCoset). r.basis) c.coset.view_is ∙ l.invariant.coset_is)
+          l.invariant.start_is);
       coset_is =
           coset_next p basis l.i l.coset c.next-coset.result within l.invariant.coset_is c.next-coset.ensures
           ∙ ap (layer_basis (steps_by p) basis) (sym (add-one l.i));
