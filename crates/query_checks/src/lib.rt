@@ -60,10 +60,13 @@ fn first_shared(step: usize, queries: &[u64]) -> Option<usize>
     None
 }
 
-// Whether one of the queries lies in that first-layer coset.
+// Whether one of the queries lies in that first-layer coset. All are compared, also behind one that does: a loop that
+// ends early took longer for each.
 fn visits(step: usize, queries: &[u64], coset: u64) -> bool
     requires { step ≤ 3 }
     ensures { result ≡ among (visited_cosets step queries.now) coset }
 {
-    queries.iter().any(|j| *j >> step == coset)
+    queries
+        .iter()
+        .fold(false, |seen, j| seen | (*j >> step == coset))
 }
