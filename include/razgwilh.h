@@ -24,10 +24,10 @@
 #include <stddef.h>
 #include <stdint.h>
 
-#define RZ_VERSION "0.9.4"
+#define RZ_VERSION "0.9.5"
 #define RZ_VERSION_MAJOR 0
 #define RZ_VERSION_MINOR 9
-#define RZ_VERSION_PATCH 4
+#define RZ_VERSION_PATCH 5
 
 #ifdef __cplusplus
 extern "C" {
