@@ -1,13 +1,14 @@
-// Reading an input, for the programs: all bytes of a reader, as far as a lent list has room for them.
+// Reading an input, for the programs: all bytes of a reader, as far as a lent list has room for them. And printing what
+// is answered to it, for other programs than `judge` and `sheet`, which have a `print` of their own.
 #![tactic(auto)]
 
-ghost use Rattle.std.specs.Prelude.{◌≡◌, ◌+◌, ◌≤◌, ℕ, Option, length, IfSome};
+ghost use Rattle.std.specs.Prelude.{◌≡◌, ◌+◌, ◌≤◌, List, ℕ, Option, length, IfSome};
 ghost use Rattle.std.specs.Io.{ReadsAtMost};
 ghost use Rattle.std.specs.Io.KnownBytes.{ReadConsumes};
 ghost use Rattle.std.specs.Result.{result_ok};
-ghost use Rattle.input.specs.Reading.{read_after, Over, Filled, ReadBy};
+ghost use Rattle.input.specs.Reading.{read_after, Over, Filled, ReadBy, Prints};
 
-use std::io::{Read, Result};
+use std::io::{Print, Read, Result, Stdout};
 use std::ops::ControlFlow;
 
 // A reader of which can be said what its reads gave.
@@ -60,4 +61,13 @@ fn after(count: usize, got: Option<usize>, size: usize) -> Option<ControlFlow<us
         return Some(ControlFlow::Break(whole));
     }
     Some(ControlFlow::Continue(whole))
+}
+
+// Prints lines that are the caller's text of any input that begins with what was read. Which text that is a proof file
+// of the caller's says, to be read there. To be read here, since no contract can say it: the lines are written, once.
+pub fn print(stdout: Stdout, lines: &[u8], input: &[u8], reading: Option<usize>)
+    ghost text: { List ℕ → List ℕ }
+    requires { Prints text reading input.now lines.now }
+{
+    let _written = stdout.write_all(lines);
 }
